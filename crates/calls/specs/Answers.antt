@@ -1,0 +1,23 @@
+-- The numbers and values of an answer, for every one of its cases.
+use Prim.Native.Nat.{ℕ}
+use mathlib.Core.Bool.{Bool, true, false}
+use mathlib.Core.List.{List, [], _∷_}
+use Rattle.rows.specs.Lists.{if_then_else_, nonzero}
+use Rattle.calls.specs.declared.Answer.{Answer}
+use Rattle.calls.specs.declared.Answer.the-variants.{Done, Made, Fetched, Told, Refused}
+
+-- the refusal's number, 0 for an accepted call
+unfoldable pub refusalOf : Answer → ℕ
+refusalOf Done = 0
+refusalOf (Made n) = 0
+refusalOf (Fetched v a b c d) = 0
+refusalOf (Told t) = 0
+refusalOf (Refused k) = k
+
+-- "`(ok n)`, n the new number or 0; fetch gives the request's number and then those of the items still listed, in the order asked; comes gives `(ok 1)` or `(ok 0)`"
+unfoldable pub valuesOf : Answer → List ℕ
+valuesOf Done = 0 ∷ []
+valuesOf (Made n) = n ∷ []
+valuesOf (Fetched v a b c d) = v ∷ nonzero (a ∷ b ∷ c ∷ d ∷ [])
+valuesOf (Told t) = (if t then 1 else 0) ∷ []
+valuesOf (Refused k) = []

@@ -1,0 +1,84 @@
+-- ask: the request, the copies made and the ends moved; fetch: the privileges handed over.
+use Prim.Native.Nat.{ℕ, suc, _+_}
+use mathlib.Core.Bool.{Bool, true, false, not, _&&_, _||_}
+use mathlib.Core.List.{List, [], _∷_, _++_, map}
+use lib.Dec.{leb, ltb, eqb}
+use lib.ListN.{length}
+use Rattle.rows.specs.declared.Row.{Row}
+use Rattle.rows.specs.declared.Request.{Request}
+use Rattle.rows.specs.Lists.{if_then_else_, filter, member, some, pad}
+use Rattle.rows.specs.Limits.{mostItems}
+use Rattle.rows.specs.Codes.{isEnd, inClist, withSystem}
+use Rattle.rows.specs.Tables.{State, rowOf, depthOver, lists}
+use Rattle.closing.specs.Closing.{placedIn}
+use Rattle.calls.specs.declared.Item.{Item}
+use Rattle.calls.specs.declared.Items.{Items}
+use Rattle.calls.specs.Rules.{copyOf}
+
+-- the items named, in order
+unfoldable pub itemsOf : Items → List Item
+itemsOf is = filter (λ i. some (i .row)) (is .first ∷ is .second ∷ is .third ∷ is .fourth ∷ [])
+
+unfoldable pub itemRow : State → Item → Row
+itemRow st i = rowOf (st .rows) (i .row)
+
+-- "Operations and subdirectories are copied; ends move."
+unfoldable pub moves : State → Item → Bool
+moves st i = isEnd (itemRow st i .kind)
+
+unfoldable pub copies : State → List Item → List Item
+copies st is = filter (λ i. not (moves st i)) is
+
+-- "A lent copy comes from the lender's row and from the port it was lent over, counted as its client end."
+unfoldable pub copyDepth : State → ℕ → Item → ℕ
+copyDepth st c i = depthOver (st .rows) (i .row) c
+
+-- "It also bears its request's number.": the copy numbered n, for request v over port c
+unfoldable pub copyLent : State → ℕ → ℕ → ℕ → Item → Row
+copyLent st c v n i = copyOf (itemRow st i) n (i .rights) withSystem (i .row) c (copyDepth st c i) v
+
+-- the rows, the list and the next number as the items are lent one after the other
+pub record Lending : Type 0 where
+  pub rows : List Row
+  pub items : List ℕ
+  pub next : ℕ
+
+-- "All lie with the system until fetched."
+unfoldable pub toSystem : ℕ → Row → Row
+toSystem e r = if eqb (r .number) e then placedIn withSystem r else r
+
+unfoldable pub lendEnd : Item → Lending → Lending
+lendEnd i l = record { rows = map (toSystem (i .row)) (l .rows); items = l .items ++ (i .row ∷ []); next = l .next }
+
+unfoldable pub lendCopy : State → ℕ → ℕ → Item → Lending → Lending
+lendCopy st c v i l = record { rows = copyLent st c v (l .next) i ∷ l .rows; items = l .items ++ (l .next ∷ []); next = suc (l .next) }
+
+unfoldable pub lendItem : State → ℕ → ℕ → Item → Lending → Lending
+lendItem st c v i l = if moves st i then lendEnd i l else lendCopy st c v i l
+
+unfoldable pub lendItems : State → ℕ → ℕ → List Item → Lending → Lending
+lendItems st c v [] l = l
+lendItems st c v (i ∷ is) l = lendItems st c v is (lendItem st c v i l)
+
+-- "Takes the request's number, then one for each copy in order."
+unfoldable pub lent : State → ℕ → List Item → Lending
+lent st c is = lendItems st c (st .next) is (record { rows = st .rows; items = []; next = suc (st .next) })
+
+unfoldable pub newRequest : ℕ → ℕ → ℕ → List ℕ → Request
+newRequest v c p is = record { number = v; port = c; asker = p; fetched = 0; items = pad 0 mostItems is }
+
+unfoldable pub withRequest : State → ℕ → ℕ → List Item → State
+withRequest st p c is =
+    let l = lent st c is in
+    record { rows = l .rows; requests = newRequest (st .next) c p (l .items) ∷ st .requests; processes = st .processes; next = l .next }
+
+-- "GETDETAILS; the privileges come to the caller."
+unfoldable pub handedTo : ℕ → Request → Row → Row
+handedTo p v r = if lists (r .number) v then placedIn (inClist p) r else r
+
+unfoldable pub nowFetched : ℕ → Request → Request
+nowFetched q v = if eqb (v .number) q then record { number = v .number; port = v .port; asker = v .asker; fetched = 1; items = v .items } else v
+
+unfoldable pub withFetched : ℕ → Request → State → State
+withFetched p v st =
+    record { rows = map (handedTo p v) (st .rows); requests = map (nowFetched (v .number)) (st .requests); processes = st .processes; next = st .next }

@@ -1,0 +1,41 @@
+// A call and its answer, as code and definitions share them.
+
+// An item of an ask: a row and the rights lent. Row 0: no item.
+pub struct Item {
+    pub row: u32,
+    pub rights: u32,
+}
+
+// The items of an ask, those named first, then no items.
+pub struct Items {
+    pub first: Item,
+    pub second: Item,
+    pub third: Item,
+    pub fourth: Item,
+}
+
+// A call: the caller's number, then the call's; comes has no caller.
+pub enum Call {
+    Go(u32, u32),
+    Hold(u32, u32),
+    Register(u32, u32),
+    Drop(u32, u32),
+    Port(u32, u32),
+    Close(u32, u32),
+    Ask(u32, u32, Items),
+    Fetch(u32, u32),
+    Reply(u32, u32),
+    Refuse(u32, u32),
+    Revoke(u32, u32),
+    Comes(u32, u32),
+}
+
+// What a call answers. The numbers and values of each case: specs/Answers.antt.
+pub enum Answer {
+    Done,
+    Made(u32),
+    // the request, and its four items, 0 for one that is not listed
+    Fetched(u32, u32, u32, u32, u32),
+    Told(bool),
+    Refused(u32),
+}

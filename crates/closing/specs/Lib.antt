@@ -1,0 +1,4 @@
+-- Definitions of closing: in one pass, and step by step as document 01 has it.
+pub mod Closing
+pub mod Steps
+pub mod Computes

@@ -1,0 +1,50 @@
+-- Closing step by step, "until nothing more is removed", as document 01 states it; proofs/Steps shows that the one pass is this on sound tables.
+use Prim.Native.Nat.{ℕ, zero, suc}
+use mathlib.Core.Bool.{Bool, true, false, not, _&&_, _||_}
+use mathlib.Core.List.{List, [], _∷_, map}
+use lib.ListN.{length}
+use Rattle.rows.specs.declared.Row.{Row}
+use Rattle.rows.specs.declared.Request.{Request}
+use Rattle.rows.specs.Lists.{filter, any, member, some}
+use Rattle.rows.specs.Tables.{State, marked, bears}
+use Rattle.closing.specs.Closing.{closes, isEndOf, settled}
+
+-- rows removed and requests closed so far
+pub record Gone : Type 0 where
+  pub removed : List ℕ
+  pub closed : List ℕ
+
+-- the row comes from one of the closed requests, or is itself removed
+unfoldable pub falls : Gone → Row → Bool
+falls g r = member (r .number) (g .removed) || (some (r .request) && member (r .request) (g .closed))
+
+-- 1. "Every row that comes from it is removed."
+unfoldable pub removeRows : List Row → Gone → Gone
+removeRows rs g = record { removed = marked (falls g) rs; closed = g .closed }
+
+-- 2. "A port whose ends are removed is destroyed, and the request open on it is closed the same way"
+unfoldable pub closeRequests : List Request → Gone → Gone
+closeRequests vs g = record { removed = g .removed; closed = map (λ v. v .number) (filter (closes (g .closed) (g .removed)) vs) }
+
+unfoldable pub round : State → Gone → Gone
+round st g = removeRows (st .rows) (closeRequests (st .requests) g)
+
+-- "until nothing more is removed": each round but the last closes one request at least
+unfoldable pub rounds : ℕ → State → Gone → Gone
+rounds zero st g = g
+rounds (suc k) st g = rounds k st (round st g)
+
+unfoldable pub untilNoMore : State → Gone → Gone
+untilNoMore st g = rounds (suc (length (st .requests))) st g
+
+-- 3 and 4 follow from what is removed and closed
+unfoldable pub closingBySteps : Gone → State → State
+closingBySteps start st =
+    let g = untilNoMore st (removeRows (st .rows) start) in
+    settled (g .removed) (λ v. member (v .number) (g .closed)) st
+
+unfoldable pub closeRequestBySteps : ℕ → State → State
+closeRequestBySteps q st = closingBySteps (record { removed = []; closed = q ∷ [] }) st
+
+unfoldable pub closePortBySteps : ℕ → State → State
+closePortBySteps c st = closingBySteps (record { removed = map (λ r. r .number) (filter (isEndOf c) (st .rows)); closed = [] }) st

@@ -1,0 +1,1 @@
+// Closing of a request and of a port: the definitions stand in specs/Closing.antt.

@@ -1,0 +1,167 @@
+-- How a state lies in the two lent runs of words, and how it is read back.
+use Prim.Native.Nat.{ℕ, zero, suc, _+_, _*_, _-_}
+use mathlib.Core.Bool.{Bool, true, false, not, _&&_, _||_}
+use mathlib.Core.List.{List, [], _∷_, _++_}
+use lib.Dec.{leb, ltb, eqb}
+use lib.ListN.{length, getD, take, drop, replicate}
+use Rattle.rows.specs.declared.Row.{Row}
+use Rattle.rows.specs.declared.Request.{Request}
+use Rattle.rows.specs.declared.Process.{Process}
+use Rattle.rows.specs.Lists.{if_then_else_, pad, laid, sameList, some}
+use Rattle.rows.specs.Limits.{processes, rowSlots, requestSlots}
+use Rattle.rows.specs.Tables.{State, empty}
+use Rattle.rows.specs.Sound.{sound}
+
+-- ---- sizes: ten columns of 1,024 words, eight of 128, the next number; 64 records of three words
+unfoldable pub rowColumns : ℕ
+rowColumns = 10
+
+unfoldable pub requestColumns : ℕ
+requestColumns = 8
+
+-- the start of the requests' columns, and of the next number
+unfoldable pub requestsAt : ℕ
+requestsAt = rowColumns * rowSlots
+
+unfoldable pub nextAt : ℕ
+nextAt = requestsAt + requestColumns * requestSlots
+
+unfoldable pub tablesLength : ℕ
+tablesLength = suc nextAt
+
+unfoldable pub processesLength : ℕ
+processesLength = 3 * processes
+
+-- ---- state to words
+-- the slot, plus 1, of the row numbered n; 0 for none
+unfoldable pub slotOf : List Row → ℕ → ℕ
+slotOf [] n = 0
+slotOf (r ∷ rs) n = if eqb (r .number) n then suc (length rs) else slotOf rs n
+
+-- a source as its slot plus 1; none is 0
+unfoldable pub sourceSlot : List Row → ℕ → ℕ
+sourceSlot rs n = if some n then slotOf rs n else 0
+
+-- the word of row r in column c, rs the older rows
+unfoldable pub rowWord : ℕ → Row → List Row → ℕ
+rowWord zero r rs = r .number
+rowWord (suc zero) r rs = r .kind
+rowWord (suc (suc zero)) r rs = r .object
+rowWord (suc (suc (suc zero))) r rs = r .operation
+rowWord (suc (suc (suc (suc zero)))) r rs = r .rights
+rowWord (suc (suc (suc (suc (suc zero))))) r rs = r .place
+rowWord (suc (suc (suc (suc (suc (suc zero)))))) r rs = sourceSlot rs (r .source)
+rowWord (suc (suc (suc (suc (suc (suc (suc zero))))))) r rs = sourceSlot rs (r .via)
+rowWord (suc (suc (suc (suc (suc (suc (suc (suc zero)))))))) r rs = r .depth
+rowWord (suc (suc (suc (suc (suc (suc (suc (suc (suc c))))))))) r rs = r .request
+
+unfoldable pub requestWord : ℕ → Request → List Request → ℕ
+requestWord zero v vs = v .number
+requestWord (suc zero) v vs = v .port
+requestWord (suc (suc zero)) v vs = v .asker
+requestWord (suc (suc (suc zero))) v vs = v .fetched
+requestWord (suc (suc (suc (suc i)))) v vs = getD (v .items) i 0
+
+unfoldable pub rowWords : ℕ → List Row → List ℕ
+rowWords zero rs = []
+rowWords (suc c) rs = rowWords c rs ++ pad 0 rowSlots (laid (rowWord c) rs)
+
+unfoldable pub requestWords : ℕ → List Request → List ℕ
+requestWords zero vs = []
+requestWords (suc c) vs = requestWords c vs ++ pad 0 requestSlots (laid (requestWord c) vs)
+
+unfoldable pub wordsOf : State → List ℕ
+wordsOf st = rowWords rowColumns (st .rows) ++ (requestWords requestColumns (st .requests) ++ (st .next ∷ []))
+
+unfoldable pub recordsOf : List Process → List ℕ
+recordsOf [] = []
+recordsOf (x ∷ xs) = x .prime ∷ x .active ∷ x .through ∷ recordsOf xs
+
+-- ---- words to state
+-- the slots in use: those before the first whose number is 0
+unfoldable pub leading : List ℕ → ℕ
+leading [] = 0
+leading (w ∷ ws) = if some w then suc (leading ws) else 0
+
+-- the word of a row column, of a request column
+unfoldable pub rowField : List ℕ → ℕ → ℕ → ℕ
+rowField t c i = getD t (c * rowSlots + i) 0
+
+unfoldable pub requestField : List ℕ → ℕ → ℕ → ℕ
+requestField t c i = getD t (requestsAt + (c * requestSlots + i)) 0
+
+unfoldable pub rowsIn : List ℕ → ℕ
+rowsIn t = leading (take rowSlots t)
+
+unfoldable pub requestsIn : List ℕ → ℕ
+requestsIn t = leading (take requestSlots (drop requestsAt t))
+
+-- the number of the row at a slot plus 1, of the n slots in use; 0 for none
+unfoldable pub numberAt : List ℕ → ℕ → ℕ → ℕ
+numberAt t n zero = 0
+numberAt t n (suc i) = if ltb i n then rowField t 0 i else 0
+
+unfoldable pub rowAt : List ℕ → ℕ → ℕ → Row
+rowAt t n i =
+    record {
+      number = rowField t 0 i;
+      kind = rowField t 1 i;
+      object = rowField t 2 i;
+      operation = rowField t 3 i;
+      rights = rowField t 4 i;
+      place = rowField t 5 i;
+      source = numberAt t n (rowField t 6 i);
+      via = numberAt t n (rowField t 7 i);
+      depth = rowField t 8 i;
+      request = rowField t 9 i;
+    }
+
+-- the rows of the first i slots, newest first
+unfoldable pub rowsTo : List ℕ → ℕ → ℕ → List Row
+rowsTo t n zero = []
+rowsTo t n (suc i) = rowAt t n i ∷ rowsTo t n i
+
+unfoldable pub requestAt : List ℕ → ℕ → Request
+requestAt t i =
+    record {
+      number = requestField t 0 i;
+      port = requestField t 1 i;
+      asker = requestField t 2 i;
+      fetched = requestField t 3 i;
+      items = requestField t 4 i ∷ requestField t 5 i ∷ requestField t 6 i ∷ requestField t 7 i ∷ [];
+    }
+
+unfoldable pub requestsTo : List ℕ → ℕ → List Request
+requestsTo t zero = []
+requestsTo t (suc i) = requestAt t i ∷ requestsTo t i
+
+unfoldable pub recordsIn : List ℕ → List Process
+recordsIn [] = []
+recordsIn (a ∷ []) = []
+recordsIn (a ∷ b ∷ []) = []
+recordsIn (a ∷ b ∷ c ∷ ws) = record { prime = a; active = b; through = c } ∷ recordsIn ws
+
+unfoldable pub stateOf : List ℕ → List ℕ → State
+stateOf t p =
+    record {
+      rows = rowsTo t (rowsIn t) (rowsIn t);
+      requests = requestsTo t (requestsIn t);
+      processes = recordsIn p;
+      next = getD t nextAt 0;
+    }
+
+-- ---- sound tables as words
+unfoldable pub rightLengths : List ℕ → List ℕ → Bool
+rightLengths t p = eqb (length t) tablesLength && eqb (length p) processesLength
+
+-- of the right length, every unused word 0 and every source word the slot of its row (so that the state lies in them), and sound
+unfoldable pub soundWords : List ℕ → List ℕ → Bool
+soundWords t p = rightLengths t p && (sameList (wordsOf (stateOf t p)) t && sound (stateOf t p))
+
+-- ---- "leaves tables with nothing in them and next number 1"
+-- a run of another length: every word 0 ("an opening answers it `(no 1 0)` and clears what was lent")
+unfoldable pub clearedTables : List ℕ → List ℕ
+clearedTables t = if eqb (length t) tablesLength then wordsOf empty else replicate (length t) 0
+
+unfoldable pub clearedProcesses : List ℕ → List ℕ
+clearedProcesses p = replicate (length p) 0

@@ -1,0 +1,101 @@
+-- The tables: rows, requests, process records, the next number; look-up; comes from, on loan, lent.
+use Prim.Native.Nat.{ℕ, zero, suc, _-_, max}
+use mathlib.Core.Bool.{Bool, true, false, not, _&&_, _||_}
+use mathlib.Core.List.{List, [], _∷_, map}
+use lib.Dec.{leb, ltb, eqb}
+use lib.ListN.{length, getD, replicate}
+use Rattle.rows.specs.declared.Row.{Row}
+use Rattle.rows.specs.declared.Request.{Request}
+use Rattle.rows.specs.declared.Process.{Process}
+use Rattle.rows.specs.Lists.{if_then_else_, filter, any, member, some, nonzero}
+use Rattle.rows.specs.Limits.{processes}
+use Rattle.rows.specs.Codes.{isEnd}
+
+-- Rows and requests newest first; the record of process p is element p - 1.
+pub record State : Type 0 where
+  pub rows : List Row
+  pub requests : List Request
+  pub processes : List Process
+  pub next : ℕ
+
+-- what a look-up gives where nothing is: number 0
+unfoldable pub noRow : Row
+noRow = record { number = 0; kind = 0; object = 0; operation = 0; rights = 0; place = 0; source = 0; via = 0; depth = 0; request = 0 }
+
+unfoldable pub noRequest : Request
+noRequest = record { number = 0; port = 0; asker = 0; fetched = 0; items = [] }
+
+unfoldable pub noProcess : Process
+noProcess = record { prime = 0; active = 0; through = 0 }
+
+-- "tables with nothing in them and next number 1"
+unfoldable pub empty : State
+empty = record { rows = []; requests = []; processes = replicate processes noProcess; next = 1 }
+
+-- ---- look-up
+unfoldable pub rowOf : List Row → ℕ → Row
+rowOf [] n = noRow
+rowOf (r ∷ rs) n = if eqb (r .number) n then r else rowOf rs n
+
+unfoldable pub requestOf : List Request → ℕ → Request
+requestOf [] n = noRequest
+requestOf (v ∷ vs) n = if eqb (v .number) n then v else requestOf vs n
+
+-- the request open on a port, the port counted as its client end
+unfoldable pub openOn : List Request → ℕ → Request
+openOn [] c = noRequest
+openOn (v ∷ vs) c = if eqb (v .port) c then v else openOn vs c
+
+unfoldable pub processAt : List Process → ℕ → Process
+processAt ps zero = noProcess
+processAt ps (suc i) = getD ps i noProcess
+
+-- "a process is listed if its prime node is not 0" (open point 30)
+unfoldable pub isListed : List Process → ℕ → Bool
+isListed ps p = some (processAt ps p .prime)
+
+unfoldable pub numbers : List Row → List ℕ
+numbers rs = map (λ r. r .number) rs
+
+-- ---- sources
+unfoldable pub sources : Row → List ℕ
+sources r = nonzero (r .source ∷ r .via ∷ [])
+
+-- "Depth is 1 plus the greatest depth among the sources"
+unfoldable pub depthOver : List Row → ℕ → ℕ → ℕ
+depthOver rs s v = suc (max (rowOf rs s .depth) (rowOf rs v .depth))
+
+-- row e passes the test, or one of its sources, which are older rows, does so
+unfoldable pub reaches : (Row → Bool) → List Row → ℕ → Bool
+reaches f [] e = false
+reaches f (r ∷ rs) e = elim (eqb (r .number) e) [ true ↦ f r || any (λ s. reaches f rs s) (sources r) | false ↦ reaches f rs e ]
+
+-- the same for all rows in one pass from the oldest: the numbers of those rows, newest first
+unfoldable pub mark : Bool → ℕ → List ℕ → List ℕ
+mark b n ns = if b then n ∷ ns else ns
+
+unfoldable pub marked : (Row → Bool) → List Row → List ℕ
+marked f [] = []
+marked f (r ∷ rs) = let m = marked f rs in mark (f r || any (λ s. member s m) (sources r)) (r .number) m
+
+unfoldable pub bears : ℕ → Row → Bool
+bears q r = eqb (r .request) q
+
+-- "A row *comes from* a request if it bears the request's number or one of its sources comes from it."
+unfoldable pub comesFrom : List Row → ℕ → ℕ → Bool
+comesFrom rs q e = reaches (bears q) rs e
+
+-- ---- loans
+unfoldable pub lists : ℕ → Request → Bool
+lists e v = some e && member e (v .items)
+
+-- "An end is *on loan* if an open request lists it."
+unfoldable pub onLoan : List Request → ℕ → Bool
+onLoan vs e = any (lists e) vs
+
+-- "A row is *lent* if it is on loan, bears a request's number, or has a lent source."
+unfoldable pub lentItself : List Request → Row → Bool
+lentItself vs r = (isEnd (r .kind) && onLoan vs (r .number)) || some (r .request)
+
+unfoldable pub isLent : State → ℕ → Bool
+isLent st e = reaches (lentItself (st .requests)) (st .rows) e

@@ -1,0 +1,65 @@
+-- The two entry points on the lent words: any words, any bytes in; the reply and every word out.
+use Prim.Native.Nat.{ℕ}
+use mathlib.Core.Bool.{Bool, true, false, not, _&&_, _||_}
+use mathlib.Core.List.{List, [], _∷_}
+use Rattle.rows.specs.Lists.{if_then_else_, some}
+use Rattle.rows.specs.Tables.{State, isListed, empty}
+use Rattle.rows.specs.Layout.{wordsOf, recordsOf, stateOf, rightLengths, soundWords, clearedTables, clearedProcesses}
+use Rattle.calls.specs.declared.Call.{Call}
+use Rattle.calls.specs.declared.Answer.{Answer}
+use Rattle.calls.specs.declared.Answer.the-variants.{Refused}
+use Rattle.calls.specs.Rules.{Out, refusedIf}
+use Rattle.calls.specs.Calls.{callerOf, perform}
+use Rattle.text.specs.declared.Reading.{Reading}
+use Rattle.text.specs.declared.Reading.the-variants.{Asks, Crowded, Refused as BadLine}
+use Rattle.text.specs.CallLines.{readingOf}
+use Rattle.text.specs.Opening.{Form, Opening, opens, refusedAt, linesOf, openingOf, openedFrom}
+use Rattle.text.specs.Answers.{okText, noText, printed}
+
+-- ---- a call on a state
+-- 5: "a process .. not listed": the caller (open point 9); comes has none
+unfoldable pub callerUnlisted : State → Call → Bool
+callerUnlisted st c = let p = callerOf c in some p && not (isListed (st .processes) p)
+
+unfoldable pub refused : State → ℕ → Out
+refused st k = record { answer = Refused k; after = st }
+
+-- 5 comes before 6, and both before the refusals of the state
+unfoldable pub answered : State → Reading → Out
+answered st (BadLine k) = refused st k
+answered st (Crowded p) = refusedIf st (not (isListed (st .processes) p)) 5 (refused st 6)
+answered st (Asks c) = refusedIf st (callerUnlisted st c) 5 (perform st c)
+
+unfoldable pub callOn : State → List ℕ → Out
+callOn st line = answered st (readingOf line)
+
+-- ---- on words
+pub record Replied : Type 0 where
+  pub reply : List ℕ
+  pub tables : List ℕ
+  pub processes : List ℕ
+
+unfoldable pub replyWith : List ℕ → State → Replied
+replyWith text st = record { reply = text; tables = wordsOf st; processes = recordsOf (st .processes) }
+
+unfoldable pub replyOf : Out → Replied
+replyOf o = replyWith (printed (o .answer)) (o .after)
+
+-- 1 "tables not sound" comes before all that the line has; "Answer `(no k)`, tables untouched"
+unfoldable pub callEntry : List ℕ → List ℕ → List ℕ → Replied
+callEntry t p line =
+    if soundWords t p then replyOf (callOn (stateOf t p) line)
+    else record { reply = noText (1 ∷ []); tables = t; processes = p }
+
+unfoldable pub stateOpened : List Form → State
+stateOpened fs = openedFrom empty fs
+
+unfoldable pub openedBy : Opening → Replied
+openedBy (opens fs rest) = replyWith (okText (0 ∷ [])) (stateOpened fs)
+openedBy (refusedAt k n) = replyWith (noText (k ∷ n ∷ [])) empty
+
+-- "A lent run of another length .. an opening answers it `(no 1 0)` and clears what was lent."
+unfoldable pub openEntry : List ℕ → List ℕ → List ℕ → Replied
+openEntry t p text =
+    if rightLengths t p then openedBy (openingOf (linesOf text))
+    else record { reply = noText (1 ∷ 0 ∷ []); tables = clearedTables t; processes = clearedProcesses p }

@@ -1,0 +1,8 @@
+-- Definitions of the text side: patterns, call lines, the opening text, answers, the two entry points, a session.
+pub mod Patterns
+pub mod CallLines
+pub mod Opening
+pub mod Answers
+pub mod Entry
+pub mod Session
+pub mod Computes

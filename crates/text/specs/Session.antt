@@ -1,0 +1,22 @@
+-- A whole session: the bytes of standard input to the bytes that `tablet` prints.
+use Prim.Native.Nat.{ℕ}
+use mathlib.Core.List.{List, [], _∷_, _++_}
+use Rattle.rows.specs.Tables.{State}
+use Rattle.calls.specs.Rules.{Out}
+use Rattle.text.specs.Opening.{Opening, opens, refusedAt, linesOf, openingOf}
+use Rattle.text.specs.Answers.{okText, noText, printed}
+use Rattle.text.specs.Entry.{callOn, stateOpened}
+
+-- an answer a line
+unfoldable pub answers : State → List (List ℕ) → List ℕ
+answers st [] = []
+answers st (l ∷ ls) = let o = callOn st l in printed (o .answer) ++ answers (o .after) ls
+
+-- "After a refused opening it reads no more."
+unfoldable pub sessionOf : Opening → List ℕ
+sessionOf (refusedAt k n) = noText (k ∷ n ∷ [])
+sessionOf (opens fs rest) = okText (0 ∷ []) ++ answers (stateOpened fs) rest
+
+-- "The program `tablet` reads standard input and prints one line for the opening, then one a call"
+unfoldable pub session : List ℕ → List ℕ
+session input = sessionOf (openingOf (linesOf input))
