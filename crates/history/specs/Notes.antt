@@ -1,0 +1,195 @@
+-- The history: what each accepted call notes. It is fed text, lines and answers, and reads no table.
+use Prim.Native.Nat.{ℕ, zero, suc, pred}
+use mathlib.Core.Bool.{Bool, true, false, not, _&&_, _||_}
+use mathlib.Core.List.{List, [], _∷_, _++_, map}
+use lib.Dec.{leb, ltb, eqb}
+use Rattle.rows.specs.Lists.{if_then_else_, filter, any, all, member, some}
+use Rattle.calls.specs.declared.Item.{Item}
+
+-- a row noted: its sources, the request that it bears and the port that it is an end of, 0 for none
+pub record Noted : Type 0 where
+  pub number : ℕ
+  pub sources : List ℕ
+  pub request : ℕ
+  pub port : ℕ
+
+-- "request v, lender p, port c, the ends named"
+pub record Loan : Type 0 where
+  pub number : ℕ
+  pub lender : ℕ
+  pub port : ℕ
+  pub ends : List ℕ
+
+-- "Each process's last accepted `go` is kept."
+pub record Went : Type 0 where
+  pub process : ℕ
+  pub through : ℕ
+
+-- a request has an end on loan
+pub record OnLoan : Type 0 where
+  pub request : ℕ
+  pub lent : ℕ
+
+-- All newest first. `text`: the rows of the text. `dropped`, `closedPorts`, `closedRequests`: by a call.
+pub record History : Type 0 where
+  pub text : List ℕ
+  pub rows : List Noted
+  pub requests : List Loan
+  pub dropped : List ℕ
+  pub closedPorts : List ℕ
+  pub closedRequests : List ℕ
+  pub went : List Went
+  pub loans : List OnLoan
+
+-- ---- look-up
+unfoldable pub noted : List Noted → List ℕ
+noted rs = map (λ r. r .number) rs
+
+unfoldable pub nothingNoted : Noted
+nothingNoted = record { number = 0; sources = []; request = 0; port = 0 }
+
+unfoldable pub notedOf : List Noted → ℕ → Noted
+notedOf [] n = nothingNoted
+notedOf (r ∷ rs) n = if eqb (r .number) n then r else notedOf rs n
+
+unfoldable pub noLoan : Loan
+noLoan = record { number = 0; lender = 0; port = 0; ends = [] }
+
+unfoldable pub loanOf : List Loan → ℕ → Loan
+loanOf [] q = noLoan
+loanOf (v ∷ vs) q = if eqb (v .number) q then v else loanOf vs q
+
+-- ---- which rows stand and which requests are closed, computed for the notes; Chains.antt has what these words mean
+-- dropped, or bears a request or is an end of a port closed by a call
+unfoldable pub spoiled : History → Noted → Bool
+spoiled h r =
+    member (r .number) (h .dropped)
+    || ((some (r .request) && member (r .request) (h .closedRequests)) || (some (r .port) && member (r .port) (h .closedPorts)))
+
+unfoldable pub survives : (Noted → Bool) → List ℕ → Noted → Bool
+survives f left r = not (f r) && all (λ s. member s left) (r .sources)
+
+-- from the oldest row on: those of which f does not hold and whose sources are left
+unfoldable pub sweep : (Noted → Bool) → List Noted → List Noted
+sweep f [] = []
+sweep f (r ∷ rs) = let left = sweep f rs in if survives f (noted left) r then r ∷ left else left
+
+unfoldable pub standing : History → List Noted
+standing h = sweep (spoiled h) (h .rows)
+
+unfoldable pub stands : History → ℕ → Bool
+stands h n = member n (noted (standing h))
+
+-- closed by a call, or its port is closed: its client end stands no longer
+unfoldable pub isClosed : History → Loan → Bool
+isClosed h v = member (v .number) (h .closedRequests) || not (stands h (v .port))
+
+unfoldable pub openLoans : History → List Loan
+openLoans h = filter (λ v. not (isClosed h v)) (h .requests)
+
+-- the first of these requests that is on a port, 0 for none
+unfoldable pub requestOn : List Loan → ℕ → ℕ
+requestOn [] c = 0
+requestOn (v ∷ vs) c = if eqb (v .port) c then v .number else requestOn vs c
+
+-- the request open on a port
+unfoldable pub openRequest : History → ℕ → ℕ
+openRequest h c = requestOn (openLoans h) c
+
+-- ---- "A request has an end it names on loan until that end stands no longer, or until it, or an older one with that end on loan, closes."
+unfoldable pub isClosedNow : History → OnLoan → Bool
+isClosedNow h o = isClosed h (loanOf (h .requests) (o .request))
+
+-- older: the older requests that had ends on loan
+unfoldable pub staysOnLoan : History → List OnLoan → OnLoan → Bool
+staysOnLoan h older o =
+    stands h (o .lent) && (not (isClosedNow h o) && not (any (λ x. eqb (x .lent) (o .lent) && isClosedNow h x) older))
+
+unfoldable pub loansLeft : History → List OnLoan → List OnLoan
+loansLeft h [] = []
+loansLeft h (o ∷ older) = if staysOnLoan h older o then o ∷ loansLeft h older else loansLeft h older
+
+unfoldable pub withLoans : History → List OnLoan → History
+withLoans h os =
+    record { text = h .text; rows = h .rows; requests = h .requests; dropped = h .dropped; closedPorts = h .closedPorts; closedRequests = h .closedRequests; went = h .went; loans = os }
+
+-- ends whose loan is over go from the list
+unfoldable pub settled : History → History
+settled h = withLoans h (loansLeft h (h .loans))
+
+-- ---- notes
+unfoldable pub addRow : ℕ → List ℕ → ℕ → ℕ → History → History
+addRow n ss q c h =
+    record { text = h .text; rows = record { number = n; sources = ss; request = q; port = c } ∷ h .rows; requests = h .requests; dropped = h .dropped; closedPorts = h .closedPorts; closedRequests = h .closedRequests; went = h .went; loans = h .loans }
+
+unfoldable pub lastGo : List Went → ℕ → ℕ
+lastGo [] p = 0
+lastGo (w ∷ ws) p = if eqb (w .process) p then w .through else lastGo ws p
+
+unfoldable pub noteGo : ℕ → ℕ → History → History
+noteGo p e h =
+    record { text = h .text; rows = h .rows; requests = h .requests; dropped = h .dropped; closedPorts = h .closedPorts; closedRequests = h .closedRequests; went = record { process = p; through = e } ∷ h .went; loans = h .loans }
+
+-- "row n with source s, and e too if p's last `go` was `go e` and e stands"
+unfoldable pub heldSources : History → ℕ → ℕ → List ℕ
+heldSources h p s = let e = lastGo (h .went) p in if some e && stands h e then s ∷ e ∷ [] else s ∷ []
+
+unfoldable pub noteHold : ℕ → ℕ → ℕ → History → History
+noteHold p s n h = addRow n (heldSources h p s) 0 0 h
+
+-- "row n with e's first source"
+unfoldable pub firstOnly : List ℕ → List ℕ
+firstOnly [] = []
+firstOnly (s ∷ ss) = s ∷ []
+
+unfoldable pub noteRegister : ℕ → ℕ → History → History
+noteRegister e n h = addRow n (firstOnly (notedOf (h .rows) e .sources)) 0 0 h
+
+-- "port n, its ends n and n + 1 with source e"
+unfoldable pub notePort : ℕ → ℕ → History → History
+notePort e n h = addRow (suc n) (e ∷ []) 0 n (addRow n (e ∷ []) 0 n h)
+
+-- "request v, lender p, port c, the ends named. For the other items, copies v + 1 and on, bearing v, with sources their row and c."
+unfoldable pub isEndNoted : List Noted → Item → Bool
+isEndNoted rs i = some (notedOf rs (i .row) .port)
+
+unfoldable pub endsNamed : List Noted → List Item → List ℕ
+endsNamed rs is = map (λ i. i .row) (filter (isEndNoted rs) is)
+
+unfoldable pub copiesNoted : ℕ → ℕ → ℕ → List Item → List Noted → List Noted
+copiesNoted v c n [] rs = rs
+copiesNoted v c n (i ∷ is) rs = copiesNoted v c (suc n) is (record { number = n; sources = i .row ∷ c ∷ []; request = v; port = 0 } ∷ rs)
+
+unfoldable pub copied : List Noted → List Item → List Item
+copied rs is = filter (λ i. not (isEndNoted rs i)) is
+
+unfoldable pub noteAsk : ℕ → ℕ → List Item → ℕ → History → History
+noteAsk p c is v h =
+    let es = endsNamed (h .rows) is in
+    record {
+      text = h .text;
+      rows = copiesNoted v c (suc v) (copied (h .rows) is) (h .rows);
+      requests = record { number = v; lender = p; port = c; ends = es } ∷ h .requests;
+      dropped = h .dropped;
+      closedPorts = h .closedPorts;
+      closedRequests = h .closedRequests;
+      went = h .went;
+      loans = map (λ e. record { request = v; lent = e }) es ++ h .loans;
+    }
+
+-- "`drop e`: e dropped. `close c`: port c closed. `revoke q`: q closed."
+unfoldable pub noteDrop : ℕ → History → History
+noteDrop e h =
+    record { text = h .text; rows = h .rows; requests = h .requests; dropped = e ∷ h .dropped; closedPorts = h .closedPorts; closedRequests = h .closedRequests; went = h .went; loans = h .loans }
+
+unfoldable pub noteClose : ℕ → History → History
+noteClose c h =
+    record { text = h .text; rows = h .rows; requests = h .requests; dropped = h .dropped; closedPorts = c ∷ h .closedPorts; closedRequests = h .closedRequests; went = h .went; loans = h .loans }
+
+unfoldable pub noteRevoke : ℕ → History → History
+noteRevoke q h =
+    record { text = h .text; rows = h .rows; requests = h .requests; dropped = h .dropped; closedPorts = h .closedPorts; closedRequests = q ∷ h .closedRequests; went = h .went; loans = h .loans }
+
+-- "`reply v`, `refuse v`: the open request on port v - 1 closed."
+unfoldable pub noteEnd : ℕ → History → History
+noteEnd v h = noteRevoke (openRequest h (pred v)) h

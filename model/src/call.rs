@@ -1,0 +1,148 @@
+//! A call line: its words, the call it names and its printed form.
+
+use crate::form::{read_line, Part};
+
+/// The words that take one number after the caller's.
+#[derive(Clone, Copy, PartialEq, Eq, Debug, PartialOrd, Ord)]
+pub enum Word {
+    Go,
+    Hold,
+    Register,
+    Drop,
+    Port,
+    Close,
+    Fetch,
+    Reply,
+    Refuse,
+    Revoke,
+}
+
+pub const WORDS: [(&[u8], Word); 10] = [
+    (b"go", Word::Go),
+    (b"hold", Word::Hold),
+    (b"register", Word::Register),
+    (b"drop", Word::Drop),
+    (b"port", Word::Port),
+    (b"close", Word::Close),
+    (b"fetch", Word::Fetch),
+    (b"reply", Word::Reply),
+    (b"refuse", Word::Refuse),
+    (b"revoke", Word::Revoke),
+];
+
+/// An item of an ask: "0 to 4 privileges, each with the rights lent".
+#[derive(Clone, Copy, PartialEq, Eq, Debug)]
+pub struct Item {
+    pub row: u32,
+    pub rights: u32,
+}
+
+/// A call of good form; its numbers may be out of range.
+#[derive(Clone, PartialEq, Eq, Debug)]
+pub enum Call {
+    One {
+        caller: u32,
+        word: Word,
+        number: u32,
+    },
+    Ask {
+        caller: u32,
+        client: u32,
+        items: Vec<Item>,
+    },
+    Comes {
+        row: u32,
+        request: u32,
+    },
+}
+
+/// The call on a line, none for a bad form. "A call is exactly one line; a
+/// missing line feed or a second line is a bad form."
+pub fn read_call(line: &[u8]) -> Option<Call> {
+    let parts = read_line(line)?;
+    match parts.as_slice() {
+        [Part::Word(b"comes"), Part::Number(row), Part::Number(request)] => Some(Call::Comes {
+            row: *row,
+            request: *request,
+        }),
+        [Part::Number(caller), Part::Word(b"ask"), Part::Number(client), items @ ..] => {
+            let items = items.iter().map(read_item).collect::<Option<_>>()?;
+            Some(Call::Ask {
+                caller: *caller,
+                client: *client,
+                items,
+            })
+        }
+        [Part::Number(caller), Part::Word(word), Part::Number(number)] => {
+            let (_, word) = WORDS.into_iter().find(|(text, _)| text == word)?;
+            Some(Call::One {
+                caller: *caller,
+                word,
+                number: *number,
+            })
+        }
+        _ => None,
+    }
+}
+
+fn read_item(part: &Part) -> Option<Item> {
+    let Part::Form(parts) = part else {
+        return None;
+    };
+    match parts.as_slice() {
+        [Part::Number(row), Part::Number(rights)] => Some(Item {
+            row: *row,
+            rights: *rights,
+        }),
+        _ => None,
+    }
+}
+
+impl Call {
+    /// None for `(comes e q)`.
+    pub fn caller(&self) -> Option<u32> {
+        match self {
+            Call::One { caller, .. } | Call::Ask { caller, .. } => Some(*caller),
+            Call::Comes { .. } => None,
+        }
+    }
+
+    /// The items of an ask; no other call has any.
+    pub fn items(&self) -> &[Item] {
+        match self {
+            Call::Ask { items, .. } => items,
+            _ => &[],
+        }
+    }
+
+    /// The line of the call, with its line feed.
+    pub fn print(&self) -> Vec<u8> {
+        let text = match self {
+            Call::One {
+                caller,
+                word,
+                number,
+            } => {
+                format!("({caller} {} {number})\n", word.text())
+            }
+            Call::Ask {
+                caller,
+                client,
+                items,
+            } => {
+                let items = items.iter().map(|i| format!(" ({} {})", i.row, i.rights));
+                format!("({caller} ask {client}{})\n", items.collect::<String>())
+            }
+            Call::Comes { row, request } => format!("(comes {row} {request})\n"),
+        };
+        text.into_bytes()
+    }
+}
+
+impl Word {
+    pub fn text(self) -> String {
+        let found = WORDS.into_iter().find(|(_, word)| *word == self);
+        let bytes = found.map_or(&b""[..], |(text, _)| text);
+        String::from_utf8_lossy(bytes).into_owned()
+    }
+}

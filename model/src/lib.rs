@@ -1,0 +1,27 @@
+//! The independent model of document 01: tables, calls, text, history.
+
+pub mod answer;
+pub mod call;
+pub mod chains;
+pub mod check;
+pub mod closing;
+pub mod demand3;
+pub mod dump;
+pub mod effects;
+pub mod form;
+pub mod history;
+pub mod limits;
+pub mod moment;
+pub mod opening;
+pub mod random;
+pub mod refusals;
+pub mod relations;
+pub mod session;
+pub mod sound;
+pub mod tables;
+pub mod words;
+
+pub use answer::Answer;
+pub use session::run_session;
+pub use sound::{broken, sound};
+pub use tables::Tables;

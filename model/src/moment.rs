@@ -1,0 +1,89 @@
+//! What stands, is open and is on loan after the notes of a history so far.
+
+use crate::history::{History, NotedRow};
+use std::collections::{BTreeMap, BTreeSet};
+
+/// What holds after a call: the rows that stand, the ports and requests that
+/// are not closed, and which request has which end on loan.
+#[derive(Clone, Debug, Default)]
+pub struct Moment {
+    pub standing: BTreeSet<u32>,
+    pub open_ports: BTreeSet<u32>,
+    pub open_requests: BTreeSet<u32>,
+    pub loans: BTreeSet<(u32, u32)>,
+}
+
+impl Moment {
+    /// The moment after the last note, `history.before` being the one before
+    /// it. What was gone stays gone, so what stood and what is newer is
+    /// looked at. Sources are older, so in rising number they are decided
+    /// before the row.
+    pub fn after(history: &History) -> Moment {
+        let old = &history.before;
+        let mut moment = Moment::default();
+        for (number, row) in candidates(&history.rows, &old.standing) {
+            if moment.row_stands(history, number, row) {
+                moment.standing.insert(number);
+            }
+        }
+        let ports = candidates(&history.ports, &old.open_ports);
+        let open = ports.filter(|(c, _)| !moment.port_closed(history, *c));
+        moment.open_ports = open.map(|(c, _)| c).collect();
+        let requests = candidates(&history.requests, &old.open_requests);
+        let open = requests.filter(|(v, _)| !moment.request_closed(history, *v));
+        moment.open_requests = open.map(|(v, _)| v).collect();
+        moment.loans = moment.loans_after(history);
+        moment
+    }
+
+    /// "A row *stands* if no chain of it uses anything dropped or closed": not
+    /// the row itself, its request or its port, and no chain of a source.
+    fn row_stands(&self, history: &History, number: u32, row: &NotedRow) -> bool {
+        let dropped = history.dropped.contains(&number);
+        let request = row.bears.is_some_and(|v| self.request_closed(history, v));
+        let port = row.end_of.is_some_and(|c| self.port_closed(history, c));
+        let sources = row.sources.iter().all(|s| self.standing.contains(s));
+        !dropped && !request && !port && sources
+    }
+
+    /// "A port is closed too once its operation row stands no longer".
+    fn port_closed(&self, history: &History, port: u32) -> bool {
+        let operation = history.ports.get(&port);
+        let stands = operation.is_some_and(|e| self.standing.contains(e));
+        history.closed_ports.contains(&port) || !stands
+    }
+
+    /// "and a request once its port is closed."
+    fn request_closed(&self, history: &History, request: u32) -> bool {
+        let port = history.requests.get(&request).map(|r| r.port);
+        let by_port = port.is_none_or(|c| self.port_closed(history, c));
+        history.closed_requests.contains(&request) || by_port
+    }
+
+    /// "A request has an end it names on loan until that end stands no longer,
+    /// or until it, or an older one with that end on loan, closes."
+    fn loans_after(&self, history: &History) -> BTreeSet<(u32, u32)> {
+        let mut had = history.before.loans.clone();
+        if let Some(v) = history.asked {
+            let ends = history.requests.get(&v).map(|r| r.ends.as_slice());
+            had.extend(ends.unwrap_or(&[]).iter().map(|end| (v, *end)));
+        }
+        let closed = |w: u32| !self.open_requests.contains(&w);
+        let ended = |&(v, end): &(u32, u32)| {
+            let mut of_end = had.iter().filter(|(_, e)| *e == end);
+            !self.standing.contains(&end) || of_end.any(|&(w, _)| w <= v && closed(w))
+        };
+        had.iter().filter(|loan| !ended(loan)).copied().collect()
+    }
+}
+
+/// The notes of the numbers given, and those newer than all of them.
+fn candidates<'a, T>(
+    notes: &'a BTreeMap<u32, T>,
+    old: &'a BTreeSet<u32>,
+) -> impl Iterator<Item = (u32, &'a T)> + 'a {
+    let after = old.last().map_or(0, |last| last + 1);
+    let kept = old.iter().filter_map(|n| notes.get_key_value(n));
+    let all = kept.chain(notes.range(after..));
+    all.map(|(number, note)| (*number, note))
+}

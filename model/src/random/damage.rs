@@ -1,0 +1,97 @@
+//! Damaged texts: bytes flipped, cut out, doubled or added, lines made too
+//! long, numbers made odd.
+
+use super::Rng;
+
+/// Bytes that a reader may go wrong on.
+const BYTES: &[u8] = b"() \n0123456789abz\t\r\x00-+A\xff";
+
+/// Numbers that a reader may go wrong on.
+const NUMBERS: [&str; 14] = [
+    "0",
+    "00",
+    "01",
+    "8",
+    "33",
+    "65",
+    "256",
+    "1000000",
+    "1000001",
+    "4294967295",
+    "4294967296",
+    "18446744073709551617",
+    "-1",
+    "99999999999999999999999999999999999999999999",
+];
+
+/// The text with one to three places damaged.
+pub fn damage(rng: &mut Rng, text: &[u8]) -> Vec<u8> {
+    let mut damaged = text.to_vec();
+    for _ in 0..rng.between(1, 3) {
+        damage_once(rng, &mut damaged);
+    }
+    damaged
+}
+
+fn damage_once(rng: &mut Rng, text: &mut Vec<u8>) {
+    let at = rng.below(text.len() + 1);
+    let end = (at + rng.below(12)).min(text.len());
+    match rng.below(10) {
+        0 => flip(rng, text, at),
+        1 => drop(text.drain(at..end)),
+        2 => {
+            let piece = text[at..end].to_vec();
+            insert(text, at, &piece);
+        }
+        3 => text.truncate(at),
+        4 => {
+            let byte = rng.pick(BYTES).unwrap_or(b' ');
+            insert(text, at, &[byte]);
+        }
+        5 => {
+            let byte = rng.pick(b"0 9a(").unwrap_or(b'0');
+            let count = rng.below(400);
+            insert(text, at, &vec![byte; count]);
+        }
+        6 | 7 => odd_number(rng, text, at),
+        8 => double_line(text, at),
+        _ => {
+            let parts = rng.pick(&[" (op 1 1 1)", " (1 1)", " 1", "(", ")"]);
+            insert(text, at, parts.unwrap_or(" ").as_bytes());
+        }
+    }
+}
+
+fn insert(text: &mut Vec<u8>, at: usize, bytes: &[u8]) {
+    text.splice(at..at, bytes.iter().copied());
+}
+
+fn flip(rng: &mut Rng, text: &mut [u8], at: usize) {
+    if let Some(byte) = text.get_mut(at) {
+        *byte = match rng.below(2) {
+            0 => *byte ^ (1 << rng.below(8)),
+            _ => rng.pick(BYTES).unwrap_or(0),
+        };
+    }
+}
+
+/// The first number at or after a place becomes another.
+fn odd_number(rng: &mut Rng, text: &mut Vec<u8>, at: usize) {
+    let digit = |b: &u8| b.is_ascii_digit();
+    let Some(start) = text[at..].iter().position(digit).map(|n| n + at) else {
+        return;
+    };
+    let length = text[start..].iter().take_while(|b| digit(b)).count();
+    let number = rng.pick(&NUMBERS).unwrap_or("0");
+    text.splice(start..start + length, number.bytes());
+}
+
+/// The line that a place is in stands twice.
+fn double_line(text: &mut Vec<u8>, at: usize) {
+    let feed = |b: &u8| *b == b'\n';
+    let start = text[..at].iter().rposition(feed).map_or(0, |n| n + 1);
+    let length = text[start..].iter().position(feed).map(|n| n + 1);
+    let end = length.map_or(text.len(), |n| start + n);
+    let line = text[start..end].to_vec();
+    insert(text, start, &line);
+}

@@ -1,0 +1,279 @@
+//! Random call lines, made by looking at the tables: most are accepted.
+
+use super::{damage, Profile, Rng};
+use crate::call::{Call, Item, Word, WORDS};
+use crate::limits::{ALL_RIGHTS, LAST_NUMBER, PROCESSES};
+use crate::refusals::refusal;
+use crate::relations::{on_loan, request_on};
+use crate::tables::{Kind, Place, Request, Row, Tables};
+
+/// What is proposed: a word with one number, an ask or a comes.
+#[derive(Clone, Copy)]
+enum Plan {
+    One(Word),
+    Ask,
+    Comes,
+}
+
+const PLANS: [Plan; 12] = [
+    Plan::One(Word::Go),
+    Plan::One(Word::Hold),
+    Plan::One(Word::Register),
+    Plan::One(Word::Drop),
+    Plan::One(Word::Port),
+    Plan::One(Word::Close),
+    Plan::Ask,
+    Plan::One(Word::Fetch),
+    Plan::One(Word::Reply),
+    Plan::One(Word::Refuse),
+    Plan::One(Word::Revoke),
+    Plan::Comes,
+];
+
+/// How likely each plan is, in the order of `PLANS`.
+fn weights(profile: Profile, tables: &Tables) -> [u32; 12] {
+    match profile {
+        Profile::Tiny => [8, 12, 5, 6, 10, 4, 16, 12, 8, 5, 7, 7],
+        Profile::Loans => [4, 12, 3, 4, 12, 3, 26, 16, 7, 4, 6, 3],
+        Profile::Nested => [1, 6, 1, 2, 12, 2, 36, 22, 6, 4, 6, 2],
+        Profile::Directories => [18, 22, 9, 6, 7, 2, 14, 10, 4, 2, 4, 2],
+        Profile::Deep => [12, 20, 10, 2, 16, 1, 18, 16, 1, 1, 2, 1],
+        Profile::Full if tables.rows.len() < 1022 => [2, 40, 6, 0, 26, 0, 26, 5, 0, 0, 0, 1],
+        Profile::Full => [2, 20, 6, 20, 12, 2, 20, 8, 3, 2, 3, 2],
+    }
+}
+
+/// One line, with its line feed if it was not damaged.
+pub fn line(rng: &mut Rng, profile: Profile, tables: &Tables) -> Vec<u8> {
+    let way = rng.below(100);
+    let mut maker = Maker {
+        rng,
+        profile,
+        tables,
+        near: (6..14).contains(&way),
+    };
+    match way {
+        0..=1 => {
+            let line = maker.propose().print();
+            damage::damage(maker.rng, &line)
+        }
+        2..=5 => maker.careless().print(),
+        6..=20 => maker.propose().print(),
+        _ => maker.acceptable().print(),
+    }
+}
+
+/// What a line is made from. A near proposal has a row of the caller's that
+/// need not fit the call.
+struct Maker<'a> {
+    rng: &'a mut Rng,
+    profile: Profile,
+    tables: &'a Tables,
+    near: bool,
+}
+
+impl<'a> Maker<'a> {
+    /// A proposal that is accepted, if one of a few is.
+    fn acceptable(&mut self) -> Call {
+        let mut call = self.propose();
+        for _ in 0..8 {
+            if refusal(self.tables, &call).is_none() {
+                return call;
+            }
+            call = self.propose();
+        }
+        call
+    }
+
+    /// Any word and any numbers, some of them out of range.
+    fn careless(&mut self) -> Call {
+        let odd = [0, PROCESSES, PROCESSES + 1, u32::MAX];
+        let caller = match self.rng.below(8) {
+            0 => self.rng.pick(&odd).unwrap_or(0),
+            1 => self.rng.between(1, PROCESSES),
+            _ => self.some_process(),
+        };
+        match self.rng.below(12) {
+            0 => Call::Comes {
+                row: self.any_number(),
+                request: self.any_number(),
+            },
+            1..=4 => Call::Ask {
+                caller,
+                client: self.any_number(),
+                items: self.careless_items(),
+            },
+            _ => Call::One {
+                caller,
+                word: self.rng.pick(&WORDS).map_or(Word::Go, |(_, word)| word),
+                number: self.any_number(),
+            },
+        }
+    }
+
+    fn careless_items(&mut self) -> Vec<Item> {
+        let rights = [0, 1, 2, 3, 7, 7, 7, 8, u32::MAX];
+        let count = self.rng.below(7);
+        let item = |_| Item {
+            row: self.any_number(),
+            rights: self.rng.pick(&rights).unwrap_or(0),
+        };
+        (0..count).map(item).collect()
+    }
+
+    fn any_number(&mut self) -> u32 {
+        let limits = [LAST_NUMBER, LAST_NUMBER + 1, u32::MAX];
+        let rows = self.tables.rows.iter().map(|r| r.number);
+        let requests = self.tables.requests.iter().map(|q| q.number);
+        match self.rng.below(24) {
+            0 => 0,
+            1 => self.rng.pick(&limits).unwrap_or(0),
+            2 => self.rng.between(1, self.tables.next.max(1)),
+            3..=6 => self.rng.pick(&requests.collect::<Vec<_>>()).unwrap_or(1),
+            _ => self.rng.pick(&rows.collect::<Vec<_>>()).unwrap_or(1),
+        }
+    }
+
+    fn some_process(&mut self) -> u32 {
+        let listed = (1..=PROCESSES).filter(|p| self.tables.listed(*p));
+        self.rng.pick(&listed.collect::<Vec<_>>()).unwrap_or(1)
+    }
+
+    /// A call with a caller and rows that fit it, accepted or not.
+    fn propose(&mut self) -> Call {
+        let weights = weights(self.profile, self.tables);
+        match PLANS[self.rng.weighted(&weights)] {
+            Plan::One(word) => self.propose_word(word),
+            Plan::Ask => self.propose_ask(),
+            Plan::Comes => {
+                let rows: Vec<&Row> = self.tables.rows.iter().collect();
+                let row = self.pick_row(&rows).map_or(1, |r| r.number);
+                let request = self.some_request(|_| true).map_or(1, |q| q.number);
+                Call::Comes { row, request }
+            }
+        }
+    }
+
+    fn propose_word(&mut self, word: Word) -> Call {
+        let found = match word {
+            Word::Go if self.rng.percent(25) => Some((self.some_process(), 0)),
+            Word::Go => self.held(|r| r.kind == Kind::Subdirectory),
+            Word::Hold => self.in_active_node(),
+            Word::Register | Word::Drop => self.held(|r| !r.is_end()),
+            Word::Port => self.held(|r| r.kind == Kind::Operation),
+            Word::Close => self.held(|r| r.kind == Kind::Client),
+            Word::Fetch => self.server_of(|q| q.fetched == 0),
+            Word::Reply => self.server_of(|q| q.fetched == 1),
+            Word::Refuse => self.server_of(|_| true),
+            Word::Revoke => {
+                let request = self.some_request(|_| true);
+                request.map(|q| (q.asker, q.number))
+            }
+        };
+        let (caller, number) = found.unwrap_or_else(|| (self.some_process(), 1));
+        Call::One {
+            caller,
+            word,
+            number,
+        }
+    }
+
+    /// A row, in the deep profile often one of the greatest depth.
+    fn pick_row<'b>(&mut self, rows: &[&'b Row]) -> Option<&'b Row> {
+        if self.profile == Profile::Deep && self.rng.percent(50) {
+            return rows.iter().copied().max_by_key(|r| r.depth);
+        }
+        self.rng.pick(rows)
+    }
+
+    /// A row of a c-list that passes the test, with its holder.
+    fn held(&mut self, test: impl Fn(&Row) -> bool) -> Option<(u32, u32)> {
+        let any = self.near && self.rng.percent(30);
+        let rows = self.tables.rows.iter().filter(|r| holder(r).is_some());
+        let rows: Vec<&Row> = rows.filter(|r| any || test(r)).collect();
+        let row = self.pick_row(&rows)?;
+        Some((holder(row)?, row.number))
+    }
+
+    fn in_active_node(&mut self) -> Option<(u32, u32)> {
+        let caller = self.some_process();
+        let active = Place::Node(self.tables.process(caller)?.active);
+        let rows = self.tables.rows.iter().filter(|r| r.place == active);
+        let row = self.pick_row(&rows.collect::<Vec<_>>())?;
+        Some((caller, row.number))
+    }
+
+    fn some_request(&mut self, test: impl Fn(&Request) -> bool) -> Option<&'a Request> {
+        let requests = self.tables.requests.iter().filter(|q| test(q));
+        self.rng.pick(&requests.collect::<Vec<_>>())
+    }
+
+    /// The server end of a port whose open request passes the test, with its
+    /// holder. Near: of any port.
+    fn server_of(&mut self, test: impl Fn(&Request) -> bool) -> Option<(u32, u32)> {
+        if self.near && self.rng.percent(40) {
+            return self.held(|r| r.kind == Kind::Server);
+        }
+        let near = self.near;
+        let request = self.some_request(|q| near || test(q))?;
+        let server = self.tables.row(request.port + 1)?;
+        Some((holder(server)?, server.number))
+    }
+
+    fn propose_ask(&mut self) -> Call {
+        let (near, tables) = (self.near, self.tables);
+        let free = |r: &Row| near || request_on(tables, r.number).is_none();
+        let client = self.held(|r| r.kind == Kind::Client && free(r));
+        let (caller, client) = client.unwrap_or_else(|| (self.some_process(), 1));
+        let fits = |r: &Row| near || r.port() != Some(client);
+        let own = tables.rows.iter().filter(|r| r.in_c_list_of(caller));
+        let mut rows: Vec<&Row> = own.filter(|r| fits(r)).collect();
+        self.rng.shuffle(&mut rows);
+        rows.sort_by_key(|r| !wanted(self.profile, tables, r));
+        let most = match self.profile {
+            Profile::Nested => 3,
+            Profile::Full => 1,
+            _ => 4,
+        };
+        let count = self.rng.below(most + 1);
+        let items = rows.into_iter().take(count).map(|r| item(self.rng, r));
+        Call::Ask {
+            caller,
+            client,
+            items: items.collect(),
+        }
+    }
+}
+
+fn holder(row: &Row) -> Option<u32> {
+    match row.place {
+        Place::CList(p) => Some(p),
+        _ => None,
+    }
+}
+
+/// The rows that the profile lends first.
+fn wanted(profile: Profile, tables: &Tables, row: &Row) -> bool {
+    match profile {
+        Profile::Nested => on_loan(tables, row) || row.is_end(),
+        Profile::Directories => row.kind == Kind::Subdirectory,
+        Profile::Deep => row.depth >= 4 && !row.is_end(),
+        _ => true,
+    }
+}
+
+/// Rights within the row's, now and then any.
+fn item(rng: &mut Rng, row: &Row) -> Item {
+    let mask = match rng.below(4) {
+        0 => rng.between(0, ALL_RIGHTS),
+        _ => ALL_RIGHTS,
+    };
+    let rights = match rng.below(40) {
+        0 => rng.between(0, ALL_RIGHTS + 1),
+        _ => row.rights & mask,
+    };
+    Item {
+        row: row.number,
+        rights,
+    }
+}

@@ -1,0 +1,52 @@
+//! Random sessions, damaged texts and altered tables, from a seed.
+
+pub mod aimed;
+pub mod alter;
+pub mod damage;
+pub mod lines;
+pub mod openings;
+pub mod prng;
+
+pub use prng::Rng;
+
+use crate::session::{call_sound, open};
+
+/// What a random session is rich in.
+#[derive(Clone, Copy, PartialEq, Eq, Debug)]
+pub enum Profile {
+    /// Few processes, nodes and rows.
+    Tiny,
+    /// Many requests with items.
+    Loans,
+    /// Ends lent on and on.
+    Nested,
+    /// Subdirectories gone through, lent and registered.
+    Directories,
+    /// Chains of sources to depth 12.
+    Deep,
+    /// 1,024 rows and 128 requests.
+    Full,
+}
+
+pub const PROFILES: [Profile; 6] = [
+    Profile::Tiny,
+    Profile::Loans,
+    Profile::Nested,
+    Profile::Directories,
+    Profile::Deep,
+    Profile::Full,
+];
+
+/// A whole session: an opening that is accepted, then this many call lines,
+/// most of which are accepted.
+pub fn session(seed: u64, profile: Profile, calls: usize) -> Vec<u8> {
+    let mut rng = Rng::new(seed);
+    let mut text = openings::opening(&mut rng, profile);
+    let (mut tables, _, _) = open(&text);
+    for _ in 0..calls {
+        let line = lines::line(&mut rng, profile, &tables);
+        call_sound(&mut tables, &line);
+        text.extend(line);
+    }
+    text
+}

@@ -1,0 +1,286 @@
+//! The refusals: for every call a list of (number, test), the lowest that
+//! applies is the answer.
+
+use crate::call::{Call, Item, Word};
+use crate::limits::*;
+use crate::relations::{lent, listed_ends, on_loan, request_on};
+use crate::tables::{Kind, Place, Request, Row, Tables};
+use std::collections::BTreeSet;
+
+/// A refusal's number and whether it applies.
+pub type Tests = Vec<(u32, bool)>;
+
+/// "The lowest number that applies, over all items."
+pub fn lowest(tests: &Tests) -> Option<u32> {
+    let applying = tests.iter().filter(|(_, applies)| *applies);
+    applying.map(|(number, _)| *number).min()
+}
+
+/// The answer's number if the call is refused on these sound tables.
+pub fn refusal(tables: &Tables, call: &Call) -> Option<u32> {
+    let mut tests = input_tests(tables, call);
+    tests.extend(state_tests(tables, call));
+    lowest(&tests)
+}
+
+/// "Refused for the input", 3 to 6.
+fn input_tests(tables: &Tables, call: &Call) -> Tests {
+    vec![
+        (3, out_of_range(call)),
+        (4, item_named_twice(call.items())),
+        (5, call.caller().is_some_and(|p| !tables.listed(p))),
+        (6, call.items().len() > ITEMS),
+    ]
+}
+
+/// Point 4: rows and requests are 1 to 1,000,000, but for `go 0`.
+fn out_of_range(call: &Call) -> bool {
+    let caller = |p: u32| (1..=PROCESSES).contains(&p);
+    let number = |n: u32| (1..=LAST_NUMBER).contains(&n);
+    let in_range = match call {
+        Call::One {
+            caller: p,
+            word,
+            number: n,
+        } => caller(*p) && (number(*n) || (*word == Word::Go && *n == 0)),
+        Call::Ask {
+            caller: p,
+            client,
+            items,
+        } => {
+            let item = |i: &Item| number(i.row) && i.rights <= ALL_RIGHTS;
+            caller(*p) && number(*client) && items.iter().all(item)
+        }
+        Call::Comes { row, request } => number(*row) && number(*request),
+    };
+    !in_range
+}
+
+/// "an item of an ask named twice". Point 10: by row number.
+fn item_named_twice(items: &[Item]) -> bool {
+    let rows: BTreeSet<u32> = items.iter().map(|i| i.row).collect();
+    rows.len() < items.len()
+}
+
+/// "Refused for the state", 7 to 18.
+fn state_tests(tables: &Tables, call: &Call) -> Tests {
+    match call {
+        Call::One {
+            caller,
+            word,
+            number,
+        } => one_number(tables, *caller, *word, *number),
+        Call::Ask {
+            caller,
+            client,
+            items,
+        } => ask(tables, *caller, *client, items),
+        Call::Comes { row, request } => comes(tables, *row, *request),
+    }
+}
+
+fn one_number(tables: &Tables, caller: u32, word: Word, number: u32) -> Tests {
+    let test = match word {
+        Word::Go => go,
+        Word::Hold => hold,
+        Word::Register => register,
+        Word::Drop => drop_row,
+        Word::Port => port,
+        Word::Close => close,
+        Word::Fetch => fetch,
+        Word::Reply => reply,
+        Word::Refuse => refuse,
+        Word::Revoke => revoke,
+    };
+    test(tables, caller, number)
+}
+
+/// "A look-up finds the row or yields 7": a row in the caller's c-list.
+fn look_up(tables: &Tables, caller: u32, number: u32) -> Option<&Row> {
+    tables.row(number).filter(|r| r.in_c_list_of(caller))
+}
+
+/// "16: too few free rows."
+fn rows_short(tables: &Tables, wanted: usize) -> bool {
+    tables.rows.len() + wanted > ROWS
+}
+
+/// "18: too few numbers left."
+fn numbers_short(tables: &Tables, wanted: usize) -> bool {
+    let left = (LAST_NUMBER + 1).saturating_sub(tables.next);
+    wanted > left as usize
+}
+
+/// "15: depth 13", for a row with these sources.
+fn too_deep(sources: &[Option<&Row>]) -> bool {
+    let depths = sources.iter().flatten().map(|r| r.depth);
+    depths.max().is_some_and(|greatest| greatest >= DEEPEST)
+}
+
+fn go(tables: &Tables, caller: u32, e: u32) -> Tests {
+    let row = look_up(tables, caller, e);
+    vec![
+        (7, e != 0 && row.is_none()),
+        (8, row.is_some_and(|r| r.kind != Kind::Subdirectory)),
+    ]
+}
+
+fn hold(tables: &Tables, caller: u32, s: u32) -> Tests {
+    let record = tables.process(caller);
+    let active = record.map(|p| Place::Node(p.active));
+    let row = tables.row(s).filter(|r| Some(r.place) == active);
+    let through = record.and_then(|p| tables.row(p.through));
+    let subdirectory = row.is_some_and(|r| r.kind == Kind::Subdirectory);
+    let through_lent = through.is_some_and(|d| lent(tables, d.number));
+    vec![
+        (7, row.is_none()),
+        (9, row.is_some_and(|r| !r.permits(HOLD))),
+        (12, subdirectory && through_lent),
+        (15, too_deep(&[row, through])),
+        (16, rows_short(tables, 1)),
+        (18, numbers_short(tables, 1)),
+    ]
+}
+
+fn register(tables: &Tables, caller: u32, e: u32) -> Tests {
+    let row = look_up(tables, caller, e);
+    let directory = row.and_then(|r| tables.row(r.source));
+    vec![
+        (7, row.is_none()),
+        (8, row.is_some_and(Row::is_end)),
+        (9, row.is_some_and(|r| !r.permits(REGISTER))),
+        (12, row.is_some_and(|r| lent(tables, r.number))),
+        (15, too_deep(&[directory])),
+        (16, rows_short(tables, 1)),
+        (18, numbers_short(tables, 1)),
+    ]
+}
+
+fn drop_row(tables: &Tables, caller: u32, e: u32) -> Tests {
+    let row = look_up(tables, caller, e);
+    let is_source = tables.rows.iter().any(|r| r.comes_directly_from(e));
+    let went_through = tables.process(caller).is_some_and(|p| p.through == e);
+    vec![
+        (7, row.is_none()),
+        (8, row.is_some_and(Row::is_end)),
+        (13, is_source || went_through),
+    ]
+}
+
+fn port(tables: &Tables, caller: u32, e: u32) -> Tests {
+    let row = look_up(tables, caller, e);
+    vec![
+        (7, row.is_none()),
+        (8, row.is_some_and(|r| r.kind != Kind::Operation)),
+        (15, too_deep(&[row])),
+        (16, rows_short(tables, 2)),
+        (18, numbers_short(tables, 2)),
+    ]
+}
+
+fn close(tables: &Tables, caller: u32, c: u32) -> Tests {
+    let row = look_up(tables, caller, c);
+    vec![
+        (7, row.is_none()),
+        (8, row.is_some_and(|r| r.kind != Kind::Client)),
+        (12, row.is_some_and(|r| on_loan(tables, r))),
+    ]
+}
+
+fn ask(tables: &Tables, caller: u32, c: u32, items: &[Item]) -> Tests {
+    let client = look_up(tables, caller, c);
+    let found = items.iter().map(|i| (look_up(tables, caller, i.row), i));
+    let found: Vec<(Option<&Row>, &Item)> = found.collect();
+    let rows: Vec<(&Row, &Item)> = found
+        .iter()
+        .filter_map(|(row, item)| row.map(|r| (r, *item)))
+        .collect();
+    let copied = rows.iter().filter(|(r, _)| !r.is_end()).count();
+    let copy_too_deep = |r: &Row| !r.is_end() && too_deep(&[Some(r), client]);
+    let taken_up = |r: &Row| r.port() == Some(c) || port_busy(tables, r);
+    vec![
+        (7, client.is_none() || rows.len() < items.len()),
+        (8, client.is_some_and(|r| r.kind != Kind::Client)),
+        (9, rows.iter().any(|(r, i)| !lendable(r, i.rights))),
+        (10, request_on(tables, c).is_some()),
+        (10, rows.iter().any(|(r, _)| taken_up(r))),
+        (15, rows.iter().any(|(r, _)| copy_too_deep(r))),
+        (16, rows_short(tables, copied)),
+        (17, tables.requests.len() >= REQUESTS),
+        (18, numbers_short(tables, 1 + copied)),
+    ]
+}
+
+/// "ask with a copied item lacking transfer, or rights not within the row's".
+/// Point 15: an end has rights 0 and needs no transfer.
+fn lendable(row: &Row, rights: u32) -> bool {
+    let transfer = row.is_end() || row.permits(TRANSFER);
+    transfer && row.permits(rights)
+}
+
+/// An end "of one with an open request".
+fn port_busy(tables: &Tables, row: &Row) -> bool {
+    row.port()
+        .is_some_and(|port| request_on(tables, port).is_some())
+}
+
+/// The row, and the request open on its port if it is a server end.
+fn server<'a>(tables: &'a Tables, row: Option<&Row>) -> Option<&'a Request> {
+    let end = row.filter(|r| r.kind == Kind::Server)?;
+    request_on(tables, end.object)
+}
+
+fn fetch(tables: &Tables, caller: u32, v: u32) -> Tests {
+    let row = look_up(tables, caller, v);
+    let request = server(tables, row);
+    vec![
+        (7, row.is_none()),
+        (8, row.is_some_and(|r| r.kind != Kind::Server)),
+        (11, !request.is_some_and(|q| q.fetched == 0)),
+    ]
+}
+
+fn reply(tables: &Tables, caller: u32, v: u32) -> Tests {
+    let row = look_up(tables, caller, v);
+    let request = server(tables, row);
+    let ends: Vec<&Row> = request
+        .iter()
+        .flat_map(|q| listed_ends(tables, q))
+        .collect();
+    let not_here = |r: &&Row| !r.in_c_list_of(caller);
+    vec![
+        (7, row.is_none()),
+        (8, row.is_some_and(|r| r.kind != Kind::Server)),
+        (10, ends.iter().any(|r| port_busy(tables, r))),
+        (11, !request.is_some_and(|q| q.fetched == 1)),
+        (14, ends.iter().any(not_here)),
+        (14, request.is_some_and(|q| lent_on(tables, q, &ends))),
+    ]
+}
+
+/// "or is listed in a newer request".
+fn lent_on(tables: &Tables, request: &Request, ends: &[&Row]) -> bool {
+    let mut newer = tables.requests.iter().filter(|q| q.number > request.number);
+    newer.any(|q| ends.iter().any(|r| q.lists(r.number)))
+}
+
+fn refuse(tables: &Tables, caller: u32, v: u32) -> Tests {
+    let row = look_up(tables, caller, v);
+    vec![
+        (7, row.is_none()),
+        (8, row.is_some_and(|r| r.kind != Kind::Server)),
+        (11, server(tables, row).is_none()),
+    ]
+}
+
+fn revoke(tables: &Tables, caller: u32, q: u32) -> Tests {
+    let own = tables.request(q).is_some_and(|r| r.asker == caller);
+    vec![(7, !own)]
+}
+
+fn comes(tables: &Tables, row: u32, request: u32) -> Tests {
+    vec![
+        (7, tables.row(row).is_none()),
+        (7, tables.request(request).is_none()),
+    ]
+}

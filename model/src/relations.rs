@@ -1,0 +1,67 @@
+//! Comes from, on loan and lent, as predicates over the rows and requests.
+
+use crate::tables::{Request, Row, Tables};
+use std::collections::BTreeSet;
+
+/// "A row *comes from* a request if it bears the request's number or one of
+/// its sources comes from it": the least set of rows closed under this, for
+/// any of the requests given.
+pub fn rows_from(tables: &Tables, requests: &BTreeSet<u32>) -> BTreeSet<u32> {
+    let bears = |r: &Row| r.request != 0 && requests.contains(&r.request);
+    least_set(tables, bears)
+}
+
+pub fn comes_from(tables: &Tables, row: u32, request: u32) -> bool {
+    rows_from(tables, &BTreeSet::from([request])).contains(&row)
+}
+
+/// "An end is *on loan* if an open request lists it."
+pub fn on_loan(tables: &Tables, row: &Row) -> bool {
+    row.is_end() && newest_listing(tables, row.number).is_some()
+}
+
+/// "A row is *lent* if it is on loan, bears a request's number, or has a lent
+/// source."
+pub fn lent(tables: &Tables, row: u32) -> bool {
+    let by_itself = |r: &Row| r.request != 0 || on_loan(tables, r);
+    least_set(tables, by_itself).contains(&row)
+}
+
+/// The rows that pass the test, the rows with one of these as a source, and
+/// so on until no row is added.
+fn least_set(tables: &Tables, test: impl Fn(&Row) -> bool) -> BTreeSet<u32> {
+    let mut set: BTreeSet<u32> = BTreeSet::new();
+    let by_test = tables.rows.iter().filter(|r| test(r));
+    set.extend(by_test.map(|r| r.number));
+    loop {
+        let size = set.len();
+        for row in &tables.rows {
+            if row.sources().any(|s| set.contains(&s)) {
+                set.insert(row.number);
+            }
+        }
+        if set.len() == size {
+            return set;
+        }
+    }
+}
+
+/// The open request on a port, the port counted as its client end's number.
+pub fn request_on(tables: &Tables, port: u32) -> Option<&Request> {
+    tables.requests.iter().find(|q| q.port == port)
+}
+
+/// "whose newest request": the newest of the open requests that list the row.
+pub fn newest_listing(tables: &Tables, row: u32) -> Option<&Request> {
+    let listing = tables.requests.iter().filter(|q| q.lists(row));
+    listing.max_by_key(|q| q.number)
+}
+
+/// The rows of a request's list that are ends.
+pub fn listed_ends<'a>(
+    tables: &'a Tables,
+    request: &'a Request,
+) -> impl Iterator<Item = &'a Row> + 'a {
+    let rows = request.listed().filter_map(|i| tables.row(i));
+    rows.filter(|r| r.is_end())
+}

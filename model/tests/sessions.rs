@@ -1,0 +1,118 @@
+//! Random sessions: soundness, demand 3 and unchanged tables on a refusal,
+//! after every call. MODEL_CALLS and MODEL_SEED make it longer or another.
+
+use model::chains;
+use model::check::{self, Tally};
+use model::history::History;
+use model::random::{self, Profile, PROFILES};
+use model::session::Session;
+
+fn variable(name: &str, default: u64) -> u64 {
+    let value = std::env::var(name).ok();
+    value.and_then(|v| v.parse().ok()).unwrap_or(default)
+}
+
+/// Runs sessions of a profile until that many calls are done.
+fn run(profile: Profile, calls: u64, length: usize, tally: &mut Tally) {
+    let mut seed = variable("MODEL_SEED", 1) * 1_000_000;
+    let mut left = calls;
+    while left > 0 {
+        let result = check::session(seed, profile, length, tally);
+        if let Err(text) = result {
+            panic!("{profile:?}, seed {seed}: {text}");
+        }
+        seed += 1;
+        left = left.saturating_sub(length as u64);
+    }
+}
+
+/// About 100,000 calls; every refusal but 1 must be among the answers.
+#[test]
+fn sound_and_demand_3_after_every_call() {
+    let calls = variable("MODEL_CALLS", 100_000);
+    let mut tally = Tally::new();
+    for profile in PROFILES {
+        match profile {
+            Profile::Full => run(profile, calls / 20, 1_600, &mut tally),
+            _ => run(profile, calls / 5, 250, &mut tally),
+        }
+    }
+    for k in (0..=18).filter(|k| *k != 1) {
+        let seen = tally.get(&k).copied().unwrap_or(0);
+        assert!(seen > 0, "{k} was not seen: {tally:?}");
+    }
+}
+
+/// What stands and comes from, worked from number to number, is what listing
+/// all chains says.
+#[test]
+fn moments_are_what_the_chains_say() {
+    let mut gone = 0;
+    for seed in 0..60 {
+        let profile = PROFILES[seed as usize % 5];
+        let input = random::session(seed, profile, 60);
+        let mut session = Session::begin(&input);
+        let mut history = History::begin(&input, &session.opening.print());
+        while let Some((line, answer)) = session.step() {
+            history.note(line, &answer.print());
+        }
+        gone += compare_with_chains(&history);
+    }
+    assert!(gone > 500, "{gone} rows gone");
+}
+
+/// Compares every row, port and request; answers how many rows are gone.
+fn compare_with_chains(history: &History) -> usize {
+    let now = &history.now;
+    for row in history.rows.keys() {
+        let stands = chains::stands(history, *row);
+        assert_eq!(now.standing.contains(row), stands, "row {row}");
+    }
+    for port in history.ports.keys() {
+        let closed = chains::port_closed(history, *port);
+        assert_eq!(!now.open_ports.contains(port), closed, "port {port}");
+    }
+    for request in history.requests.keys() {
+        let closed = chains::request_closed(history, *request);
+        assert_eq!(!now.open_requests.contains(request), closed, "{request}");
+        let from = history.rows_from(&now.standing, *request);
+        for row in &now.standing {
+            let comes = chains::comes_from(history, *row, *request);
+            assert_eq!(from.contains(row), comes, "{row} from {request}");
+        }
+    }
+    history.rows.len() - now.standing.len()
+}
+
+/// A request has an end on loan, by the history, exactly where the tables
+/// list it.
+#[test]
+fn loans_are_the_lists() {
+    let mut loans = 0;
+    for seed in 0..150 {
+        let profile = PROFILES[seed as usize % 5];
+        let input = random::session(seed, profile, 150);
+        let mut session = Session::begin(&input);
+        let mut history = History::begin(&input, &session.opening.print());
+        while let Some((line, answer)) = session.step() {
+            history.note(line, &answer.print());
+            let requests = session.tables.requests.iter();
+            let listed = requests.flat_map(|q| q.listed().map(move |i| (q.number, i)));
+            let ends = listed.filter(|(_, i)| history.is_end(*i));
+            let ends: std::collections::BTreeSet<(u32, u32)> = ends.collect();
+            assert_eq!(ends, history.now.loans, "seed {seed}");
+            loans += ends.len();
+        }
+    }
+    assert!(loans > 1_000, "{loans} loans");
+}
+
+/// The same seed gives the same session, another seed another one.
+#[test]
+fn seeds_determine_sessions() {
+    for profile in PROFILES {
+        let one = random::session(5, profile, 40);
+        assert_eq!(one, random::session(5, profile, 40));
+        assert_ne!(one, random::session(6, profile, 40));
+    }
+}
