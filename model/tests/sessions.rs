@@ -48,7 +48,7 @@ fn sound_and_demand_3_after_every_call() {
 #[test]
 fn moments_are_what_the_chains_say() {
     let mut gone = 0;
-    for seed in 0..60 {
+    for seed in 0..100 {
         let profile = PROFILES[seed as usize % 5];
         let input = random::session(seed, profile, 60);
         let mut session = Session::begin(&input);

@@ -3,7 +3,7 @@ use Prim.Native.Nat.{ℕ, zero, suc, pred}
 use mathlib.Core.Bool.{Bool, true, false, not, _&&_, _||_}
 use mathlib.Core.List.{List, [], _∷_, _++_, map}
 use lib.Dec.{leb, ltb, eqb}
-use Rattle.rows.specs.Lists.{if_then_else_, filter, any, all, member, some}
+use Rattle.rows.specs.Lists.{if_then_else_, filter, any, all, firstWith, member, some}
 use Rattle.calls.specs.declared.Item.{Item}
 
 -- a row noted: its sources, the request that it bears and the port that it is an end of, 0 for none
@@ -49,15 +49,13 @@ unfoldable pub nothingNoted : Noted
 nothingNoted = record { number = 0; sources = []; request = 0; port = 0 }
 
 unfoldable pub notedOf : List Noted → ℕ → Noted
-notedOf [] n = nothingNoted
-notedOf (r ∷ rs) n = if eqb (r .number) n then r else notedOf rs n
+notedOf rs n = firstWith (λ r. r .number) nothingNoted rs n
 
 unfoldable pub noLoan : Loan
 noLoan = record { number = 0; lender = 0; port = 0; ends = [] }
 
 unfoldable pub loanOf : List Loan → ℕ → Loan
-loanOf [] q = noLoan
-loanOf (v ∷ vs) q = if eqb (v .number) q then v else loanOf vs q
+loanOf vs q = firstWith (λ v. v .number) noLoan vs q
 
 -- ---- which rows stand and which requests are closed, computed for the notes; Chains.antt has what these words mean
 -- dropped, or bears a request or is an end of a port closed by a call
@@ -87,14 +85,9 @@ isClosed h v = member (v .number) (h .closedRequests) || not (stands h (v .port)
 unfoldable pub openLoans : History → List Loan
 openLoans h = filter (λ v. not (isClosed h v)) (h .requests)
 
--- the first of these requests that is on a port, 0 for none
-unfoldable pub requestOn : List Loan → ℕ → ℕ
-requestOn [] c = 0
-requestOn (v ∷ vs) c = if eqb (v .port) c then v .number else requestOn vs c
-
--- the request open on a port
+-- the request open on a port, 0 for none
 unfoldable pub openRequest : History → ℕ → ℕ
-openRequest h c = requestOn (openLoans h) c
+openRequest h c = firstWith (λ v. v .port) noLoan (openLoans h) c .number
 
 -- ---- "A request has an end it names on loan until that end stands no longer, or until it, or an older one with that end on loan, closes."
 unfoldable pub isClosedNow : History → OnLoan → Bool
@@ -122,9 +115,11 @@ unfoldable pub addRow : ℕ → List ℕ → ℕ → ℕ → History → History
 addRow n ss q c h =
     record { text = h .text; rows = record { number = n; sources = ss; request = q; port = c } ∷ h .rows; requests = h .requests; dropped = h .dropped; closedPorts = h .closedPorts; closedRequests = h .closedRequests; went = h .went; loans = h .loans }
 
+unfoldable pub wentNowhere : Went
+wentNowhere = record { process = 0; through = 0 }
+
 unfoldable pub lastGo : List Went → ℕ → ℕ
-lastGo [] p = 0
-lastGo (w ∷ ws) p = if eqb (w .process) p then w .through else lastGo ws p
+lastGo ws p = firstWith (λ w. w .process) wentNowhere ws p .through
 
 unfoldable pub noteGo : ℕ → ℕ → History → History
 noteGo p e h =

@@ -28,6 +28,21 @@ module _ {A : Type 0} where
   each f [] = true
   each f (x ∷ xs) = f x xs && each f xs
 
+  -- the first element whose key is n, or none
+  unfoldable pub firstWith : (A → ℕ) → A → List A → ℕ → A
+  firstWith key none [] n = none
+  firstWith key none (x ∷ xs) n = if eqb (key x) n then x else firstWith key none xs n
+
+  -- the key of the first element, 0 for none
+  unfoldable pub topOf : (A → ℕ) → List A → ℕ
+  topOf key [] = 0
+  topOf key (x ∷ xs) = key x
+
+  -- from the last element to the first the keys rise, from above 0
+  unfoldable pub rises : (A → ℕ) → List A → Bool
+  rises key [] = true
+  rises key (x ∷ xs) = ltb (topOf key xs) (key x) && rises key xs
+
   -- xs, with d after it up to n elements
   unfoldable pub pad : A → ℕ → List A → List A
   pad d zero xs = xs

@@ -7,32 +7,23 @@ use lib.ListN.{length}
 use Rattle.rows.specs.declared.Row.{Row}
 use Rattle.rows.specs.declared.Request.{Request}
 use Rattle.rows.specs.declared.Process.{Process}
-use Rattle.rows.specs.Lists.{if_then_else_, filter, any, all, each, member, distinct, between, some, nonzero}
+use Rattle.rows.specs.Lists.{if_then_else_, any, all, each, topOf, rises, member, distinct, between, some, nonzero}
 use Rattle.rows.specs.Limits.{processes, nodes, greatestOperation, allRights, greatestNumber, rowSlots, requestSlots, greatestDepth, mostItems}
 use Rattle.rows.specs.Codes.{isOperation, isSubdirectory, isClient, isServer, isEnd, isCopied, inClist, isNode, isClist, isSystem, ownerOf, within}
 use Rattle.rows.specs.Tables.{State, rowOf, requestOf, processAt, isListed, numbers, depthOver, lists}
 
 -- ---- "Row and request numbers rise, are never shared and are below the next number, which is at most 1,000,001."
--- the number of the newest row, 0 for none
-unfoldable pub topRow : List Row → ℕ
-topRow [] = 0
-topRow (r ∷ rs) = r .number
-
-unfoldable pub topRequest : List Request → ℕ
-topRequest [] = 0
-topRequest (v ∷ vs) = v .number
-
 unfoldable pub rowsRise : State → Bool
-rowsRise st = each (λ r rs. ltb (topRow rs) (r .number)) (st .rows)
+rowsRise st = rises (λ r. r .number) (st .rows)
 
 unfoldable pub requestsRise : State → Bool
-requestsRise st = each (λ v vs. ltb (topRequest vs) (v .number)) (st .requests)
+requestsRise st = rises (λ v. v .number) (st .requests)
 
 unfoldable pub numbersApart : State → Bool
 numbersApart st = all (λ v. not (member (v .number) (numbers (st .rows)))) (st .requests)
 
 unfoldable pub belowNext : State → Bool
-belowNext st = ltb (topRow (st .rows)) (st .next) && ltb (topRequest (st .requests)) (st .next)
+belowNext st = ltb (topOf (λ r. r .number) (st .rows)) (st .next) && ltb (topOf (λ v. v .number) (st .requests)) (st .next)
 
 unfoldable pub nextInRange : State → Bool
 nextInRange st = between 1 (suc greatestNumber) (st .next)

@@ -7,7 +7,7 @@ use lib.ListN.{length, getD, replicate}
 use Rattle.rows.specs.declared.Row.{Row}
 use Rattle.rows.specs.declared.Request.{Request}
 use Rattle.rows.specs.declared.Process.{Process}
-use Rattle.rows.specs.Lists.{if_then_else_, filter, any, member, some, nonzero}
+use Rattle.rows.specs.Lists.{if_then_else_, any, firstWith, member, some, nonzero}
 use Rattle.rows.specs.Limits.{processes}
 use Rattle.rows.specs.Codes.{isEnd}
 
@@ -34,17 +34,14 @@ empty = record { rows = []; requests = []; processes = replicate processes noPro
 
 -- ---- look-up
 unfoldable pub rowOf : List Row → ℕ → Row
-rowOf [] n = noRow
-rowOf (r ∷ rs) n = if eqb (r .number) n then r else rowOf rs n
+rowOf rs n = firstWith (λ r. r .number) noRow rs n
 
 unfoldable pub requestOf : List Request → ℕ → Request
-requestOf [] n = noRequest
-requestOf (v ∷ vs) n = if eqb (v .number) n then v else requestOf vs n
+requestOf vs n = firstWith (λ v. v .number) noRequest vs n
 
 -- the request open on a port, the port counted as its client end
 unfoldable pub openOn : List Request → ℕ → Request
-openOn [] c = noRequest
-openOn (v ∷ vs) c = if eqb (v .port) c then v else openOn vs c
+openOn vs c = firstWith (λ v. v .port) noRequest vs c
 
 unfoldable pub processAt : List Process → ℕ → Process
 processAt ps zero = noProcess

@@ -83,7 +83,10 @@ fn numbers_rise(rng: &mut Rng, t: &mut Tables) -> Option<()> {
         t.requests.swap(at, at + 1);
         return Some(());
     }
-    let at = rng.below(t.rows.len().checked_sub(1)?);
+    if t.rows.len() < 2 {
+        return None;
+    }
+    let at = rng.below(t.rows.len() - 1);
     let older = t.rows.get(at)?.number;
     match rng.below(2) {
         0 => t.rows.swap(at, at + 1),

@@ -13,6 +13,49 @@ pub fn alter(rng: &mut Rng, tables: &Tables) -> Tables {
     altered
 }
 
+/// The tables with one to four changes that soundness often allows: a row
+/// with another process, fewer rights, another asker, a greater next number.
+pub fn alter_gently(rng: &mut Rng, tables: &Tables) -> Tables {
+    let mut altered = tables.clone();
+    for _ in 0..rng.between(1, 4) {
+        gently_once(rng, &mut altered);
+    }
+    altered
+}
+
+fn gently_once(rng: &mut Rng, t: &mut Tables) {
+    let listed: Vec<u32> = (1..=PROCESSES).filter(|p| t.listed(*p)).collect();
+    let process = rng.pick(&listed).unwrap_or(1);
+    let node = rng.between(1, 6);
+    let at = rng.below(t.rows.len());
+    let request = rng.below(t.requests.len());
+    match (
+        rng.below(6),
+        t.rows.get_mut(at),
+        t.requests.get_mut(request),
+    ) {
+        (0 | 1, Some(row), _) if matches!(row.place, Place::CList(_)) => {
+            row.place = Place::CList(process);
+        }
+        (0 | 1, Some(row), _) if row.in_node() => row.place = Place::Node(node),
+        (2, Some(row), _) => row.rights &= rng.between(0, 7),
+        (3, _, Some(request)) => request.asker = process,
+        (4, _, _) => t.next = rng.between(t.next, LAST_NUMBER + 1),
+        (5, Some(row), _) if row.kind == Kind::Operation => row.object = process,
+        _ => {
+            let prime = node;
+            let old = t.process(process).copied().unwrap_or_default();
+            let active = if old.through == 0 { prime } else { old.active };
+            let record = Process {
+                prime,
+                active,
+                ..old
+            };
+            t.set_process(process, record);
+        }
+    }
+}
+
 fn alter_once(rng: &mut Rng, t: &mut Tables) {
     let value = value(rng, t);
     let row = rng.below(t.rows.len());
