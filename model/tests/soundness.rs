@@ -53,7 +53,9 @@ fn each_clause_is_broken_and_named() {
         let (named, alone) = (named[clause], alone[clause]);
         println!("{clause}: {named} named, {alone} alone");
         assert!(named >= 100, "{clause}: {named}");
-        if alone == 0 { println!("NEVER {clause}"); }
+        if alone == 0 {
+            println!("NEVER {clause}");
+        }
     }
 }
 

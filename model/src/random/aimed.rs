@@ -249,10 +249,10 @@ fn copies_alike(rng: &mut Rng, t: &mut Tables) -> Option<()> {
 }
 
 fn copies_within(rng: &mut Rng, t: &mut Tables) -> Option<()> {
-    let source = number(rng, t, |r| !r.is_end())?;
     let right = rng.pick(&[HOLD, TRANSFER, REGISTER])?;
-    let copy = row(rng, t, |r| is_copy(r) && r.source == source)?;
+    let copy = row(rng, t, is_copy)?;
     copy.rights |= right;
+    let source = copy.source;
     row(rng, t, |r| r.number == source)?.rights &= !right;
     Some(())
 }

@@ -35,7 +35,7 @@ fn weights(profile: Profile, tables: &Tables) -> [u32; 12] {
     match profile {
         Profile::Tiny => [8, 12, 5, 6, 10, 4, 16, 12, 8, 5, 7, 7],
         Profile::Loans => [4, 12, 3, 4, 12, 3, 26, 16, 7, 4, 6, 3],
-        Profile::Nested => [1, 6, 1, 2, 12, 2, 36, 22, 6, 4, 6, 2],
+        Profile::Nested => [1, 6, 1, 2, 16, 1, 36, 24, 4, 3, 4, 2],
         Profile::Directories => [18, 22, 9, 6, 7, 2, 14, 10, 4, 2, 4, 2],
         Profile::Deep => [12, 20, 10, 2, 16, 1, 18, 16, 1, 1, 2, 1],
         Profile::Full if tables.rows.len() < 1022 => [2, 40, 6, 0, 26, 0, 26, 5, 0, 0, 0, 1],
@@ -223,8 +223,35 @@ impl<'a> Maker<'a> {
     fn propose_ask(&mut self) -> Call {
         let (near, tables) = (self.near, self.tables);
         let free = |r: &Row| near || request_on(tables, r.number).is_none();
-        let client = self.held(|r| r.kind == Kind::Client && free(r));
+        let client = match self.profile == Profile::Nested && self.rng.percent(60) {
+            true => self.client_of_borrower(),
+            false => self.held(|r| r.kind == Kind::Client && free(r)),
+        };
         let (caller, client) = client.unwrap_or_else(|| (self.some_process(), 1));
+        Call::Ask {
+            caller,
+            client,
+            items: self.some_items(caller, client),
+        }
+    }
+
+    /// A client end of a process that has an end on loan, with no request on
+    /// either port.
+    fn client_of_borrower(&mut self) -> Option<(u32, u32)> {
+        let tables = self.tables;
+        let free = |r: &Row| r.port().is_some_and(|c| request_on(tables, c).is_none());
+        let ends: Vec<&Row> = tables.rows.iter().filter(|r| free(r)).collect();
+        let lent = ends.iter().filter(|r| on_loan(tables, r));
+        let borrowers: Vec<u32> = lent.filter_map(|r| holder(r)).collect();
+        let borrower = self.rng.pick(&borrowers)?;
+        let own = ends.iter().filter(|r| r.in_c_list_of(borrower));
+        let clients = own.filter(|r| r.kind == Kind::Client);
+        let client = self.rng.pick(&clients.collect::<Vec<_>>())?;
+        Some((borrower, client.number))
+    }
+
+    fn some_items(&mut self, caller: u32, client: u32) -> Vec<Item> {
+        let (near, tables) = (self.near, self.tables);
         let fits = |r: &Row| near || r.port() != Some(client);
         let own = tables.rows.iter().filter(|r| r.in_c_list_of(caller));
         let mut rows: Vec<&Row> = own.filter(|r| fits(r)).collect();
@@ -237,11 +264,7 @@ impl<'a> Maker<'a> {
         };
         let count = self.rng.below(most + 1);
         let items = rows.into_iter().take(count).map(|r| item(self.rng, r));
-        Call::Ask {
-            caller,
-            client,
-            items: items.collect(),
-        }
+        items.collect()
     }
 }
 
@@ -255,7 +278,7 @@ fn holder(row: &Row) -> Option<u32> {
 /// The rows that the profile lends first.
 fn wanted(profile: Profile, tables: &Tables, row: &Row) -> bool {
     match profile {
-        Profile::Nested => on_loan(tables, row) || row.is_end(),
+        Profile::Nested => on_loan(tables, row),
         Profile::Directories => row.kind == Kind::Subdirectory,
         Profile::Deep => row.depth >= 4 && !row.is_end(),
         _ => true,
