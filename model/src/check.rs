@@ -1,8 +1,7 @@
 //! Random sessions with everything checked after every call.
 
 use crate::answer::Answer;
-use crate::call::read_call;
-use crate::call::Call;
+use crate::call::{read_call, Call};
 use crate::demand3::demand3;
 use crate::history::History;
 use crate::limits::LAST_NUMBER;
@@ -35,7 +34,7 @@ pub fn session(seed: u64, profile: Profile, calls: usize, tally: &mut Tally) -> 
         let answer = step(&mut history, &mut tables, &line).map_err(|e| format!("{e}\n{lines}"))?;
         *tally.entry(answer.refusal().unwrap_or(0)).or_insert(0) += 1;
     }
-    Ok(())
+    words_agree(&tables).map_err(|e| format!("{e}\n{lines}"))
 }
 
 /// One call, with all that is claimed of it.

@@ -117,8 +117,7 @@ fn give_back(tables: &mut Tables, returned: &Returned) {
 fn to_prime_nodes(tables: &mut Tables, removed: &BTreeSet<u32>) {
     let gone_through = |p: &&mut Process| removed.contains(&p.through);
     for record in tables.processes.iter_mut().filter(gone_through) {
-        record.active = record.prime;
-        record.through = 0;
+        *record = Process::in_prime_node(record.prime);
     }
 }
 

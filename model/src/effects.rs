@@ -33,15 +33,21 @@ fn one_number(tables: &mut Tables, caller: u32, word: Word, number: u32) -> Opti
         Word::Register => register(tables, caller, number),
         Word::Drop => drop_row(tables, number),
         Word::Port => port(tables, caller, number),
-        Word::Close => done(close_port(tables, number)),
+        Word::Close => {
+            close_port(tables, number);
+            done()
+        }
         Word::Fetch => fetch(tables, caller, number),
         Word::Reply | Word::Refuse => answer_request(tables, number),
-        Word::Revoke => done(close_request(tables, number)),
+        Word::Revoke => {
+            close_request(tables, number);
+            done()
+        }
     }
 }
 
 /// `(ok 0)`: no new number.
-fn done(_: ()) -> Option<Answer> {
+fn done() -> Option<Answer> {
     Some(Answer::ok(0))
 }
 
@@ -75,7 +81,8 @@ fn go(tables: &mut Tables, caller: u32, e: u32) -> Option<Answer> {
         active,
         through: e,
     };
-    done(tables.set_process(caller, record))
+    tables.set_process(caller, record);
+    done()
 }
 
 /// "a row of the active node, copied to the c-list with its rights."
@@ -108,7 +115,8 @@ fn register(tables: &mut Tables, caller: u32, e: u32) -> Option<Answer> {
 /// "e is discarded."
 fn drop_row(tables: &mut Tables, e: u32) -> Option<Answer> {
     tables.rows.retain(|r| r.number != e);
-    done(leave_lists(tables, &BTreeSet::from([e])))
+    leave_lists(tables, &BTreeSet::from([e]));
+    done()
 }
 
 /// "a port from operation e; client end to the caller, server end to the
@@ -192,5 +200,6 @@ fn fetch(tables: &mut Tables, caller: u32, v: u32) -> Option<Answer> {
 fn answer_request(tables: &mut Tables, v: u32) -> Option<Answer> {
     let port = tables.row(v)?.object;
     let request = request_on(tables, port)?.number;
-    done(close_request(tables, request))
+    close_request(tables, request);
+    done()
 }

@@ -59,16 +59,14 @@ fn read_entry(part: &Part) -> Option<Entry> {
         return None;
     };
     match parts.as_slice() {
-        [Part::Word(b"op"), Part::Number(manager), Part::Number(operation), Part::Number(rights)] => {
-            Some(Entry::Op {
-                manager: *manager,
-                operation: *operation,
-                rights: *rights,
-            })
-        }
-        [Part::Word(b"dir"), Part::Number(node), Part::Number(rights)] => Some(Entry::Dir {
-            node: *node,
-            rights: *rights,
+        [Part::Word(b"op"), Part::Number(m), Part::Number(o), Part::Number(r)] => Some(Entry::Op {
+            manager: *m,
+            operation: *o,
+            rights: *r,
+        }),
+        [Part::Word(b"dir"), Part::Number(n), Part::Number(r)] => Some(Entry::Dir {
+            node: *n,
+            rights: *r,
         }),
         _ => None,
     }
@@ -183,12 +181,7 @@ pub fn open_tables(opening: &Opening) -> Tables {
         match form {
             Form::Node { node, entries } => add_entries(&mut tables, *node, entries),
             Form::Process { process, prime } => {
-                let record = Process {
-                    prime: *prime,
-                    active: *prime,
-                    through: 0,
-                };
-                tables.set_process(*process, record);
+                tables.set_process(*process, Process::in_prime_node(*prime));
             }
             Form::Open => {}
         }

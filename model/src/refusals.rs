@@ -163,7 +163,8 @@ fn drop_row(tables: &Tables, caller: u32, e: u32) -> Tests {
     vec![
         (7, row.is_none()),
         (8, row.is_some_and(Row::is_end)),
-        (13, is_source || went_through),
+        (13, is_source),
+        (13, went_through),
     ]
 }
 
@@ -189,21 +190,19 @@ fn close(tables: &Tables, caller: u32, c: u32) -> Tests {
 
 fn ask(tables: &Tables, caller: u32, c: u32, items: &[Item]) -> Tests {
     let client = look_up(tables, caller, c);
-    let found = items.iter().map(|i| (look_up(tables, caller, i.row), i));
-    let found: Vec<(Option<&Row>, &Item)> = found.collect();
-    let rows: Vec<(&Row, &Item)> = found
+    let found = items
         .iter()
-        .filter_map(|(row, item)| row.map(|r| (r, *item)))
-        .collect();
+        .filter_map(|i| Some((look_up(tables, caller, i.row)?, i)));
+    let rows: Vec<(&Row, &Item)> = found.collect();
     let copied = rows.iter().filter(|(r, _)| !r.is_end()).count();
     let copy_too_deep = |r: &Row| !r.is_end() && too_deep(&[Some(r), client]);
-    let taken_up = |r: &Row| r.port() == Some(c) || port_busy(tables, r);
     vec![
         (7, client.is_none() || rows.len() < items.len()),
         (8, client.is_some_and(|r| r.kind != Kind::Client)),
         (9, rows.iter().any(|(r, i)| !lendable(r, i.rights))),
         (10, request_on(tables, c).is_some()),
-        (10, rows.iter().any(|(r, _)| taken_up(r))),
+        (10, rows.iter().any(|(r, _)| r.port() == Some(c))),
+        (10, rows.iter().any(|(r, _)| port_busy(tables, r))),
         (15, rows.iter().any(|(r, _)| copy_too_deep(r))),
         (16, rows_short(tables, copied)),
         (17, tables.requests.len() >= REQUESTS),
@@ -224,7 +223,7 @@ fn port_busy(tables: &Tables, row: &Row) -> bool {
         .is_some_and(|port| request_on(tables, port).is_some())
 }
 
-/// The row, and the request open on its port if it is a server end.
+/// The request open on the port of a server end.
 fn server<'a>(tables: &'a Tables, row: Option<&Row>) -> Option<&'a Request> {
     let end = row.filter(|r| r.kind == Kind::Server)?;
     request_on(tables, end.object)
@@ -236,7 +235,7 @@ fn fetch(tables: &Tables, caller: u32, v: u32) -> Tests {
     vec![
         (7, row.is_none()),
         (8, row.is_some_and(|r| r.kind != Kind::Server)),
-        (11, !request.is_some_and(|q| q.fetched == 0)),
+        (11, request.is_none_or(|q| q.fetched != 0)),
     ]
 }
 
@@ -252,7 +251,7 @@ fn reply(tables: &Tables, caller: u32, v: u32) -> Tests {
         (7, row.is_none()),
         (8, row.is_some_and(|r| r.kind != Kind::Server)),
         (10, ends.iter().any(|r| port_busy(tables, r))),
-        (11, !request.is_some_and(|q| q.fetched == 1)),
+        (11, request.is_none_or(|q| q.fetched != 1)),
         (14, ends.iter().any(not_here)),
         (14, request.is_some_and(|q| lent_on(tables, q, &ends))),
     ]

@@ -83,3 +83,19 @@ pub fn run_session(input: &[u8]) -> Vec<u8> {
     }
     output
 }
+
+/// The answers with the tables after each, as the files `.dump` have them.
+pub fn dump_session(input: &[u8]) -> Vec<u8> {
+    let mut session = Session::begin(input);
+    let mut output = session.opening.print();
+    output.extend(dump(&session.tables));
+    while let Some((_, answer)) = session.step() {
+        output.extend(answer.print());
+        output.extend(dump(&session.tables));
+    }
+    output
+}
+
+fn dump(tables: &Tables) -> Vec<u8> {
+    (tables.print() + ".\n").into_bytes()
+}

@@ -211,15 +211,14 @@ fn copied<'a>(t: &'a Tables, r: &Row) -> Option<&'a Row> {
 /// "a copy has its row's kind and object".
 fn copies_alike(t: &Tables) -> bool {
     every_row(t, |r| {
-        copied(t, r).map_or(true, |s| {
-            (s.kind, s.object, s.operation) == (r.kind, r.object, r.operation)
-        })
+        copied(t, r)
+            .is_none_or(|s| (s.kind, s.object, s.operation) == (r.kind, r.object, r.operation))
     })
 }
 
 /// "and rights within it".
 fn copies_within(t: &Tables) -> bool {
-    every_row(t, |r| copied(t, r).map_or(true, |s| s.permits(r.rights)))
+    every_row(t, |r| copied(t, r).is_none_or(|s| s.permits(r.rights)))
 }
 
 /// "unused records are 0": "all 0 where p is not listed".

@@ -96,6 +96,17 @@ impl Row {
     }
 }
 
+impl Process {
+    /// The record of a process in its prime node, through none.
+    pub fn in_prime_node(prime: u32) -> Process {
+        Process {
+            prime,
+            active: prime,
+            through: 0,
+        }
+    }
+}
+
 impl Request {
     /// The items still listed, in the order asked.
     pub fn listed(&self) -> impl Iterator<Item = u32> {

@@ -23,14 +23,25 @@ fn check(opening: &str, calls: &[(&str, &str)]) {
 const ONE: &str = "(node 1 (op 1 0 7))\n(process 1 1)\n(open)\n";
 
 /// Rows 1 to 3: operations of the managers 1, 2 and 3.
-const THREE: &str =
-    "(node 1 (op 1 0 7) (op 2 0 7) (op 3 0 7))\n(process 1 1)\n(process 2 1)\n(process 3 1)\n(open)\n";
+const THREE: &str = "(node 1 (op 1 0 7) (op 2 0 7) (op 3 0 7))\n\
+    (process 1 1)\n(process 2 1)\n(process 3 1)\n(open)\n";
 
 #[test]
 fn the_session_of_the_document() {
-    let session = "(node 1 (op 2 5 7) (dir 2 3))\n(node 2 (op 3 1 1))\n(process 1 1)\n(process 2 2)\n(process 3 2)\n(open)\n(1 hold 1)\n(1 port 4)\n(1 ask 5 (4 3))\n(2 fetch 6)\n(2 port 8)\n(1 revoke 7)\n(2 ask 9)\n";
-    let expected = "(ok 0)\n(ok 4)\n(ok 5)\n(ok 7)\n(ok 7 8)\n(ok 9)\n(ok 0)\n(no 7)\n";
-    assert_eq!(answers(session), expected);
+    let opening = "(node 1 (op 2 5 7) (dir 2 3))\n(node 2 (op 3 1 1))\n\
+        (process 1 1)\n(process 2 2)\n(process 3 2)\n(open)\n";
+    check(
+        opening,
+        &[
+            ("(1 hold 1)", "(ok 4)"),
+            ("(1 port 4)", "(ok 5)"),
+            ("(1 ask 5 (4 3))", "(ok 7)"),
+            ("(2 fetch 6)", "(ok 7 8)"),
+            ("(2 port 8)", "(ok 9)"),
+            ("(1 revoke 7)", "(ok 0)"),
+            ("(2 ask 9)", "(no 7)"),
+        ],
+    );
 }
 
 #[test]
@@ -175,7 +186,8 @@ fn number_1000000_is_given_then_18() {
     session += "(1 ask 6 (2 7) (3 7) (4 7))\n(1 ask 6 (2 7))\n(1 port 2)\n(1 ask 6)\n";
     session += "(1 hold 1)\n(1 hold 1)\n(1 register 2)\n(1 port 2)\n(1 revoke 999998)\n(1 ask 6)\n";
     let printed = answers(&session);
-    let end = "(no 18)\n(ok 999998)\n(no 18)\n(no 10)\n(ok 1000000)\n(no 18)\n(no 18)\n(no 18)\n(ok 0)\n(no 18)\n";
+    let end = "(no 18)\n(ok 999998)\n(no 18)\n(no 10)\n\
+        (ok 1000000)\n(no 18)\n(no 18)\n(no 18)\n(ok 0)\n(no 18)\n";
     assert!(
         printed.ends_with(end),
         "{}",
@@ -309,7 +321,8 @@ fn two_loans_of_an_end_close_at_once() {
 /// "Letting a borrower of a subdirectory take the subdirectories in it."
 #[test]
 fn a_borrower_takes_no_subdirectories() {
-    let opening = "(node 1 (op 2 0 7) (dir 2 7))\n(node 2 (dir 1 7) (op 1 0 7))\n(process 1 1)\n(process 2 1)\n(open)\n";
+    let opening = "(node 1 (op 2 0 7) (dir 2 7))\n(node 2 (dir 1 7) (op 1 0 7))\n\
+        (process 1 1)\n(process 2 1)\n(open)\n";
     check(
         opening,
         &[

@@ -1,7 +1,7 @@
 //! All files of conformance/: sessions, sessions with dumps, tables.
 
-use model::session::{call, Session};
-use model::words::{call_entry, decode, encode};
+use model::session::{call, dump_session, Session};
+use model::words::{call_entry, decode, encode, open_entry, PROCESS_WORDS, TABLES_WORDS};
 use model::{run_session, Tables};
 use std::fs;
 use std::path::{Path, PathBuf};
@@ -39,11 +39,7 @@ fn sessions_leave_the_dumped_tables() {
     assert_eq!(dumps.len(), 6);
     for path in dumps {
         let input = fs::read(path.with_extension("session")).unwrap();
-        let mut session = Session::begin(&input);
-        let mut printed = text(&session.opening.print()) + &session.tables.print() + ".\n";
-        while let Some((_, answer)) = session.step() {
-            printed += &(text(&answer.print()) + &session.tables.print() + ".\n");
-        }
+        let printed = text(&dump_session(&input));
         let expected = fs::read_to_string(&path).unwrap();
         assert_eq!(printed, expected, "{path:?}");
     }
@@ -87,4 +83,20 @@ fn words_after_a_call() {
         compared += 1;
     }
     assert!(compared > 180, "{compared} tables compared");
+}
+
+/// The sessions through the two entry points on words.
+#[test]
+fn sessions_on_words_print_the_answers() {
+    for path in files("sessions", "session") {
+        let input = fs::read(&path).unwrap();
+        let expected = fs::read(path.with_extension("answers")).unwrap();
+        let (mut words, mut processes) = (vec![3; TABLES_WORDS], vec![3; PROCESS_WORDS]);
+        let mut printed = open_entry(&mut words, &mut processes, &input);
+        let mut session = Session::begin(&input);
+        while let Some((line, _)) = session.step() {
+            printed.extend(call_entry(&mut words, &mut processes, line));
+        }
+        assert_eq!(text(&printed), text(&expected), "{path:?}");
+    }
 }

@@ -6,6 +6,7 @@ use model::check::{self, Tally};
 use model::history::History;
 use model::random::{self, Profile, PROFILES};
 use model::session::Session;
+use std::sync::OnceLock;
 
 fn variable(name: &str, default: u64) -> u64 {
     let value = std::env::var(name).ok();
@@ -13,34 +14,50 @@ fn variable(name: &str, default: u64) -> u64 {
 }
 
 /// Runs sessions of a profile until that many calls are done.
-fn run(profile: Profile, calls: u64, length: usize, tally: &mut Tally) {
+fn run(profile: Profile, calls: u64, length: usize, tally: &mut Tally) -> Result<(), String> {
     let mut seed = variable("MODEL_SEED", 1) * 1_000_000;
     let mut left = calls;
     while left > 0 {
-        let result = check::session(seed, profile, length, tally);
-        if let Err(text) = result {
-            panic!("{profile:?}, seed {seed}: {text}");
-        }
+        check::session(seed, profile, length, tally)
+            .map_err(|text| format!("{profile:?}, seed {seed}: {text}"))?;
         seed += 1;
         left = left.saturating_sub(length as u64);
     }
+    Ok(())
 }
 
-/// About 100,000 calls; every refusal but 1 must be among the answers.
+/// All profiles, about 100,000 calls; run once for the tests below.
+fn all_profiles() -> &'static Result<Tally, String> {
+    static RESULT: OnceLock<Result<Tally, String>> = OnceLock::new();
+    RESULT.get_or_init(|| {
+        let calls = variable("MODEL_CALLS", 100_000);
+        let mut tally = Tally::new();
+        for profile in PROFILES {
+            match profile {
+                Profile::Full => run(profile, calls / 20, 1_600, &mut tally)?,
+                _ => run(profile, calls / 5, 250, &mut tally)?,
+            }
+        }
+        Ok(tally)
+    })
+}
+
 #[test]
 fn sound_and_demand_3_after_every_call() {
-    let calls = variable("MODEL_CALLS", 100_000);
-    let mut tally = Tally::new();
-    for profile in PROFILES {
-        match profile {
-            Profile::Full => run(profile, calls / 20, 1_600, &mut tally),
-            _ => run(profile, calls / 5, 250, &mut tally),
-        }
+    if let Err(text) = all_profiles() {
+        panic!("{text}");
     }
+}
+
+/// Every refusal but 1 is among the answers of these sessions.
+#[test]
+fn every_refusal_is_seen() {
+    let tally = all_profiles().as_ref().expect("sessions that pass");
     for k in (0..=18).filter(|k| *k != 1) {
         let seen = tally.get(&k).copied().unwrap_or(0);
         assert!(seen > 0, "{k} was not seen: {tally:?}");
     }
+    assert_eq!(tally.get(&1), None);
 }
 
 /// What stands and comes from, worked from number to number, is what listing

@@ -58,11 +58,21 @@ fn openings() {
 /// One line, then a good end: refused with 2 or 3 at line 1.
 #[test]
 fn opening_lines() {
-    let bad = "(node 01)|(node 1 )|( node 1)|(node  1)|(node 1) | (node 1)|()|(node)|(node 1 5)|(node 1 (op 1 1))|(node 1 (op 1 1 1 1))|(node 1 (dir 1 1 1))|(process 1)|(process 1 1 1)|(Node 1)|(node\t1)|(node 1)\r|(node 1 (op 1 1 1)(dir 1 1))|(node 1(op 1 1 1))|((node 1))|(node 1 (open))|(node (1))|(node -1)|(node +1)|(node 1|node 1)|(node 1))|(nodes 1)|(node 1 (xx 1 1))|(node 1 (op 1 1 1) )|(hold 1)|(1 go 0)|(node 1\0)|(node 99 x)";
+    let bad = "(node 01)|(node 1 )|( node 1)|(node  1)|(node 1) | (node 1)|()|(node)|\
+        (node 1 5)|(node 1 (op 1 1))|(node 1 (op 1 1 1 1))|(node 1 (dir 1 1 1))|\
+        (process 1)|(process 1 1 1)|(Node 1)|(node\t1)|(node 1)\r|\
+        (node 1 (op 1 1 1)(dir 1 1))|(node 1(op 1 1 1))|((node 1))|\
+        (node 1 (open))|(node (1))|(node -1)|(node +1)|(node 1|node 1)|\
+        (node 1))|(nodes 1)|(node 1 (xx 1 1))|(node 1 (op 1 1 1) )|(hold 1)|\
+        (1 go 0)|(node 1\0)|(node 99 x)";
     for line in bad.split('|') {
         assert_eq!(first(&format!("{line}\n(open)\n")), "(no 2 1)", "{line:?}");
     }
-    let out_of_range = "(node 0)|(node 33)|(process 0 1)|(process 65 1)|(process 1 0)|(process 1 33)|(node 1 (op 0 0 0))|(node 1 (op 65 0 0))|(node 1 (op 1 256 0))|(node 1 (op 1 0 8))|(node 1 (dir 0 0))|(node 1 (dir 33 0))|(node 1 (dir 1 8))|(node 4294967297)|(node 18446744073709551617)";
+    let out_of_range = "(node 0)|(node 33)|(process 0 1)|(process 65 1)|(process 1 0)|\
+        (process 1 33)|(node 1 (op 0 0 0))|(node 1 (op 65 0 0))|\
+        (node 1 (op 1 256 0))|(node 1 (op 1 0 8))|(node 1 (dir 0 0))|\
+        (node 1 (dir 33 0))|(node 1 (dir 1 8))|(node 4294967297)|\
+        (node 18446744073709551617)";
     for line in out_of_range.split('|') {
         assert_eq!(first(&format!("{line}\n(open)\n")), "(no 3 1)", "{line:?}");
     }
@@ -96,35 +106,60 @@ fn line_length() {
     assert_eq!(hold(247), "(ok 0)\n(no 2)\n");
 }
 
-/// Call lines on a node with one operation of process 1, which has no row.
+/// Call lines by the refusal they get on a node with one operation of process
+/// 1, which has no row.
+const REFUSED_LINES: [(u32, &str); 6] = [
+    (
+        2,
+        "|(1 go 0)\n|(1 go 0)\n(1 go 0)|(1 go 0) | (1 go 0)|(1  go 0)|(1 go 0))|\
+        ((1 go 0))|(1 GO 0)|(1 go\x000)|(1 comes 1 1)|(go 0)|(open)|(comes 1)|\
+        (comes 1 1 1)|(1 go)|(1 go 0 0)|(1 ask)|(1 ask 5 5)|(1 ask 5 (5))|\
+        (1 ask 5 (5 1 1))|(1 ask (5 1))|(1 hold (1))|(1 fly 1)|(01 go 0)|(1 go 00)|\
+        (1 go -1)|(1 go 0)\r|(99 ask 99999999 (1 9) (1 9) x)|(1 ask 5 (5 1)(6 1))|\
+        (1 ask 5 (5 1) )|go|(process 1 1)|(node 1)|(1 goo 0)|(1 g 0)",
+    ),
+    (
+        3,
+        "(0 go 0)|(65 go 0)|(1 go 1000001)|(1 hold 0)|(1 hold 18446744073709551617)|\
+        (1 hold 4294967297)|(comes 0 1)|(comes 1 0)|(comes 1000001 1)|(1 ask 0)|\
+        (1 ask 5 (0 1))|(1 ask 5 (1 8))|(2 ask 5 (1 8) (1 8))|(1 revoke 0)|\
+        (1 ask 5 (1 0) (1 0) (1 0) (1 0) (1 9))",
+    ),
+    (
+        4,
+        "(1 ask 5 (1 0) (1 1))|(2 ask 5 (1 0) (1 0))|\
+        (1 ask 5 (1 0) (2 0) (3 0) (4 0) (1 0))",
+    ),
+    (
+        5,
+        "(2 go 0)|(2 go 9)|(64 hold 1)|(2 ask 1 (1 0) (2 0) (3 0) (4 0) (5 0))",
+    ),
+    (6, "(1 ask 1 (1 0) (2 0) (3 0) (4 0) (5 0))"),
+    (
+        7,
+        "(1 go 1000000)|(1 go 1)|(comes 1 1)|(1 hold 2)|(1 revoke 1)|\
+        (1 ask 1 (1 0) (2 0) (3 0) (4 0))",
+    ),
+];
+
 #[test]
 fn call_lines() {
     let (tables, answer, _) = open(b"(node 1 (op 1 0 7))\n(process 1 1)\n(open)\n");
     assert!(answer.accepted());
-    let check = |lines: &str, k: u32| {
-        for line in lines.split('|') {
-            let mut after = tables.clone();
-            let answer = call(&mut after, format!("{line}\n").as_bytes());
-            assert_eq!(answer.refusal(), Some(k), "{line:?}");
-            assert_eq!(after, tables);
-        }
+    let answer = |line: &str| {
+        let mut after = tables.clone();
+        let answer = call(&mut after, line.as_bytes());
+        assert!(answer.accepted() || after == tables, "{line:?}");
+        answer.refusal()
     };
-    check("|(1 go 0)\n|(1 go 0)\n(1 go 0)|(1 go 0) | (1 go 0)|(1  go 0)|(1 go 0))|((1 go 0))|(1 GO 0)|(1 go\x000)|(1 comes 1 1)|(go 0)|(open)|(comes 1)|(comes 1 1 1)|(1 go)|(1 go 0 0)|(1 ask)|(1 ask 5 5)|(1 ask 5 (5))|(1 ask 5 (5 1 1))|(1 ask (5 1))|(1 hold (1))|(1 fly 1)|(01 go 0)|(1 go 00)|(1 go -1)|(1 go 0)\r|(99 ask 99999999 (1 9) (1 9) x)|(1 ask 5 (5 1)(6 1))|(1 ask 5 (5 1) )|go|(process 1 1)|(node 1)|(1 goo 0)|(1 g 0)", 2);
-    check("(0 go 0)|(65 go 0)|(1 go 1000001)|(1 hold 0)|(1 hold 18446744073709551617)|(1 hold 4294967297)|(comes 0 1)|(comes 1 0)|(comes 1000001 1)|(1 ask 0)|(1 ask 5 (0 1))|(1 ask 5 (1 8))|(2 ask 5 (1 8) (1 8))|(1 revoke 0)|(1 ask 5 (1 0) (1 0) (1 0) (1 0) (1 9))", 3);
-    check(
-        "(1 ask 5 (1 0) (1 1))|(2 ask 5 (1 0) (1 0))|(1 ask 5 (1 0) (2 0) (3 0) (4 0) (1 0))",
-        4,
-    );
-    check(
-        "(2 go 0)|(2 go 9)|(64 hold 1)|(2 ask 1 (1 0) (2 0) (3 0) (4 0) (5 0))",
-        5,
-    );
-    check("(1 ask 1 (1 0) (2 0) (3 0) (4 0) (5 0))", 6);
-    check("(1 go 1000000)|(1 go 1)|(comes 1 1)|(1 hold 2)|(1 revoke 1)|(1 ask 1 (1 0) (2 0) (3 0) (4 0))", 7);
-    let mut after = tables.clone();
-    assert_eq!(call(&mut after, b"").refusal(), Some(2));
-    assert_eq!(call(&mut after, b"(1 go 0)").refusal(), Some(2));
-    assert_eq!(call(&mut after, b"(1 go 0)\n").refusal(), None);
+    for (k, lines) in REFUSED_LINES {
+        for line in lines.split('|') {
+            assert_eq!(answer(&format!("{line}\n")), Some(k), "{line:?}");
+        }
+    }
+    assert_eq!(answer(""), Some(2));
+    assert_eq!(answer("(1 go 0)"), Some(2));
+    assert_eq!(answer("(1 go 0)\n"), None);
 }
 
 /// "what follows it is not read"; the last line without a line feed is a call.
@@ -205,7 +240,7 @@ fn any_bytes() {
     for round in 0..20_000 {
         let length = rng.below(80);
         let byte = |_| match round % 2 {
-            0 => rng.next() as u8,
+            0 => rng.word() as u8,
             _ => rng.pick(alphabet).unwrap_or(0),
         };
         let bytes: Vec<u8> = (0..length).map(byte).collect();

@@ -12,54 +12,63 @@ fn fresh() -> (Vec<u32>, Vec<u32>) {
     (vec![0; TABLES_WORDS], vec![0; PROCESS_WORDS])
 }
 
-/// The words of a session, place by place, worked out by hand.
+/// An opening and calls on words, each with its answer.
+fn run(text: &str, calls: &[(&str, &str)]) -> (Vec<u32>, Vec<u32>) {
+    let (mut words, mut processes) = fresh();
+    let answer = open_entry(&mut words, &mut processes, text.as_bytes());
+    assert_eq!(answer, b"(ok 0)\n");
+    for (line, expected) in calls {
+        let line = format!("{line}\n");
+        let answer = call_entry(&mut words, &mut processes, line.as_bytes());
+        assert_eq!(answer, format!("{expected}\n").as_bytes(), "{line}");
+    }
+    (words, processes)
+}
+
+const CALLS: [(&str, &str); 11] = [
+    ("(1 hold 1)", "(ok 3)"),
+    ("(1 hold 2)", "(ok 4)"),
+    ("(1 go 4)", "(ok 0)"),
+    ("(1 drop 3)", "(ok 0)"),
+    ("(1 hold 1)", "(ok 5)"),
+    ("(1 port 5)", "(ok 6)"),
+    ("(1 port 5)", "(ok 8)"),
+    ("(1 ask 6 (4 3) (9 0) (5 2))", "(no 7)"),
+    ("(1 ask 6 (4 3) (8 0) (5 2))", "(ok 10)"),
+    ("(2 fetch 7)", "(ok 10 11 8 12)"),
+    ("(2 drop 11)", "(ok 0)"),
+];
+
+/// The rows 1, 2, 4, 5, 6, 7, 8, 9 and 12 after these calls, one column a
+/// line, worked out by hand.
+const ROW_COLUMNS: [[u32; 10]; 10] = [
+    [1, 2, 4, 5, 6, 7, 8, 9, 12, 0],
+    [1, 2, 2, 1, 3, 4, 3, 4, 1, 0],
+    [2, 3, 3, 2, 6, 6, 8, 8, 2, 0],
+    [5, 0, 0, 5, 0, 0, 0, 0, 5, 0],
+    [7, 3, 3, 7, 0, 0, 0, 0, 2, 0],
+    [3, 3, 101, 101, 101, 102, 102, 102, 102, 0],
+    [0, 0, 2, 1, 4, 4, 4, 4, 4, 0],
+    [0, 0, 0, 3, 0, 0, 0, 0, 5, 0],
+    [1, 1, 2, 3, 4, 4, 4, 4, 5, 0],
+    [0, 0, 0, 0, 0, 0, 0, 0, 10, 0],
+];
+
+/// The columns of request 10: item 11 was dropped and left a 0.
+const REQUEST_COLUMNS: [u32; 8] = [10, 6, 1, 1, 0, 8, 12, 0];
+
 #[test]
 fn layout() {
     assert_eq!((TABLES_WORDS, PROCESS_WORDS), (11_265, 192));
-    let (mut words, mut processes) = fresh();
-    let text = b"(node 3 (op 2 5 7) (dir 3 3))\n(process 1 3)\n(process 2 3)\n(open)\n";
-    assert_eq!(open_entry(&mut words, &mut processes, text), b"(ok 0)\n");
-    for (line, answer) in [
-        ("(1 hold 1)\n", "(ok 3)\n"),
-        ("(1 hold 2)\n", "(ok 4)\n"),
-        ("(1 go 4)\n", "(ok 0)\n"),
-        ("(1 drop 3)\n", "(ok 0)\n"),
-        ("(1 hold 1)\n", "(ok 5)\n"),
-        ("(1 port 5)\n", "(ok 6)\n"),
-        ("(1 port 5)\n", "(ok 8)\n"),
-        ("(1 ask 6 (4 3) (9 0) (5 2))\n", "(no 7)\n"),
-        ("(1 ask 6 (4 3) (8 0) (5 2))\n", "(ok 10)\n"),
-        ("(2 fetch 7)\n", "(ok 10 11 8 12)\n"),
-        ("(2 drop 11)\n", "(ok 0)\n"),
-    ] {
-        let printed = call_entry(&mut words, &mut processes, line.as_bytes());
-        assert_eq!(String::from_utf8(printed).unwrap(), answer, "{line}");
-    }
-    // Rows 1, 2, 4, 5, 6, 7, 8, 9 and 12; one column a line.
-    let columns: [[u32; 10]; 10] = [
-        [1, 2, 4, 5, 6, 7, 8, 9, 12, 0],
-        [1, 2, 2, 1, 3, 4, 3, 4, 1, 0],
-        [2, 3, 3, 2, 6, 6, 8, 8, 2, 0],
-        [5, 0, 0, 5, 0, 0, 0, 0, 5, 0],
-        [7, 3, 3, 7, 0, 0, 0, 0, 2, 0],
-        [3, 3, 101, 101, 101, 102, 102, 102, 102, 0],
-        [0, 0, 2, 1, 4, 4, 4, 4, 4, 0],
-        [0, 0, 0, 3, 0, 0, 0, 0, 5, 0],
-        [1, 1, 2, 3, 4, 4, 4, 4, 5, 0],
-        [0, 0, 0, 0, 0, 0, 0, 0, 10, 0],
-    ];
-    for (column, expected) in columns.iter().enumerate() {
+    let text = "(node 3 (op 2 5 7) (dir 3 3))\n(process 1 3)\n(process 2 3)\n(open)\n";
+    let (words, processes) = run(text, &CALLS);
+    for (column, expected) in ROW_COLUMNS.iter().enumerate() {
         let start = column * 1024;
         assert_eq!(words[start..start + 10], expected[..], "column {column}");
     }
-    let requests = [10, 6, 1, 1, 0, 8, 12, 0];
-    for (column, expected) in requests.into_iter().enumerate() {
+    for (column, expected) in REQUEST_COLUMNS.into_iter().enumerate() {
         let start = 10_240 + column * 128;
-        assert_eq!(
-            words[start..start + 2],
-            [expected, 0],
-            "request column {column}"
-        );
+        assert_eq!(words[start..start + 2], [expected, 0], "request {column}");
     }
     assert_eq!(words[NEXT], 13);
     assert_eq!(processes[..7], [3, 3, 4, 3, 3, 0, 0]);
@@ -233,7 +242,7 @@ fn any_words() {
         let small = round % 2 == 0;
         let mut word = |_| match small {
             true => rng.below(6) as u32,
-            false => rng.next() as u32,
+            false => rng.word() as u32,
         };
         let mut t: Vec<u32> = (0..tables).map(&mut word).collect();
         let mut p: Vec<u32> = (0..processes).map(&mut word).collect();

@@ -256,6 +256,28 @@ misreadings =
         ∷ [];
     }
     ∷ record {
+      name = "an end lent on over a port that goes with the loan goes to the lender of the oldest request closed";
+      opening = offices;
+      opened = "(ok 0)";
+      calls =
+        "(1 hold 1)" ⇒ "(ok 7)"
+        ∷ "(1 port 7)" ⇒ "(ok 8)"
+        ∷ "(1 hold 2)" ⇒ "(ok 10)"
+        ∷ "(1 port 10)" ⇒ "(ok 11)"
+        -- 1 lends the end 11 and the operation 10 to 2; 2 makes port 15 from the copy 14 and lends 11 on over it
+        ∷ "(1 ask 8 (11 0) (10 3))" ⇒ "(ok 13)"
+        ∷ "(2 fetch 9)" ⇒ "(ok 13 11 14)"
+        ∷ "(2 port 14)" ⇒ "(ok 15)"
+        ∷ "(2 ask 15 (11 0))" ⇒ "(ok 17)"
+        ∷ "(3 fetch 16)" ⇒ "(ok 17 11)"
+        ∷ "(1 revoke 13)" ⇒ "(ok 0)"
+        ∷ "(2 revoke 17)" ⇒ "(no 7)"
+        ∷ "(3 ask 11)" ⇒ "(no 7)"
+        ∷ "(2 ask 11)" ⇒ "(no 7)"
+        ∷ "(1 ask 11)" ⇒ "(ok 18)"
+        ∷ [];
+    }
+    ∷ record {
       name = "a borrower of a subdirectory may not take the subdirectories in it";
       opening = offices;
       opened = "(ok 0)";

@@ -288,7 +288,7 @@ fn ports_stand(rng: &mut Rng, t: &mut Tables) -> Option<()> {
     let other = number(rng, t, |r| r.kind != Kind::Client)?;
     let next = t.next;
     let clients = t.rows.iter().filter(|r| r.kind == Kind::Client);
-    let newest = clients.last().map_or(next, |r| r.number);
+    let newest = clients.map(|r| r.number).max().unwrap_or(next);
     let altered = request(rng, t, |_| true)?;
     altered.port = match rng.below(3) {
         0 => other,
@@ -300,7 +300,7 @@ fn ports_stand(rng: &mut Rng, t: &mut Tables) -> Option<()> {
 
 fn newer_than_ends(rng: &mut Rng, t: &mut Tables) -> Option<()> {
     let ends = t.rows.iter().filter(|r| r.is_end());
-    let newest = ends.last()?.number;
+    let newest = ends.map(|r| r.number).max()?;
     let altered = request(rng, t, |q| q.number < newest && !q.lists(newest))?;
     altered.items[rng.below(ITEMS)] = Some(newest);
     let place = match altered.fetched {

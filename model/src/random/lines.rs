@@ -33,10 +33,10 @@ const PLANS: [Plan; 12] = [
 /// How likely each plan is, in the order of `PLANS`.
 fn weights(profile: Profile, tables: &Tables) -> [u32; 12] {
     match profile {
-        Profile::Tiny => [8, 12, 5, 6, 10, 4, 16, 12, 8, 5, 7, 7],
-        Profile::Loans => [4, 12, 3, 4, 12, 3, 26, 16, 7, 4, 6, 3],
+        Profile::Tiny => [8, 10, 5, 6, 10, 3, 24, 16, 5, 3, 4, 6],
+        Profile::Loans => [4, 10, 3, 4, 13, 2, 32, 20, 4, 2, 3, 3],
         Profile::Nested => [1, 6, 1, 2, 16, 1, 36, 24, 4, 3, 4, 2],
-        Profile::Directories => [18, 22, 9, 6, 7, 2, 14, 10, 4, 2, 4, 2],
+        Profile::Directories => [18, 20, 8, 6, 7, 1, 18, 14, 2, 1, 3, 2],
         Profile::Deep => [12, 20, 10, 2, 16, 1, 18, 16, 1, 1, 2, 1],
         Profile::Full if tables.rows.len() < 1022 => [2, 40, 6, 0, 26, 0, 26, 5, 0, 0, 0, 1],
         Profile::Full => [2, 20, 6, 20, 12, 2, 20, 8, 3, 2, 3, 2],

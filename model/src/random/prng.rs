@@ -9,7 +9,7 @@ impl Rng {
         Rng { state: seed }
     }
 
-    pub fn next(&mut self) -> u64 {
+    pub fn word(&mut self) -> u64 {
         self.state = self.state.wrapping_add(0x9e37_79b9_7f4a_7c15);
         let mut z = self.state;
         z = (z ^ (z >> 30)).wrapping_mul(0xbf58_476d_1ce4_e5b9);
@@ -21,7 +21,7 @@ impl Rng {
     pub fn below(&mut self, limit: usize) -> usize {
         match limit {
             0 => 0,
-            _ => (self.next() % limit as u64) as usize,
+            _ => (self.word() % limit as u64) as usize,
         }
     }
 
