@@ -3,3 +3,5 @@
 pub mod Fit
 -- what holds of the tables and the history after each call
 pub mod Inv
+-- what a sweep of the notes leaves
+pub mod Sweep
