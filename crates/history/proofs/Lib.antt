@@ -9,3 +9,5 @@ pub mod Sweep
 pub mod Gone
 -- what the history computes is what its words mean: to stand is to have no chain that uses anything dropped or closed
 pub mod Standing
+-- comes from, computed in one pass over the notes, is what the word means
+pub mod Comes

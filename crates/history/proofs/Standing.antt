@@ -16,12 +16,12 @@ use Rattle.history.proofs.Sweep.{rising, sourced, rising-rest, rising-f
 use Rattle.history.proofs.Gone.{GoneTest, make-whole, noted-number, port-noted, port-bears-none, port-kept, asked-port, stands-eq, stands-noted, chain-falls, gone-test}
 
 -- one that fails the test, if not all pass it
-record Fails (f : ℕ → Bool) (ss : List ℕ) : Type 0 where
-  one : ℕ
-  is : member one ss ≡ true
-  fails : f one ≡ false
+pub record Fails (f : ℕ → Bool) (ss : List ℕ) : Type 0 where
+  pub one : ℕ
+  pub is : member one ss ≡ true
+  pub fails : f one ≡ false
 
-some-fails : (f : ℕ → Bool) (ss : List ℕ) → all f ss ≡ false → Fails f ss
+pub some-fails : (f : ℕ → Bool) (ss : List ℕ) → all f ss ≡ false → Fails f ss
 unfolding all member
 some-fails f [] e = clash refl e
 some-fails f (s ∷ ss) e = pick (some-fails f ss) (f s) refl e
