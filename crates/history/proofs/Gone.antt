@@ -1,17 +1,17 @@
 -- What is dropped or closed takes with it every row whose chain uses it: none of those stands.
-use Prim.Native.Nat.{ℕ, zero, suc, _<_}
+use Prim.Native.Nat.{ℕ, suc, _<_}
 use mathlib.Core.Bool.{Bool, true, false, not, _&&_, _||_, false≢true}
 use mathlib.Core.List.{List, [], _∷_, map}
 use mathlib.Core.Path.{_≡_, refl, sym, ap, _∙_, subst}
-use mathlib.Core.Logic.{_⊎_, inl, inr, ⊎-elim}
+use mathlib.Core.Logic.{inl, inr, ⊎-elim}
 use lib.Dec.{eqb}
 use borrow.Author.Tests.{eqb-true, ne-eqb}
 use native.Mathlib.Omega.{arith}
-use Rattle.rows.specs.Lists.{all, member, some, sameList, firstWith}
-use Rattle.rows.proofs.Bools.{false-of, true-of, clash, and-l, and-r, and-i, not-t, or-l, or-r, or-fl, or-fr, or-cases, pos-some, some-pos, all-at, eqb-self}
+use Rattle.rows.specs.Lists.{all, member, some, sameList}
+use Rattle.rows.proofs.Bools.{false-of, clash, and-l, and-r, and-i, not-t, or-l, or-r, or-fl, or-fr, or-cases, pos-some, some-pos, all-at, eqb-self}
 use Rattle.rows.proofs.Keyed.{first-key, first-there, all-first}
-use Rattle.history.specs.Notes.{Noted, Loan, History, noted, nothingNoted, notedOf, noLoan, loanOf, spoiled, sweep, standing, stands, isClosed}
-use Rattle.history.specs.Chains.{Thing, aRow, aRequest, aPort, IsNoted, IsText, IsSource, Chain, ends, leads, RowUses, Uses, IsPort, AskedOver, Gone, rowDropped, requestClosed, portClosed, operationFell, portFell}
+use Rattle.history.specs.Notes.{Noted, Loan, History, noted, nothingNoted, notedOf, noLoan, loanOf, spoiled, standing, stands, isClosed}
+use Rattle.history.specs.Chains.{Thing, aRow, aRequest, aPort, IsNoted, IsSource, Chain, ends, leads, RowUses, Uses, IsPort, AskedOver, Gone, rowDropped, requestClosed, portClosed, operationFell, portFell}
 use Rattle.history.proofs.Fit.{Fit, bearsWell, endsWell, portNoted}
 use Rattle.history.proofs.Sweep.{sweep-sub, sweep-eq}
 
@@ -38,32 +38,32 @@ unfolding bearsWell
 bears-open vs r q h e t =
     subst (λ q. (loanOf vs q .number ≡ q) × (member (loanOf vs q .port) (r .sources) ≡ true)) e
     (
-      let w = unless-none (r .request) _ (rw e h) t in
-      (eqb-true _ _ (and-l _ (member (loanOf vs (r .request) .port) (r .sources) && eqb (r .port) 0) w), and-l _ (eqb (r .port) 0) (and-r (eqb (loanOf vs (r .request) .number) (r .request)) _ w))
+    let w = unless-none (r .request) _ (rw e h) t in
+    (eqb-true _ _ (and-l _ (member (loanOf vs (r .request) .port) (r .sources) && eqb (r .port) 0) w), and-l _ (eqb (r .port) 0) (and-r (eqb (loanOf vs (r .request) .number) (r .request)) _ w))
     )
 
 -- the client end of row r, an end of port c
-pub record ClientOf (rs : List Noted) (r : Noted) (c : ℕ) : Type 0 where
-  pub number : notedOf rs c .number ≡ c
-  pub port : notedOf rs c .port ≡ c
-  pub sources : notedOf rs c .sources ≡ r .sources
-  pub bearsNone : r .request ≡ 0
+record ClientOf (rs : List Noted) (r : Noted) (c : ℕ) : Type 0 where
+  number : notedOf rs c .number ≡ c
+  port : notedOf rs c .port ≡ c
+  sources : notedOf rs c .sources ≡ r .sources
+  bearsNone : r .request ≡ 0
 
 ends-open : (rs : List Noted) (r : Noted) (c : ℕ) → 0 < c → r .port ≡ c → endsWell rs r ≡ true → ClientOf rs r c
 unfolding endsWell
 ends-open rs r c h e t =
     subst (ClientOf rs r) e
     (
-      let k = notedOf rs (r .port) in
-      let w0 = and-r (eqb (r .number) (r .port) || eqb (r .number) (suc (r .port))) _ (unless-none (r .port) _ (rw e h) t) in
-      let w1 = and-r (eqb (k .number) (r .port)) _ w0 in
-      let w2 = and-r (eqb (k .port) (r .port)) _ w1 in
-      record {
-        number = eqb-true (k .number) (r .port) (and-l _ _ w0);
-        port = eqb-true (k .port) (r .port) (and-l _ _ w1);
-        sources = same-list (k .sources) (r .sources) (and-l _ (eqb (r .request) 0) w2);
-        bearsNone = eqb-true (r .request) 0 (and-r (sameList (k .sources) (r .sources)) _ w2);
-      }
+    let k = notedOf rs (r .port) in
+    let w0 = and-r (eqb (r .number) (r .port) || eqb (r .number) (suc (r .port))) _ (unless-none (r .port) _ (rw e h) t) in
+    let w1 = and-r (eqb (k .number) (r .port)) _ w0 in
+    let w2 = and-r (eqb (k .port) (r .port)) _ w1 in
+    record {
+      number = eqb-true (k .number) (r .port) (and-l _ _ w0);
+      port = eqb-true (k .port) (r .port) (and-l _ _ w1);
+      sources = same-list (k .sources) (r .sources) (and-l _ (eqb (r .request) 0) w2);
+      bearsNone = eqb-true (r .request) 0 (and-r (sameList (k .sources) (r .sources)) _ w2);
+    }
     )
 
 -- ---- a row that is not spoiled
@@ -96,18 +96,19 @@ module _ (h : History) (fit : Fit h) where
   unfolding IsNoted noted notedOf
   noted-number n t = first-key (λ r. r .number) nothingNoted (h .rows) n t
 
-  pub bears-at : (n q : ℕ) → IsNoted h n → 0 < q → notedOf (h .rows) n .request ≡ q → AskedOver h q (loanOf (h .requests) q .port) × IsSource h (loanOf (h .requests) q .port) n
+  -- a row that bears a request has its port for a source
+  bears-at : (n q : ℕ) → IsNoted h n → 0 < q → notedOf (h .rows) n .request ≡ q → AskedOver h q (loanOf (h .requests) q .port) × IsSource h (loanOf (h .requests) q .port) n
   unfolding IsNoted IsSource noted
   bears-at n q t p e =
       let (a, b) = bears-open (h .requests) (notedOf (h .rows) n) q p e (unfold notedOf in all-first (λ r. r .number) nothingNoted (bearsWell (h .requests)) (h .rows) n (fit .rows-bear) t) in
       (record { isNumber = p; request = a; port = refl }, b)
 
-  pub client-of : (n c : ℕ) → IsNoted h n → 0 < c → notedOf (h .rows) n .port ≡ c → ClientOf (h .rows) (notedOf (h .rows) n) c
+  client-of : (n c : ℕ) → IsNoted h n → 0 < c → notedOf (h .rows) n .port ≡ c → ClientOf (h .rows) (notedOf (h .rows) n) c
   unfolding IsNoted noted
   client-of n c t p e =
       ends-open (h .rows) (notedOf (h .rows) n) c p e (unfold notedOf in all-first (λ r. r .number) nothingNoted (endsWell (h .rows)) (h .rows) n (fit .rows-end) t)
 
-  -- a port is noted, and bears no request
+  -- a port is noted, bears no request, and was not dropped
   pub port-noted : (c : ℕ) → IsPort h c → IsNoted h c
   unfolding IsPort IsNoted noted notedOf nothingNoted
   port-noted c (p, e) = first-there (λ r. r .number) nothingNoted (λ r. eqb (r .port) c) (ne-eqb 0 c (λ z. omega arith)) (h .rows) c (rw e (eqb-self c))
@@ -143,10 +144,10 @@ module _ (h : History) (fit : Fit h) where
   unfolding IsNoted stands standing
   stands-noted n t = sweep-sub (spoiled h) (h .rows) n t
 
-  stands-whole : (n : ℕ) → stands h n ≡ true → spoiled h (notedOf (h .rows) n) ≡ false
+  pub stands-whole : (n : ℕ) → stands h n ≡ true → spoiled h (notedOf (h .rows) n) ≡ false
   stands-whole n t = not-t _ (and-l _ (all (stands h) (notedOf (h .rows) n .sources)) (sym (stands-eq n (stands-noted n t)) ∙ t))
 
-  stands-source : (n s : ℕ) → stands h n ≡ true → IsSource h s n → stands h s ≡ true
+  pub stands-source : (n s : ℕ) → stands h n ≡ true → IsSource h s n → stands h s ≡ true
   unfolding IsSource
   stands-source n s t i =
       all-at (stands h) (notedOf (h .rows) n .sources) (and-r (not (spoiled h (notedOf (h .rows) n))) _ (sym (stands-eq n (stands-noted n t)) ∙ t)) s i

@@ -1,5 +1,5 @@
 -- What the history computes is what its words mean: a row stands just if no chain of it uses anything dropped or closed.
-use Prim.Native.Nat.{ℕ, zero, suc, _<_}
+use Prim.Native.Nat.{ℕ}
 use mathlib.Core.Bool.{Bool, true, false, not, _&&_, _||_}
 use mathlib.Core.List.{List, [], _∷_}
 use mathlib.Core.Path.{_≡_, refl, sym, ap, _∙_}
@@ -7,7 +7,7 @@ use mathlib.Core.Logic.{_⊎_, inl, inr, ⊎-elim, _↔_}
 use lib.Dec.{eqb}
 use native.Mathlib.Omega.{arith}
 use Rattle.rows.specs.Lists.{all, member, some}
-use Rattle.rows.proofs.Bools.{false-of, true-of, clash, and-l, and-r, not-t, not-f, or-l, or-r, or-cases, some-pos, all-at, eqb-self, eqb-sym-f, member-here}
+use Rattle.rows.proofs.Bools.{true-of, clash, and-l, and-r, not-t, or-r, or-cases, some-pos, all-at, eqb-sym-f, member-here}
 use Rattle.rows.proofs.Keyed.{all-first}
 use Rattle.history.specs.Notes.{Noted, History, noted, nothingNoted, notedOf, loanOf, spoiled, stands, isClosed}
 use Rattle.history.specs.Chains.{Thing, aRow, aRequest, aPort, IsNoted, IsText, IsSource, Chain, ends, leads, RowUses, Uses, IsPort, AskedOver, Gone, rowDropped, requestClosed, portClosed, operationFell, portFell, Stands}
@@ -60,11 +60,11 @@ module _ (h : History) (P : ℕ → Type 0) (step : (n : ℕ) → IsNoted h n �
   by-sources fit n t = for-part (h .rows) (fit .rows-rise) (fit .sources-older) (record { there = λ n t. t; same = λ n t. refl }) n t
 
 -- ---- a row that does not stand has a chain that uses something gone
-pub record Broken (h : History) (n : ℕ) : Type 0 where
-  pub chain : Chain h n
-  pub thing : Thing
-  pub uses : Uses h chain thing
-  pub gone : Gone h thing
+record Broken (h : History) (n : ℕ) : Type 0 where
+  chain : Chain h n
+  thing : Thing
+  uses : Uses h chain thing
+  gone : Gone h thing
 
 -- a chain of each row, and a broken one of each that does not stand
 record Found (h : History) (n : ℕ) : Type 0 where
@@ -92,12 +92,19 @@ module _ (h : History) (fit : Fit h) where
   -- a spoiled row uses something gone
   spoiled-uses : (n : ℕ) → IsNoted h n → spoiled h (notedOf (h .rows) n) ≡ true → (x : Thing) × RowUses h n x × Gone h x
   unfolding spoiled RowUses
-  spoiled-uses n t e =
-      let r = notedOf (h .rows) n in
-      ⊎-elim (λ d. (aRow n, refl, rowDropped n (ap (λ k. member k (h .dropped)) (sym (noted-number h fit n t)) ∙ d)))
-      (λ w. ⊎-elim (λ q. (aRequest (r .request), (some-pos _ (and-l _ _ q), refl), requestClosed _ (and-r (some (r .request)) _ q)))
-      (λ c. (aPort (r .port), (some-pos _ (and-l _ _ c), refl), portClosed _ (and-r (some (r .port)) _ c))) (or-cases (some (r .request) && member (r .request) (h .closedRequests)) (some (r .port) && member (r .port) (h .closedPorts)) w))
-      (or-cases (member (r .number) (h .dropped)) ((some (r .request) && member (r .request) (h .closedRequests)) || (some (r .port) && member (r .port) (h .closedPorts))) e)
+  spoiled-uses n t e = ⊎-elim by-drop (λ w. ⊎-elim by-request by-port (or-cases _ (some (r .port) && member (r .port) (h .closedPorts)) w)) (or-cases (member (r .number) (h .dropped)) _ e)
+    where
+      r : Noted
+      r = notedOf (h .rows) n
+
+      by-drop : member (r .number) (h .dropped) ≡ true → (x : Thing) × RowUses h n x × Gone h x
+      by-drop d = (aRow n, refl, rowDropped n (ap (λ k. member k (h .dropped)) (sym (noted-number h fit n t)) ∙ d))
+
+      by-request : some (r .request) && member (r .request) (h .closedRequests) ≡ true → (x : Thing) × RowUses h n x × Gone h x
+      by-request q = (aRequest (r .request), (some-pos _ (and-l _ _ q), refl), requestClosed _ (and-r (some (r .request)) _ q))
+
+      by-port : some (r .port) && member (r .port) (h .closedPorts) ≡ true → (x : Thing) × RowUses h n x × Gone h x
+      by-port c = (aPort (r .port), (some-pos _ (and-l _ _ c), refl), portClosed _ (and-r (some (r .port)) _ c))
 
   -- a row is of the text, or has a source
   root : (n : ℕ) → IsNoted h n → IsText h n ⊎ ((s : ℕ) × IsSource h s n)
@@ -114,7 +121,7 @@ module _ (h : History) (fit : Fit h) where
       record {
         chain = whole;
         broken = λ z. ⊎-elim (λ e. let (x, u, g) = spoiled-uses n t e in record { chain = whole; thing = x; uses = uses-first h whole x u; gone = g })
-          (λ w. broken-source h n (w .one) (w .is) (ih (w .one) (w .is) .broken (w .fails))) (falls-by n t z);
+            (λ w. broken-source h n (w .one) (w .is) (ih (w .one) (w .is) .broken (w .fails))) (falls-by n t z);
       }
     where
       whole : Chain h n
@@ -127,9 +134,6 @@ module _ (h : History) (fit : Fit h) where
   unfolding IsNoted IsSource
   source-noted n s i = all-at (λ s. member s (noted (h .rows))) (notedOf (h .rows) n .sources) (sourced-at (h .rows) (fit .sources-older) n) s i
 
-  pub broken-row : (n : ℕ) → IsNoted h n → stands h n ≡ false → Broken h n
-  broken-row n t z = found n t .broken z
-
   -- a port whose client end does not stand is closed
   pub port-gone : (c : ℕ) → IsPort h c → stands h c ≡ false → Gone h (aPort c)
   unfolding IsPort IsSource
@@ -138,16 +142,13 @@ module _ (h : History) (fit : Fit h) where
       t : IsNoted h c
       t = port-noted h fit c p
 
+      whole : member c (h .closedPorts) ≡ false → spoiled h (notedOf (h .rows) c) ≡ false
+      whole f =
+          make-whole h (notedOf (h .rows) c) (rw (noted-number h fit c t) (port-kept h fit c p)) (λ q. let none = port-bears-none h fit c p in absurd (omega arith))
+          (λ q. rw (p .1) f)
+
       by-call : spoiled h (notedOf (h .rows) c) ≡ true → Gone h (aPort c)
-      by-call e =
-          portClosed c
-          (
-            true-of _
-            (
-              λ f. clash e
-              (make-whole h (notedOf (h .rows) c) (rw (noted-number h fit c t) (port-kept h fit c p)) (λ q. let none = port-bears-none h fit c p in absurd (omega arith)) (λ q. rw (p .1) f))
-            )
-          )
+      by-call e = portClosed c (true-of _ (λ f. clash e (whole f)))
 
       by-operation : Fails (stands h) (notedOf (h .rows) c .sources) → Gone h (aPort c)
       by-operation w =
@@ -158,7 +159,7 @@ module _ (h : History) (fit : Fit h) where
 pub stands-chains : (h : History) → Fit h → (n : ℕ) → (stands h n ≡ true) ↔ Stands h n
 stands-chains h fit n = (
   λ t. record { isNoted = stands-noted h fit n t; unbroken = λ k x u g. clash t (chain-falls h fit k x u (gone-test h fit x g)) },
-  λ s. true-of _ (λ z. let b = broken-row h fit n (s .isNoted) z in s .unbroken (b .chain) (b .thing) (b .uses) (b .gone)),
+  λ s. true-of _ (λ z. let b = found h fit n (s .isNoted) .broken z in s .unbroken (b .chain) (b .thing) (b .uses) (b .gone)),
 )
 
 pub port-open : (h : History) → Fit h → (c : ℕ) → IsPort h c → (stands h c ≡ true) ↔ (Gone h (aPort c) → ⊥)
@@ -169,7 +170,7 @@ pub request-closed : (h : History) → Fit h → (q c : ℕ) → AskedOver h q c
 unfolding GoneTest isClosed
 request-closed h fit q c a = (
   λ t. ⊎-elim (λ m. requestClosed q (rw (a .request) at m))
-  (λ f. portFell q c a (port-gone h fit c (asked-port h fit q c a) (ap (stands h) (sym (a .port)) ∙ not-t _ f)))
-  (or-cases (member (loanOf (h .requests) q .number) (h .closedRequests)) (not (stands h (loanOf (h .requests) q .port))) t),
+      (λ f. portFell q c a (port-gone h fit c (asked-port h fit q c a) (ap (stands h) (sym (a .port)) ∙ not-t _ f)))
+      (or-cases (member (loanOf (h .requests) q .number) (h .closedRequests)) (not (stands h (loanOf (h .requests) q .port))) t),
   λ g. gone-test h fit (aRequest q) g c a,
 )
