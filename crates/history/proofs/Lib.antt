@@ -3,3 +3,11 @@
 pub mod Fit
 -- what holds of the tables and the history after each call
 pub mod Inv
+-- what a sweep of the notes leaves
+pub mod Sweep
+-- what is dropped or closed takes with it every row whose chain uses it
+pub mod Gone
+-- what the history computes is what its words mean: to stand is to have no chain that uses anything dropped or closed
+pub mod Standing
+-- comes from, computed in one pass over the notes, is what the word means
+pub mod Comes
