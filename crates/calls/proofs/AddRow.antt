@@ -1,7 +1,7 @@
 -- New rows before the old ones keep the tables sound; a refusal leaves them.
-use Prim.Native.Nat.{ℕ, zero, suc, _+_, _<_, _≤_}
+use Prim.Native.Nat.{ℕ, suc, _+_, _<_, _≤_}
 use mathlib.Core.Bool.{Bool, true, false, not, cond, _&&_, _||_}
-use mathlib.Core.List.{List, [], _∷_, _++_, map}
+use mathlib.Core.List.{List, [], _∷_, _++_}
 use mathlib.Core.Path.{_≡_, refl, sym, ap, _∙_}
 use lib.Dec.{leb, ltb, eqb}
 use lib.ListN.{length}
@@ -10,12 +10,12 @@ use native.Mathlib.Omega.{arith}
 use Rattle.rows.specs.declared.Row.{Row}
 use Rattle.rows.specs.declared.Request.{Request}
 use Rattle.rows.specs.declared.Process.{Process}
-use Rattle.rows.specs.Lists.{if_then_else_, filter, all, each, topOf, rises, firstWith, member, between, some, nonzero}
+use Rattle.rows.specs.Lists.{filter, all, each, topOf, rises, firstWith, member, between, some, nonzero}
 use Rattle.rows.specs.Limits.{greatestNumber, rowSlots}
 use Rattle.rows.specs.Codes.{subdirectory, clientEnd, serverEnd, isClient, isServer, isEnd, isSubdirectory, inClist, isSystem}
-use Rattle.rows.specs.Tables.{State, noRow, rowOf, requestOf, numbers, lists}
-use Rattle.rows.specs.Sound.{rowsRise, requestsRise, numbersApart, belowNext, nextInRange, rowsFit, requestsFit, recordsFit, objectInRange, objectsInRange, rightInRange, rightsInRange, placeInRange, placesInRange, fetchedInRange, sourceRight, sourcesRight, depthRight, depthsRight, copyMatches, copiesMatch, recordsInRange, isPairedWith, otherEnd, endPaired, endsPaired, portStands, portsStand, requestersListed, itemsFew, itemsApart, mayBeListed, itemsLent, onePerPort, copyListed, copiesListed, isFetched, olderFetched, awaitsFetch, same, systemHolds, processPlaced, placedFrom, processesPlaced}
-use Rattle.rows.proofs.Bools.{false-of, clash, and-l, and-r, and-i, not-t, or-cases, or-l, or-r, or-map, all-mono, all-and, all-at}
+use Rattle.rows.specs.Tables.{State, noRow, rowOf, numbers, lists}
+use Rattle.rows.specs.Sound.{rowsRise, requestsRise, numbersApart, belowNext, nextInRange, rowsFit, requestsFit, recordsFit, objectInRange, objectsInRange, rightInRange, rightsInRange, placeInRange, placesInRange, fetchedInRange, sourceRight, sourcesRight, depthRight, depthsRight, copyMatches, copiesMatch, recordsInRange, isPairedWith, otherEnd, endPaired, endsPaired, portStands, portsStand, requestersListed, itemsFew, itemsApart, mayBeListed, itemsLent, onePerPort, copyListed, copiesListed, olderFetched, awaitsFetch, same, systemHolds, processPlaced, placedFrom, processesPlaced}
+use Rattle.rows.proofs.Bools.{false-of, clash, and-l, and-r, and-i, not-t, or-l, or-map, all-mono, all-and, all-at}
 use Rattle.rows.proofs.Keyed.{first-there, rises-range, rises-first, rises-rest, rises-cons}
 use Rattle.rows.proofs.Sound.{Sound}
 use Rattle.calls.specs.Rules.{Out, refusedIf, rowsFull, numbersSpent, withRows}
@@ -98,10 +98,10 @@ none-lists st s e f =
     listed : (v : Request) → all (λ e. mayBeListed v (rowOf (st .rows) e)) (nonzero (v .items)) ≡ true → not (some e && member e (v .items)) ≡ true
     listed v a =
         ap not (false-of (some e && member e (v .items)) (λ t.
-          clash
-            (row-there (mayBeListed v) (no-row-listed v) (st .rows) e
-              (all-at (λ e. mayBeListed v (rowOf (st .rows) e)) (nonzero (v .items)) a e (member-nonzero e (and-l (some e) (member e (v .items)) t) (v .items) (and-r (some e) (member e (v .items)) t))))
-            f))
+        clash
+        (row-there (mayBeListed v) (no-row-listed v) (st .rows) e
+        (all-at (λ e. mayBeListed v (rowOf (st .rows) e)) (nonzero (v .items)) a e (member-nonzero e (and-l (some e) (member e (v .items)) t) (v .items) (and-r (some e) (member e (v .items)) t))))
+        f))
 
 pub not-awaited : (e : ℕ) (vs : List Request) → all (λ v. not (lists e v)) vs ≡ true → awaitsFetch vs e ≡ false
 unfolding all awaitsFetch
@@ -212,8 +212,8 @@ module _ (st : State) (s : Sound st) (new : List Row) (a : all (λ r. leb (st .n
   unfolding numbersApart
   apart-kept =
       all-and {A = Request} (λ v. ltb (v .number) (st .next)) (λ v. not (member (v .number) (numbers (st .rows)))) (λ v. not (member (v .number) (numbers (new ++ st .rows))))
-        (λ v b t. rw (number-before (st .next) (st .rows) new a (v .number) (ltb-true (v .number) (st .next) b)) t)
-        (st .requests) (requests-below st s) (s .numbers-apart)
+      (λ v b t. rw (number-before (st .next) (st .rows) new a (v .number) (ltb-true (v .number) (st .next) b)) t)
+      (st .requests) (requests-below st s) (s .numbers-apart)
 
   pub pair-kept : (r : Row) → endPaired (st .rows) r ≡ true → endPaired (new ++ st .rows) r ≡ true
   unfolding endPaired isPairedWith isEnd isClient isServer clientEnd serverEnd noRow
@@ -223,8 +223,8 @@ module _ (st : State) (s : Sound st) (new : List Row) (a : all (λ r. leb (st .n
   unfolding portStands isClient clientEnd noRow
   port-stands-kept v t =
       and-i (isClient (rowOf (new ++ st .rows) (v .port) .kind)) (ltb (suc (v .port)) (v .number))
-        (found-before st s new a (λ r. isClient (r .kind)) refl (v .port) (and-l (isClient (rowOf (st .rows) (v .port) .kind)) (ltb (suc (v .port)) (v .number)) t))
-        (and-r (isClient (rowOf (st .rows) (v .port) .kind)) (ltb (suc (v .port)) (v .number)) t)
+      (found-before st s new a (λ r. isClient (r .kind)) refl (v .port) (and-l (isClient (rowOf (st .rows) (v .port) .kind)) (ltb (suc (v .port)) (v .number)) t))
+      (and-r (isClient (rowOf (st .rows) (v .port) .kind)) (ltb (suc (v .port)) (v .number)) t)
 
   pub items-kept : (v : Request) → all (λ e. mayBeListed v (rowOf (st .rows) e)) (nonzero (v .items)) ≡ true → all (λ e. mayBeListed v (rowOf (new ++ st .rows) e)) (nonzero (v .items)) ≡ true
   items-kept v t =
@@ -234,16 +234,16 @@ module _ (st : State) (s : Sound st) (new : List Row) (a : all (λ r. leb (st .n
   unfolding processPlaced isSubdirectory subdirectory noRow
   process-kept p x t =
       or-map (eqb (x .through) 0 && eqb (x .active) (x .prime)) _ _
-        (λ q. and-i (some (x .through)) _ (and-l (some (x .through)) _ q)
-          (found-before st s new a (λ r. isSubdirectory (r .kind) && (eqb (r .place) (inClist p) && eqb (r .object) (x .active))) refl (x .through) (and-r (some (x .through)) _ q)))
-        t
+      (λ q. and-i (some (x .through)) _ (and-l (some (x .through)) _ q)
+      (found-before st s new a (λ r. isSubdirectory (r .kind) && (eqb (r .place) (inClist p) && eqb (r .object) (x .active))) refl (x .through) (and-r (some (x .through)) _ q)))
+      t
 
   pub placed-kept : (p : ℕ) (xs : List Process) → placedFrom (st .rows) p xs ≡ true → placedFrom (new ++ st .rows) p xs ≡ true
   unfolding placedFrom
   placed-kept p [] t = refl
   placed-kept p (x ∷ xs) t =
       and-i (processPlaced (new ++ st .rows) p x) (placedFrom (new ++ st .rows) (suc p) xs) (process-kept p x (and-l (processPlaced (st .rows) p x) (placedFrom (st .rows) (suc p) xs) t))
-        (placed-kept (suc p) xs (and-r (processPlaced (st .rows) p x) (placedFrom (st .rows) (suc p) xs) t))
+      (placed-kept (suc p) xs (and-r (processPlaced (st .rows) p x) (placedFrom (st .rows) (suc p) xs) t))
 
   -- no request lists a new row
   new-unlisted : (e : ℕ) → st .next ≤ e → awaitsFetch (st .requests) e ≡ false
@@ -257,8 +257,8 @@ module _ (st : State) (s : Sound st) (new : List Row) (a : all (λ r. leb (st .n
   new-away : all (λ r. not (isSystem (r .place))) new ≡ true → all (λ r. same (isSystem (r .place)) (awaitsFetch (st .requests) (r .number))) new ≡ true
   new-away w =
       all-and {A = Row} (λ r. leb (st .next) (r .number)) (λ r. not (isSystem (r .place))) (λ r. same (isSystem (r .place)) (awaitsFetch (st .requests) (r .number)))
-        (λ r h t. same-false (isSystem (r .place)) (awaitsFetch (st .requests) (r .number)) (not-t (isSystem (r .place)) t) (new-unlisted (r .number) (leb-true (st .next) (r .number) h)))
-        new a w
+      (λ r h t. same-false (isSystem (r .place)) (awaitsFetch (st .requests) (r .number)) (not-t (isSystem (r .place)) t) (new-unlisted (r .number) (leb-true (st .next) (r .number) h)))
+      new a w
 
 -- ---- the tables with the new rows
 pub added-sound : (st : State) → Sound st → (new : List Row) (n : ℕ) → Added st new n → all (endPaired (new ++ st .rows)) new ≡ true → Sound (withRows (new ++ st .rows) n st)
@@ -272,7 +272,7 @@ added-sound st s new n a paired =
       requests-rise = s .requests-rise;
       numbers-apart = apart-kept st s new (a .new-numbers);
       below-next =
-        and-i (ltb (topOf (λ r. r .number) (new ++ st .rows)) n) (ltb (topOf (λ v. v .number) (st .requests)) n) (lt-ltb (topOf (λ r. r .number) (new ++ st .rows)) n (a .below))
+          and-i (ltb (topOf (λ r. r .number) (new ++ st .rows)) n) (ltb (topOf (λ v. v .number) (st .requests)) n) (lt-ltb (topOf (λ r. r .number) (new ++ st .rows)) n (a .below))
           (lt-ltb (topOf (λ v. v .number) (st .requests)) n (omega arith));
       next-in-range = and-i (leb 1 n) (leb n (suc greatestNumber)) (le-leb 1 n (omega arith)) (le-leb n (suc greatestNumber) (a .counted));
       rows-fit = le-leb (length (new ++ st .rows)) rowSlots (a .fit);
@@ -287,23 +287,23 @@ added-sound st s new n a paired =
       copies-match = a .copies;
       records-in-range = s .records-in-range;
       ends-paired =
-        all-append (endPaired (new ++ st .rows)) new (st .rows) paired
+          all-append (endPaired (new ++ st .rows)) new (st .rows) paired
           (all-mono (endPaired (st .rows)) (endPaired (new ++ st .rows)) (pair-kept st s new (a .new-numbers)) (st .rows) (s .ends-paired));
       ports-stand = all-mono (portStands (st .rows)) (portStands (new ++ st .rows)) (port-stands-kept st s new (a .new-numbers)) (st .requests) (s .ports-stand);
       requesters-listed = s .requesters-listed;
       items-few = s .items-few;
       items-apart = s .items-apart;
       items-lent =
-        all-mono (λ v. all (λ e. mayBeListed v (rowOf (st .rows) e)) (nonzero (v .items))) (λ v. all (λ e. mayBeListed v (rowOf (new ++ st .rows) e)) (nonzero (v .items)))
+          all-mono (λ v. all (λ e. mayBeListed v (rowOf (st .rows) e)) (nonzero (v .items))) (λ v. all (λ e. mayBeListed v (rowOf (new ++ st .rows) e)) (nonzero (v .items)))
           (items-kept st s new (a .new-numbers)) (st .requests) (s .items-lent);
       one-per-port = s .one-per-port;
       copies-listed =
-        all-append (copyListed (st .requests)) new (st .rows)
+          all-append (copyListed (st .requests)) new (st .rows)
           (all-mono (λ r. eqb (r .request) 0) (copyListed (st .requests)) (λ r t. or-l (eqb (r .request) 0) _ t) new (a .unborne))
           (s .copies-listed);
       older-fetched = s .older-fetched;
       system-holds =
-        all-append (λ r. same (isSystem (r .place)) (awaitsFetch (st .requests) (r .number))) new (st .rows) (new-away st s new (a .new-numbers) (a .away)) (s .system-holds);
+          all-append (λ r. same (isSystem (r .place)) (awaitsFetch (st .requests) (r .number))) new (st .rows) (new-away st s new (a .new-numbers) (a .away)) (s .system-holds);
       processes-placed = placed-kept st s new (a .new-numbers) 1 (st .processes) (s .processes-placed);
     }
 

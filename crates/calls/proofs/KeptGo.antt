@@ -1,27 +1,24 @@
 -- go keeps the tables sound: only the caller's record changes, and not its prime node.
-use Prim.Native.Nat.{ℕ, zero, suc, _+_, _-_, _<_, _≤_}
-use mathlib.Core.Bool.{Bool, true, false, not, cond, _&&_, _||_}
+use Prim.Native.Nat.{ℕ, zero, suc, _+_, _-_, _<_}
+use mathlib.Core.Bool.{Bool, true, false, cond, _&&_}
 use mathlib.Core.List.{List, [], _∷_}
-use mathlib.Core.Path.{_≡_, refl, sym, ap, _∙_}
-use mathlib.Core.Logic.{_⊎_, inl, inr, ⊎-elim}
-use lib.Dec.{leb, ltb, eqb}
-use lib.ListN.{length, getD, set, length-set}
-use borrow.Author.Tests.{eqb-true, eq-eqb}
+use mathlib.Core.Path.{_≡_, refl, ap, _∙_}
+use lib.Dec.{eqb}
+use lib.ListN.{getD, set, length-set}
 use native.Mathlib.Omega.{arith}
-use native.Mathlib.Numerals.{sub-one}
 use Rattle.rows.specs.declared.Row.{Row}
 use Rattle.rows.specs.declared.Process.{Process}
 use Rattle.rows.specs.Lists.{all, between, some}
 use Rattle.rows.specs.Limits.{processes, nodes}
-use Rattle.rows.specs.Codes.{operation, subdirectory, clientEnd, serverEnd, isOperation, isSubdirectory, isClient, isServer, inClist, isNode, ownerOf}
+use Rattle.rows.specs.Codes.{isSubdirectory, inClist, isNode, ownerOf}
 use Rattle.rows.specs.Tables.{State, noProcess, rowOf, processAt, isListed}
 use Rattle.rows.specs.Sound.{rowsRise, requestsRise, numbersApart, belowNext, nextInRange, rowsFit, requestsFit, recordsFit, objectInRange, objectsInRange, rightsInRange, placeInRange, placesInRange, fetchedInRange, sourcesRight, depthsRight, copiesMatch, recordUnused, recordInRange, recordsInRange, endsPaired, portsStand, requestersListed, itemsFew, itemsApart, itemsLent, onePerPort, copiesListed, olderFetched, systemHolds, processPlaced, placedFrom, processesPlaced}
-use Rattle.rows.proofs.Bools.{clash, and-l, and-r, and-i, or-cases, or-l, or-r, not-f, eqb-self, pos-some, all-eq}
+use Rattle.rows.proofs.Bools.{and-l, and-r, and-i, or-l, or-r, not-f, eqb-self, pos-some, all-eq}
 use Rattle.rows.proofs.Sound.{Sound}
-use Rattle.calls.specs.Rules.{Out, notHeld, refusedIf, withRecord}
+use Rattle.calls.specs.Rules.{Out, notHeld, withRecord}
 use Rattle.calls.specs.Calls.{done, goHome, goThrough, doGo}
 use Rattle.calls.proofs.AddRow.{unless, row-there, row-below}
-use Rattle.calls.proofs.Stand.{clist-no-row, listed-range, prime-node, row-object}
+use Rattle.calls.proofs.Stand.{clist-no-row, listed-range, prime-node, row-object, subdirectory-node}
 
 -- ---- the records with one replaced
 all-set : {A : Type 0} (f : A → Bool) (xs : List A) (i : ℕ) (x : A) → all f xs ≡ true → f x ≡ true → all f (set xs i x) ≡ true
@@ -45,7 +42,7 @@ placed-set rs (y ∷ xs) k zero p x e t h =
     and-i (processPlaced rs k x) (placedFrom rs (suc k) xs) (ap (λ n. processPlaced rs n x) z ∙ h) (and-r (processPlaced rs k y) (placedFrom rs (suc k) xs) t)
 placed-set rs (y ∷ xs) k (suc i) p x e t h =
     and-i (processPlaced rs k y) (placedFrom rs (suc k) (set xs i x)) (and-l (processPlaced rs k y) (placedFrom rs (suc k) xs) t)
-      (placed-set rs xs (suc k) i p x (omega arith) (and-r (processPlaced rs k y) (placedFrom rs (suc k) xs) t) h)
+    (placed-set rs xs (suc k) i p x (omega arith) (and-r (processPlaced rs k y) (placedFrom rs (suc k) xs) t) h)
 
 -- ---- the same processes are listed
 module _ (ps qs : List Process) (same : (q : ℕ) → isListed qs q ≡ isListed ps q) where
@@ -91,7 +88,7 @@ module _ (st : State) (s : Sound st) (p : ℕ) (l : isListed (st .processes) p �
         depths-right = s .depths-right;
         copies-match = s .copies-match;
         records-in-range =
-          all-set recordInRange ps (p - 1) x (s .records-in-range)
+            all-set recordInRange ps (p - 1) x (s .records-in-range)
             (or-r (recordUnused x) _ (and-i (between 1 nodes (x .prime)) (between 1 nodes (x .active)) (ap isNode e ∙ prime-node st s p l) n));
         ends-paired = s .ends-paired;
         ports-stand = s .ports-stand;
@@ -107,13 +104,6 @@ module _ (st : State) (s : Sound st) (p : ℕ) (l : isListed (st .processes) p �
       }
 
 -- ---- go
--- a subdirectory row names a node
-pub subdirectory-node : (ps : List Process) (r : Row) → isSubdirectory (r .kind) ≡ true → objectInRange ps r ≡ true → isNode (r .object) ≡ true
-unfolding objectInRange isOperation isSubdirectory isClient isServer operation subdirectory clientEnd serverEnd isNode
-subdirectory-node ps r k t =
-    let u : between 1 nodes (r .object) && eqb (r .operation) 0 || false ≡ true = rw (eqb-true (r .kind) 2 k) at t in
-    ⊎-elim (λ w. and-l (between 1 nodes (r .object)) _ w) (λ w. clash w refl) (or-cases (between 1 nodes (r .object) && eqb (r .operation) 0) false u)
-
 module _ (st : State) (s : Sound st) (p : ℕ) (l : isListed (st .processes) p ≡ true) where
   home-kept : Sound (goHome st p)
   unfolding goHome processPlaced
@@ -129,8 +119,8 @@ module _ (st : State) (s : Sound st) (p : ℕ) (l : isListed (st .processes) p �
       let there = row-there (λ r. eqb (r .place) (inClist p)) (clist-no-row p) (st .rows) e h in
       let x : Process = record { prime = processAt (st .processes) p .prime; active = r .object; through = e } in
       record-kept st s p l x refl (subdirectory-node (st .processes) r k (row-object st s e there))
-        (or-r (eqb e 0 && eqb (x .active) (x .prime)) _
-          (and-i (some e) _ (pos-some e (row-below st s e there .0)) (and-i (isSubdirectory (r .kind)) _ k (and-i (eqb (r .place) (inClist p)) _ h (eqb-self (r .object))))))
+      (or-r (eqb e 0 && eqb (x .active) (x .prime)) _
+      (and-i (some e) _ (pos-some e (row-below st s e there .0)) (and-i (isSubdirectory (r .kind)) _ k (and-i (eqb (r .place) (inClist p)) _ h (eqb-self (r .object))))))
 
 either-kept : (b : Bool) (o o′ : Out) → Sound (o .after) → Sound (o′ .after) → Sound (cond b o o′ .after)
 either-kept true o o′ p q = p

@@ -1,34 +1,25 @@
 -- port keeps the tables sound: it adds the two ends; comes changes nothing.
-use Prim.Native.Nat.{ℕ, zero, suc, pred, _+_, _<_, _≤_}
-use mathlib.Core.Bool.{Bool, true, false, not, _&&_, _||_}
-use mathlib.Core.List.{List, [], _∷_, _++_}
-use mathlib.Core.Path.{_≡_, refl, sym, ap, _∙_}
-use mathlib.Core.Logic.{_⊎_, inl, inr, ⊎-elim}
-use lib.Dec.{leb, ltb, eqb}
+use Prim.Native.Nat.{ℕ, suc, pred, _+_, _≤_}
+use mathlib.Core.Bool.{true, false, not}
+use mathlib.Core.List.{List, [], _∷_}
+use mathlib.Core.Path.{_≡_, refl, ap}
+use lib.Dec.{eqb}
 use lib.ListN.{length}
-use borrow.Author.Tests.{eqb-true, eq-eqb, ne-eqb}
+use borrow.Author.Tests.{ne-eqb}
 use native.Mathlib.Omega.{arith}
 use Rattle.rows.specs.declared.Row.{Row}
 use Rattle.rows.specs.declared.Process.{Process}
-use Rattle.rows.specs.Lists.{all, firstWith, member, between, some}
-use Rattle.rows.specs.Limits.{nodes, greatestNumber, greatestOperation, rowSlots}
+use Rattle.rows.specs.Lists.{all, firstWith}
+use Rattle.rows.specs.Limits.{greatestNumber, rowSlots}
 use Rattle.rows.specs.Codes.{operation, subdirectory, clientEnd, serverEnd, isOperation, isSubdirectory, isClient, isServer, isEnd, inClist, isNode}
-use Rattle.rows.specs.Tables.{State, noRow, rowOf, isListed, numbers, depthOver}
+use Rattle.rows.specs.Tables.{State, rowOf, isListed, depthOver}
 use Rattle.rows.specs.Sound.{objectInRange, rightInRange, isOpening, isRegistered, isHeld, isPortEnd, sourceRight, copyMatches, isPairedWith, otherEnd, endPaired}
-use Rattle.rows.proofs.Bools.{clash, and-l, and-r, and-i, or-cases, or-l, or-r, not-f, eqb-self}
+use Rattle.rows.proofs.Bools.{and-i, or-l, or-r, not-f, eqb-self}
 use Rattle.rows.proofs.Sound.{Sound}
-use Rattle.calls.specs.Rules.{Out, notHeld, tooDeep, rowsFull, numbersSpent, withRows}
+use Rattle.calls.specs.Rules.{notHeld, tooDeep, rowsFull, numbersSpent}
 use Rattle.calls.specs.Calls.{made, portEnd, withPort, doPort, doComes}
 use Rattle.calls.proofs.AddRow.{unless, row-there, row-below, next-some, row-before, New, Added, added-none, added-one, added-sound, rows-room, numbers-room}
-use Rattle.calls.proofs.Stand.{clist-no-row, clist-not-node, clist-not-system, clist-in-range, row-object}
-use Rattle.calls.proofs.KeptHold.{depth-is}
-
--- the manager of an operation row is listed
-pub manager-listed : (ps : List Process) (r : Row) → isOperation (r .kind) ≡ true → objectInRange ps r ≡ true → isListed ps (r .object) ≡ true
-unfolding objectInRange isOperation isSubdirectory isClient isServer operation subdirectory clientEnd serverEnd
-manager-listed ps r k t =
-    let u : isListed ps (r .object) && leb (r .operation) greatestOperation || false ≡ true = rw (eqb-true (r .kind) 1 k) at t in
-    ⊎-elim (λ w. and-l (isListed ps (r .object)) _ w) (λ w. clash w refl) (or-cases (isListed ps (r .object) && leb (r .operation) greatestOperation) false u)
+use Rattle.calls.proofs.Stand.{clist-no-row, clist-not-node, clist-not-system, clist-in-range, row-object, manager-listed, depth-is}
 
 -- an end from operation row e is a new row
 module _ (st : State) (s : Sound st) (rs : List Row) (e d : ℕ) where
@@ -44,7 +35,7 @@ module _ (st : State) (s : Sound st) (rs : List Row) (e d : ℕ) where
         place = clist-in-range st s p l r refl;
         away = clist-not-system st s p l;
         source =
-          or-r (isOpening r) _ (or-r (isRegistered rs r) _ (or-r (isHeld rs r) _ (or-l (isPortEnd rs r) _
+            or-r (isOpening r) _ (or-r (isRegistered rs r) _ (or-r (isHeld rs r) _ (or-l (isPortEnd rs r) _
             (and-i (isEnd kind) _ k (and-i (not (isNode (inClist p))) _ (ap not (clist-not-node p)) (and-i (isOperation (rowOf rs e .kind)) true h refl))))));
         depth = depth-is r rs z t;
         copy = or-r (eqb e 0) _ (or-l (isEnd kind) _ k);
@@ -83,15 +74,15 @@ module _ (st : State) (s : Sound st) (p : ℕ) (l : isListed (st .processes) p �
       let room : length rs + 2 ≤ rowSlots = rows-room st 2 f in
       let left : n + 2 ≤ suc greatestNumber = numbers-room st 2 m in
       let one : Added st (client ∷ []) (suc n) =
-        added-one st [] n client (omega arith) (omega arith) (end-new st s rs e d clientEnd n n p refl (client-object (st .processes) n (inClist p) e d) l k refl t) (added-none st s) in
+      added-one st [] n client (omega arith) (omega arith) (end-new st s rs e d clientEnd n n p refl (client-object (st .processes) n (inClist p) e d) l k refl t) (added-none st s) in
       let (lo, hi) = row-below st s e there in
       let at-e : rowOf (client ∷ rs) e ≡ rowOf rs e = row-before n rs (client ∷ []) (one .new-numbers) e hi in
       let at-0 : rowOf (client ∷ rs) 0 ≡ rowOf rs 0 = row-before n rs (client ∷ []) (one .new-numbers) 0 (next-some st s) in
       let two : Added st (server ∷ client ∷ []) (suc (suc n)) =
-        added-one st (client ∷ []) (suc n) server (omega arith) (omega arith)
-          (end-new st s (client ∷ rs) e d serverEnd (suc n) n manager refl (server-object (st .processes) n (inClist manager) e d)
-            (manager-listed (st .processes) (rowOf rs e) k (row-object st s e there)) (rw at-e k) (rw (at-e, at-0) refl) t)
-          one in
+      added-one st (client ∷ []) (suc n) server (omega arith) (omega arith)
+      (end-new st s (client ∷ rs) e d serverEnd (suc n) n manager refl (server-object (st .processes) n (inClist manager) e d)
+      (manager-listed (st .processes) (rowOf rs e) k (row-object st s e there)) (rw at-e k) (rw (at-e, at-0) refl) t)
+      one in
       added-sound st s (server ∷ client ∷ []) (suc (suc n)) two (ends-pair n (inClist p) (inClist manager) e d rs)
 
 pub port-kept : (st : State) → Sound st → (p e : ℕ) → isListed (st .processes) p ≡ true → Sound (doPort st p e .after)

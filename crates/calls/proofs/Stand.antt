@@ -1,26 +1,26 @@
 -- What sound tables say of a row that is found and of a listed process.
 use Prim.Native.Nat.{ℕ, zero, suc, _+_, _-_, _<_, _≤_}
 use mathlib.Core.Bool.{Bool, true, false, not, cond, _&&_, _||_}
-use mathlib.Core.List.{List, [], _∷_, map}
-use mathlib.Core.Path.{_≡_, refl, sym, ap, _∙_}
-use mathlib.Core.Logic.{_⊎_, inl, inr, ⊎-elim}
-use lib.Dec.{leb, ltb, eqb}
+use mathlib.Core.List.{List, [], _∷_}
+use mathlib.Core.Path.{_≡_, refl, ap, _∙_}
+use mathlib.Core.Logic.{⊎-elim}
+use lib.Dec.{leb, eqb}
 use lib.ListN.{length, getD, List·getD-eq-default}
-use borrow.Author.Tests.{eqb-true, eq-eqb, ne-eqb, ltb-true, leb-true, leb-false, le-leb, lt-leb}
+use borrow.Author.Tests.{eqb-true, eq-eqb, ne-eqb, ltb-false, leb-true, le-leb}
 use native.Mathlib.Decide.{decLt}
 use native.Mathlib.Omega.{arith}
 use Rattle.rows.specs.declared.Row.{Row}
 use Rattle.rows.specs.declared.Request.{Request}
 use Rattle.rows.specs.declared.Process.{Process}
-use Rattle.rows.specs.Lists.{any, all, each, firstWith, member, between, some}
-use Rattle.rows.specs.Limits.{processes, nodes}
+use Rattle.rows.specs.Lists.{any, all, firstWith, member, between, some}
+use Rattle.rows.specs.Limits.{processes, nodes, greatestOperation, greatestDepth}
 use Rattle.rows.specs.Codes.{operation, subdirectory, clientEnd, serverEnd, isOperation, isSubdirectory, isClient, isServer, isEnd, isCopied, inClist, withSystem, isNode, isClist, isSystem, ownerOf}
-use Rattle.rows.specs.Tables.{State, noRow, noProcess, rowOf, requestOf, processAt, isListed, numbers, sources, reaches, onLoan, lentItself, isLent}
-use Rattle.rows.specs.Sound.{recordsFit, objectInRange, objectsInRange, rightInRange, rightsInRange, placeInRange, isOpening, isRegistered, isHeld, isPortEnd, isLentCopy, sourceRight, sourcesRight, copyMatches, copiesMatch, recordUnused, recordInRange, recordsInRange, processPlaced, placedFrom, processesPlaced, rowsRise}
-use Rattle.rows.proofs.Bools.{false-of, clash, and-l, and-r, and-i, or-cases, or-l, or-r, or-fl, or-fr, not-t, eqb-sym-f, some-pos}
+use Rattle.rows.specs.Tables.{State, noRow, noProcess, rowOf, processAt, isListed, numbers, sources, depthOver, reaches, onLoan, lentItself, isLent}
+use Rattle.rows.specs.Sound.{recordsFit, objectInRange, objectsInRange, rightInRange, rightsInRange, placeInRange, isOpening, isRegistered, isHeld, isPortEnd, isLentCopy, sourceRight, sourcesRight, depthRight, copyMatches, copiesMatch, recordUnused, recordInRange, recordsInRange, processPlaced, placedFrom, processesPlaced, rowsRise}
+use Rattle.rows.proofs.Bools.{false-of, clash, and-l, and-r, and-i, or-cases, or-l, or-r, or-fl, or-fr, or-map, not-t, eqb-sym-f, some-pos}
 use Rattle.rows.proofs.Keyed.{all-first, each-first, olderOf, older-first, older-key, first-there}
 use Rattle.rows.proofs.Sound.{Sound}
-use Rattle.calls.proofs.AddRow.{row-there}
+use Rattle.calls.specs.Rules.{tooDeep, copyOf}
 
 -- ---- kinds and places
 pub copied-no-end : (k : ℕ) → isCopied k ≡ true → isEnd k ≡ false
@@ -41,6 +41,10 @@ not-between lo hi n h = false-of (between lo hi n) (λ t. let (p, q) = between-r
 pub node-not-system : (n : ℕ) → isNode n ≡ true → isSystem n ≡ false
 unfolding isNode isSystem nodes withSystem
 node-not-system n t = let (p, q) = between-range 1 32 n t in ne-eqb n 200 (λ e. omega arith)
+
+pub node-in-range : (ps : List Process) (r : Row) → isNode (r .place) ≡ true → placeInRange ps r ≡ true
+unfolding placeInRange
+node-in-range ps r t = or-l (isNode (r .place)) _ t
 
 pub no-row-node : isNode (noRow .place) ≡ false
 unfolding isNode nodes noRow between
@@ -111,9 +115,9 @@ module _ (st : State) (s : Sound st) (p : ℕ) (l : isListed (st .processes) p �
   unfolding recordInRange recordUnused
   nodes-right x l t =
       ⊎-elim
-        (λ u. absurd (let z : x .prime ≡ 0 = eqb-true (x .prime) 0 (and-l (eqb (x .prime) 0) _ u) in let h = some-pos (x .prime) l in omega arith))
-        (λ u. u)
-        (or-cases (recordUnused x) _ t)
+      (λ u. absurd (let z : x .prime ≡ 0 = eqb-true (x .prime) 0 (and-l (eqb (x .prime) 0) _ u) in let h = some-pos (x .prime) l in omega arith))
+      (λ u. u)
+      (or-cases (recordUnused x) _ t)
 
   pub prime-node : isNode (processAt (st .processes) p .prime) ≡ true
   unfolding isListed isNode
@@ -161,6 +165,35 @@ module _ (st : State) (s : Sound st) (e : ℕ) (t : member e (numbers (st .rows)
       let (lt, w) = older-key (λ r. r .number) (st .rows) (s .rows-rise) e n t u in
       older-first (λ r. r .number) noRow (st .rows) (s .rows-rise) e t n lt
 
+-- ---- what a row names, by its kind
+-- the manager of an operation row is listed
+pub manager-listed : (ps : List Process) (r : Row) → isOperation (r .kind) ≡ true → objectInRange ps r ≡ true → isListed ps (r .object) ≡ true
+unfolding objectInRange isOperation isSubdirectory isClient isServer operation subdirectory clientEnd serverEnd
+manager-listed ps r k t =
+    let u : isListed ps (r .object) && leb (r .operation) greatestOperation || false ≡ true = rw (eqb-true (r .kind) 1 k) at t in
+    ⊎-elim (λ w. and-l (isListed ps (r .object)) _ w) (λ w. clash w refl) (or-cases (isListed ps (r .object) && leb (r .operation) greatestOperation) false u)
+
+-- a subdirectory row names a node
+pub subdirectory-node : (ps : List Process) (r : Row) → isSubdirectory (r .kind) ≡ true → objectInRange ps r ≡ true → isNode (r .object) ≡ true
+unfolding objectInRange isOperation isSubdirectory isClient isServer operation subdirectory clientEnd serverEnd isNode
+subdirectory-node ps r k t =
+    let u : between 1 nodes (r .object) && eqb (r .operation) 0 || false ≡ true = rw (eqb-true (r .kind) 2 k) at t in
+    ⊎-elim (λ w. and-l (between 1 nodes (r .object)) _ w) (λ w. clash w refl) (or-cases (between 1 nodes (r .object) && eqb (r .operation) 0) false u)
+
+-- a copy of an operation or a subdirectory names what the row names
+pub copy-object : (ps : List Process) (r : Row) (n rights place source via depth q : ℕ) → isCopied (r .kind) ≡ true → objectInRange ps r ≡ true → objectInRange ps (copyOf r n rights place source via depth q) ≡ true
+unfolding objectInRange copyOf isEnd
+copy-object ps r n rights place source via depth q c t =
+    or-map (isOperation (r .kind) && (isListed ps (r .object) && leb (r .operation) greatestOperation)) _ _ (λ u.
+    or-map (isSubdirectory (r .kind) && (between 1 nodes (r .object) && eqb (r .operation) 0)) _ _ (λ w. ⊎-elim
+    (λ x. clash (and-l (isClient (r .kind)) _ x) (or-fl (isClient (r .kind)) (isServer (r .kind)) (copied-no-end (r .kind) c)))
+    (λ x. clash (and-l (isServer (r .kind)) _ x) (or-fr (isClient (r .kind)) (isServer (r .kind)) (copied-no-end (r .kind) c)))
+    (or-cases (isClient (r .kind) && (eqb (r .object) (r .number) && eqb (r .operation) 0)) _ w)) u) t
+
+pub depth-is : (r : Row) (rs : List Row) → r .depth ≡ depthOver rs (r .source) (r .via) → tooDeep (r .depth) ≡ false → depthRight r rs ≡ true
+unfolding depthRight tooDeep
+depth-is r rs e t = and-i (eqb (r .depth) (depthOver rs (r .source) (r .via))) (leb (r .depth) greatestDepth) (eq-eqb _ _ e) (le-leb (r .depth) greatestDepth (ltb-false greatestDepth (r .depth) t))
+
 -- ---- what a row is by its place and kind
 one-of-five : {G : Type 0} (a b c d e : Bool) → a || (b || (c || (d || e))) ≡ true → (a ≡ true → G) → (b ≡ true → G) → (c ≡ true → G) → (d ≡ true → G) → (e ≡ true → G) → G
 one-of-five true b c d e t f g h i j = f refl
@@ -173,21 +206,21 @@ pub in-node-copied : (vs : List Request) (r : Row) (rs : List Row) → sourceRig
 unfolding sourceRight isOpening isRegistered isHeld isPortEnd isLentCopy
 in-node-copied vs r rs t n =
     one-of-five (isOpening r) (isRegistered rs r) (isHeld rs r) (isPortEnd rs r) (isLentCopy vs rs r) t
-      (λ u. search (and-l, and-r))
-      (λ u. search (and-l, and-r))
-      (λ u. search (and-l, and-r))
-      (λ u. let w : not (isNode (r .place)) ≡ true = search (and-l, and-r) in clash n (not-t (isNode (r .place)) w))
-      (λ u. search (and-l, and-r))
+    (λ u. search (and-l, and-r))
+    (λ u. search (and-l, and-r))
+    (λ u. search (and-l, and-r))
+    (λ u. let w : not (isNode (r .place)) ≡ true = search (and-l, and-r) in clash n (not-t (isNode (r .place)) w))
+    (λ u. search (and-l, and-r))
 
 pub not-lent-held : (vs : List Request) (r : Row) (rs : List Row) → sourceRight vs r rs ≡ true → isNode (r .place) ≡ false → isEnd (r .kind) ≡ false → some (r .request) ≡ false → isHeld rs r ≡ true
 unfolding sourceRight isOpening isRegistered isPortEnd isLentCopy
 not-lent-held vs r rs t n k q =
     one-of-five (isOpening r) (isRegistered rs r) (isHeld rs r) (isPortEnd rs r) (isLentCopy vs rs r) t
-      (λ u. clash (and-l (isNode (r .place)) _ u) n)
-      (λ u. clash (and-l (isNode (r .place)) _ u) n)
-      (λ u. u)
-      (λ u. clash (and-l (isEnd (r .kind)) _ u) k)
-      (λ u. clash (and-l (some (r .request)) _ u) q)
+    (λ u. clash (and-l (isNode (r .place)) _ u) n)
+    (λ u. clash (and-l (isNode (r .place)) _ u) n)
+    (λ u. u)
+    (λ u. clash (and-l (isEnd (r .kind)) _ u) k)
+    (λ u. clash (and-l (some (r .request)) _ u) q)
 
 -- a row that is not lent bears no request's number
 reached-itself : (f : Row → Bool) (rs : List Row) (e : ℕ) → member e (numbers rs) ≡ true → reaches f rs e ≡ false → f (rowOf rs e) ≡ false
