@@ -27,11 +27,11 @@ pub copied-no-end : (k : ℕ) → isCopied k ≡ true → isEnd k ≡ false
 unfolding isCopied isEnd isOperation isSubdirectory isClient isServer operation subdirectory clientEnd serverEnd
 copied-no-end k t = ⊎-elim (λ e. rw (eqb-true k 1 e) refl) (λ e. rw (eqb-true k 2 e) refl) (or-cases (eqb k 1) (eqb k 2) t)
 
-pub between-range : (lo hi n : ℕ) → between lo hi n ≡ true → (lo ≤ n) × (n ≤ hi)
+between-range : (lo hi n : ℕ) → between lo hi n ≡ true → (lo ≤ n) × (n ≤ hi)
 unfolding between
 between-range lo hi n t = (leb-true lo n (and-l (leb lo n) (leb n hi) t), leb-true n hi (and-r (leb lo n) (leb n hi) t))
 
-pub in-between : (lo hi n : ℕ) → lo ≤ n → n ≤ hi → between lo hi n ≡ true
+in-between : (lo hi n : ℕ) → lo ≤ n → n ≤ hi → between lo hi n ≡ true
 unfolding between
 in-between lo hi n p q = and-i (leb lo n) (leb n hi) (le-leb lo n p) (le-leb n hi q)
 
