@@ -392,3 +392,34 @@ fn close_of_an_end_that_came_back() {
         ],
     );
 }
+
+/// Refusal 9, right by right; point 15: ends have rights 0 and need no
+/// transfer, a row without transfer is not lent even with rights 0.
+#[test]
+fn rights_asked_for() {
+    let opening = "(node 1 (op 1 0 7) (op 1 1 6) (op 1 2 5) (op 1 3 3))\n\
+        (process 1 1)\n(open)\n";
+    check(
+        opening,
+        &[
+            ("(1 hold 1)", "(ok 5)"),
+            ("(1 hold 2)", "(no 9)"),
+            ("(1 hold 3)", "(ok 6)"),
+            ("(1 hold 4)", "(ok 7)"),
+            ("(1 port 5)", "(ok 8)"),
+            ("(1 port 5)", "(ok 10)"),
+            ("(1 ask 8 (6 0))", "(no 9)"),
+            ("(1 ask 8 (6 5))", "(no 9)"),
+            ("(1 ask 8 (7 4))", "(no 9)"),
+            ("(1 ask 8 (7 7))", "(no 9)"),
+            ("(1 ask 8 (11 1))", "(no 9)"),
+            ("(1 ask 8 (11 0) (7 2) (5 0))", "(ok 12)"),
+            ("(1 fetch 9)", "(ok 12 11 13 14)"),
+            ("(1 register 6)", "(ok 15)"),
+            ("(1 register 7)", "(no 9)"),
+            ("(1 ask 10 (13 3))", "(no 9)"),
+            ("(1 ask 10 (14 0))", "(no 9)"),
+            ("(1 ask 10 (13 2))", "(ok 16)"),
+        ],
+    );
+}

@@ -5,4 +5,5 @@ pub mod Codes
 pub mod Tables
 pub mod Sound
 pub mod Layout
+pub mod Lies
 pub mod Computes

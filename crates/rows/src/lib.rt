@@ -33,3 +33,12 @@ pub struct Process {
     pub active: u32,
     pub through: u32,
 }
+
+// The rights (capcaps) of a row: a sum of hold 1, transfer 2 and register 4.
+pub struct Rights(pub u8);
+
+// What a look-up answers: the slot of a row or request in its table.
+pub enum Found {
+    At(usize),
+    Nothing,
+}
