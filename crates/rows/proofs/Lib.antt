@@ -5,3 +5,7 @@ pub mod Bools
 pub mod Keyed
 -- soundness as a record, a field a clause
 pub mod Sound
+-- words in padded columns: lengths, and what stands where
+pub mod LayoutColumns
+-- each source of a sound row is 0 or an older row's number
+pub mod RowSources
