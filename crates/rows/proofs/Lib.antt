@@ -9,3 +9,5 @@ pub mod Sound
 pub mod LayoutColumns
 -- each source of a sound row is 0 or an older row's number
 pub mod RowSources
+-- rows read back from the words in which they lie
+pub mod LayoutRows
