@@ -1,6 +1,6 @@
 -- Words in padded columns, laid one after the other: their lengths, and what stands where. Over any number of slots and any words.
 use Prim.Native.Nat.{ℕ, zero, suc, _+_, _*_, _<_, _≤_, zero-le}
-use mathlib.Core.Bool.{Bool, true, false, cond, _&&_, false≢true}
+use mathlib.Core.Bool.{Bool, true, false≢true}
 use mathlib.Core.List.{List, [], _∷_, _++_}
 use mathlib.Core.Path.{_≡_, refl, ap, sym, subst, _∙_}
 use mathlib.Core.Logic.{⊎-elim}
@@ -10,21 +10,21 @@ use lib.Dec.{eqb}
 use borrow.Author.Tests.{eqb-true}
 use lib.ListN.{length, getD, take, drop, length-append, length-drop, List·getD-append}
 use lib.Seq.{getD-at, getD-append-add, getD-take, getD-drop, length-take-le, ext-getD}
-use Rattle.rows.specs.Lists.{all, topOf, rises, pad, laid, some, sameList}
+use Rattle.rows.specs.Lists.{all, rises, pad, laid, some, sameList}
 use Rattle.rows.specs.Layout.{leading}
 use Rattle.rows.proofs.Bools.{and-l, and-r, and-i, pos-some, eqb-self}
 use Rattle.rows.proofs.Keyed.{rises-first, rises-rest}
 
 -- ---- pad
 module _ {A : Type 0} (d : A) where
-  pub length-pad : (n : ℕ) (l : List A) → length l ≤ n → length (pad d n l) ≡ n
+  length-pad : (n : ℕ) (l : List A) → length l ≤ n → length (pad d n l) ≡ n
   unfolding pad
   length-pad zero [] h = refl
   length-pad zero (x ∷ xs) h = absurd (not-suc-le-zero h)
   length-pad (suc n) [] h = ap suc (length-pad n [] zero-le)
   length-pad (suc n) (x ∷ xs) h = ap suc (length-pad n xs (le-of-suc-le-suc h))
 
-  pub getD-pad : (n : ℕ) (l : List A) (i : ℕ) → getD (pad d n l) i d ≡ getD l i d
+  getD-pad : (n : ℕ) (l : List A) (i : ℕ) → getD (pad d n l) i d ≡ getD l i d
   unfolding pad
   getD-pad zero l i = refl
   getD-pad (suc n) [] zero = refl
@@ -37,7 +37,7 @@ pub getD-after : (a l : List ℕ) (n i : ℕ) → length a ≡ n → getD (a ++ 
 getD-after a l n i e = rw (← e) (getD-append-add a l i 0)
 
 -- a run of k words of t, known word by word
-pub run-is : (a k : ℕ) (t l : List ℕ) → length l ≤ k → a + k ≤ length t → ((i : ℕ) → i < k → getD t (a + i) 0 ≡ getD l i 0) → take k (drop a t) ≡ pad 0 k l
+run-is : (a k : ℕ) (t l : List ℕ) → length l ≤ k → a + k ≤ length t → ((i : ℕ) → i < k → getD t (a + i) 0 ≡ getD l i 0) → take k (drop a t) ≡ pad 0 k l
 run-is a k t l few room at =
     let long : length (take k (drop a t)) ≡ k = length-take-le k (drop a t) (omega (arith, length-drop a t)) in
     ext-getD 0 (take k (drop a t)) (pad 0 k l) (long ∙ sym (length-pad 0 k l few))
@@ -47,7 +47,7 @@ run-is a k t l few room at =
 
 -- ---- laid
 module _ {A : Type 0} (f : A → List A → ℕ) where
-  pub length-laid : (xs : List A) → length (laid f xs) ≡ length xs
+  length-laid : (xs : List A) → length (laid f xs) ≡ length xs
   unfolding laid
   length-laid [] = refl
   length-laid (x ∷ xs) = omega (arith, length-append (laid f xs) (f x xs ∷ []), length-laid xs)
@@ -87,7 +87,7 @@ module _ {A : Type 0} (k : ℕ) (w : ℕ → A → List A → ℕ) (xs : List A)
       ∙ columns-at m c i lt hi) (eq-or-lt-of-le (le-of-suc-le-suc h))
 
 -- ---- the slots in use
-pub leading-pad : (k : ℕ) (ws : List ℕ) → length ws ≤ k → all some ws ≡ true → leading (pad 0 k ws) ≡ length ws
+leading-pad : (k : ℕ) (ws : List ℕ) → length ws ≤ k → all some ws ≡ true → leading (pad 0 k ws) ≡ length ws
 unfolding leading pad all some
 leading-pad zero [] h e = refl
 leading-pad zero (w ∷ ws) h e = absurd (not-suc-le-zero h)
@@ -101,12 +101,19 @@ all-append f [] ys e d = d
 all-append f (x ∷ xs) ys e d = and-i (f x) (all f (xs ++ ys)) (and-l (f x) (all f xs) e) (all-append f xs ys (and-r (f x) (all f xs) e) d)
 
 -- keys that rise are above 0, so each key laid out counts as a slot in use
-pub keys-lead : {A : Type 0} (key : A → ℕ) (xs : List A) → rises key xs ≡ true → all some (laid (λ x older. key x) xs) ≡ true
+keys-lead : {A : Type 0} (key : A → ℕ) (xs : List A) → rises key xs ≡ true → all some (laid (λ x older. key x) xs) ≡ true
 unfolding laid all
 keys-lead key [] e = refl
 keys-lead key (x ∷ xs) e =
     let h = rises-first key x xs e in
     all-append some (laid (λ x older. key x) xs) (key x ∷ []) (keys-lead key xs (rises-rest key x xs e)) (and-i (some (key x)) true (pos-some (key x) (omega arith)) refl)
+
+pub slots-in-use : {A : Type 0} (key : A → ℕ) (xs : List A) (a k : ℕ) (t : List ℕ) → rises key xs ≡ true → length xs ≤ k → a + k ≤ length t
+    → ((i : ℕ) → i < k → getD t (a + i) 0 ≡ getD (laid (λ x older. key x) xs) i 0) → leading (take k (drop a t)) ≡ length xs
+slots-in-use key xs a k t up few room at =
+    let long : length (laid (λ x older. key x) xs) ≡ length xs = length-laid (λ x older. key x) xs in
+    let fits : length (laid (λ x older. key x) xs) ≤ k = omega arith in
+    ap leading (run-is a k t (laid (λ x older. key x) xs) fits room at) ∙ leading-pad k (laid (λ x older. key x) xs) fits (keys-lead key xs up) ∙ long
 
 -- ---- the same words
 pub same-list : (xs ys : List ℕ) → sameList xs ys ≡ true → xs ≡ ys

@@ -11,3 +11,7 @@ pub mod LayoutColumns
 pub mod RowSources
 -- rows read back from the words in which they lie
 pub mod LayoutRows
+-- requests and process records read back
+pub mod LayoutRequests
+-- a sound state and the words in which it lies
+pub mod LayoutWords

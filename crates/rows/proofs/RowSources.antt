@@ -1,17 +1,16 @@
 -- What soundness says of one row's sources: each is 0 or the number of an older row.
 use Prim.Native.Nat.{ℕ}
-use mathlib.Core.Bool.{Bool, true, false, not, _&&_, _||_}
-use mathlib.Core.List.{List, [], _∷_}
+use mathlib.Core.Bool.{Bool, true, false, _||_}
+use mathlib.Core.List.{List}
 use mathlib.Core.Path.{_≡_, refl}
 use mathlib.Core.Logic.{_⊎_, inl, inr, ⊎-elim}
 use lib.Dec.{eqb}
 use borrow.Author.Tests.{eqb-true}
 use Rattle.rows.specs.declared.Row.{Row}
 use Rattle.rows.specs.declared.Request.{Request}
-use Rattle.rows.specs.Lists.{firstWith, member, between, some}
-use Rattle.rows.specs.Codes.{operation, subdirectory, clientEnd, serverEnd, isOperation, isSubdirectory, isClient, isEnd, isCopied, isNode, isClist}
-use Rattle.rows.specs.Limits.{nodes}
-use Rattle.rows.specs.Tables.{noRow, rowOf, requestOf, numbers}
+use Rattle.rows.specs.Lists.{member, between}
+use Rattle.rows.specs.Codes.{operation, subdirectory, clientEnd, isOperation, isSubdirectory, isClient, isCopied, isNode}
+use Rattle.rows.specs.Tables.{noRow, rowOf, numbers}
 use Rattle.rows.specs.Sound.{isOpening, isRegistered, isHeld, isPortEnd, isLentCopy, sourceRight}
 use Rattle.rows.proofs.Bools.{and-l, and-r, or-cases}
 use Rattle.rows.proofs.Keyed.{first-there}
