@@ -15,3 +15,7 @@ pub mod LayoutRows
 pub mod LayoutRequests
 -- a sound state and the words in which it lies
 pub mod LayoutWords
+-- functions that agree on the elements of a list; the keys that a test keeps
+pub mod Agree
+-- what is marked is the least set closed under "a source is marked"
+pub mod Marking
