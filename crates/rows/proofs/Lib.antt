@@ -19,3 +19,5 @@ pub mod LayoutWords
 pub mod Agree
 -- what is marked is the least set closed under "a source is marked"
 pub mod Marking
+-- a standing row of sound tables: its shape and its sources
+pub mod Standing

@@ -1,0 +1,53 @@
+-- A standing row of sound tables: its shape and its sources, looked up among all rows instead of the older ones.
+use Prim.Native.Nat.{ℕ, zero, suc, _<_, _≤_}
+use mathlib.Core.Bool.{Bool, true, false, not, cond, _&&_, _||_}
+use mathlib.Core.List.{List, [], _∷_, map}
+use mathlib.Core.Path.{_≡_, refl, ap, sym, _∙_}
+use mathlib.Core.Logic.{_⊎_, inl, inr, ⊎-elim}
+use native.Mathlib.Omega.{arith}
+use Rattle.rows.specs.declared.Row.{Row}
+use Rattle.rows.specs.declared.Request.{Request}
+use Rattle.rows.specs.Lists.{filter, all, each, member, some, nonzero}
+use Rattle.rows.specs.Tables.{State, noRow, rowOf, numbers, sources}
+use Rattle.rows.specs.Sound.{rowsRise, isRegistered, isHeld, isPortEnd, isLentCopy, sourceRight, sourcesRight, copyMatches, copiesMatch}
+use Rattle.rows.proofs.Bools.{and-l, and-r, and-i, member-here, member-there}
+use Rattle.rows.proofs.Keyed.{olderOf, each-first, older-first, older-key, rises-range}
+use Rattle.rows.proofs.Sound.{Sound}
+use Rattle.rows.proofs.RowSources.{Among, Shape, shape, shape-sources}
+use Rattle.rows.proofs.Marking.{sourcesOlder}
+
+module _ (st : State) (s : Sound st) (n : ℕ) (t : member n (numbers (st .rows)) ≡ true) where
+  older : List Row
+  older = olderOf (λ r. r .number) (st .rows) n
+
+  right : sourceRight (st .requests) (rowOf (st .rows) n) older ≡ true
+  unfolding sourcesRight rowOf numbers older
+  right = each-first (λ r. r .number) noRow (sourceRight (st .requests)) (st .rows) (s .sources-right) n t
+
+  -- what is among the older rows has a lower number
+  lower : (m : ℕ) → Among older m → m < n
+  unfolding rowsRise numbers older
+  lower m (inl z) = let (lo, hi) = rises-range (λ r. r .number) (st .rows) (s .rows-rise) n t in omega arith
+  lower m (inr u) = older-key (λ r. r .number) (st .rows) (s .rows-rise) n m t u .0
+
+  look-older : (m : ℕ) → m < n → rowOf older m ≡ rowOf (st .rows) m
+  unfolding rowsRise rowOf numbers older
+  look-older m h = older-first (λ r. r .number) noRow (st .rows) (s .rows-rise) n t m h
+
+  -- the sources are 0 or older
+  pub source-lower : (rowOf (st .rows) n .source) < n
+  source-lower = lower (rowOf (st .rows) n .source) (shape-sources (st .requests) (rowOf (st .rows) n) older (shape (st .requests) (rowOf (st .rows) n) older right) .0)
+
+  pub via-lower : (rowOf (st .rows) n .via) < n
+  via-lower = lower (rowOf (st .rows) n .via) (shape-sources (st .requests) (rowOf (st .rows) n) older (shape (st .requests) (rowOf (st .rows) n) older right) .1)
+
+  pub standing-shape : Shape (st .requests) (st .rows) (rowOf (st .rows) n)
+  unfolding sourceRight isRegistered isHeld isPortEnd isLentCopy
+  standing-shape =
+      shape (st .requests) (rowOf (st .rows) n) (st .rows)
+      (rw (look-older (rowOf (st .rows) n .source) source-lower, look-older (rowOf (st .rows) n .via) via-lower) at right)
+
+  pub standing-copy : copyMatches (rowOf (st .rows) n) (st .rows) ≡ true
+  unfolding copyMatches copiesMatch numbers older
+  standing-copy =
+      rw (look-older (rowOf (st .rows) n .source) source-lower) at (each-first (λ r. r .number) noRow copyMatches (st .rows) (s .copies-match) n t)
