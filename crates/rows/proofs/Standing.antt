@@ -47,7 +47,47 @@ module _ (st : State) (s : Sound st) (n : ℕ) (t : member n (numbers (st .rows)
       shape (st .requests) (rowOf (st .rows) n) (st .rows)
       (rw (look-older (rowOf (st .rows) n .source) source-lower, look-older (rowOf (st .rows) n .via) via-lower) at right)
 
-  pub standing-copy : copyMatches (rowOf (st .rows) n) (st .rows) ≡ true
-  unfolding copyMatches copiesMatch numbers older
-  standing-copy =
-      rw (look-older (rowOf (st .rows) n .source) source-lower) at (each-first (λ r. r .number) noRow copyMatches (st .rows) (s .copies-match) n t)
+  copied : copyMatches (rowOf (st .rows) n) older ≡ true
+  unfolding copiesMatch rowOf numbers older
+  copied = each-first (λ r. r .number) noRow copyMatches (st .rows) (s .copies-match) n t
+
+  standing-copy : copyMatches (rowOf (st .rows) n) (st .rows) ≡ true
+  unfolding copyMatches
+  standing-copy = rw (look-older (rowOf (st .rows) n .source) source-lower) at copied
+
+-- ---- sources
+-- 0, or what passes
+kept-one : (P : ℕ → Bool) (a : ℕ) (ns : List ℕ) → (a ≡ 0) ⊎ (P a ≡ true) → all P (nonzero ns) ≡ true → all P (nonzero (a ∷ ns)) ≡ true
+unfolding nonzero filter all some
+kept-one P a ns (inl z) e = rw z e
+kept-one P a ns (inr u) e = pick (some a)
+  where
+    pick : (b : Bool) → all P (cond b (a ∷ filter some ns) (filter some ns)) ≡ true
+    pick true = and-i (P a) (all P (filter some ns)) u e
+    pick false = e
+
+each-mono : {A : Type 0} (F G : A → List A → Bool) → ((x : A) (xs : List A) → F x xs ≡ true → G x xs ≡ true) → (xs : List A) → each F xs ≡ true → each G xs ≡ true
+unfolding each
+each-mono F G h [] e = refl
+each-mono F G h (x ∷ xs) e = and-i (G x xs) (each G xs) (h x xs (and-l (F x xs) (each F xs) e)) (each-mono F G h xs (and-r (F x xs) (each F xs) e))
+
+pub sources-older : (st : State) → Sound st → sourcesOlder (st .rows) ≡ true
+unfolding sourcesOlder sourcesRight sources nonzero filter all
+sources-older st s =
+    each-mono (sourceRight (st .requests)) (λ r rs. all (λ s. member s (numbers rs)) (sources r))
+    (λ r rs e.
+    let (a, b) = shape-sources (st .requests) r rs (shape (st .requests) r rs e) in
+    kept-one (λ s. member s (numbers rs)) (r .source) (r .via ∷ []) a (kept-one (λ s. member s (numbers rs)) (r .via) [] b refl))
+    (st .rows) (s .sources-right)
+
+pub source-listed : (r : Row) → some (r .source) ≡ true → member (r .source) (sources r) ≡ true
+unfolding sources nonzero filter
+source-listed r e = rw e (member-here (r .source) (filter some (r .via ∷ [])))
+
+pub via-listed : (r : Row) → some (r .via) ≡ true → member (r .via) (sources r) ≡ true
+unfolding sources nonzero filter
+via-listed r e = pick (some (r .source))
+  where
+    pick : (b : Bool) → member (r .via) (cond b (r .source ∷ filter some (r .via ∷ [])) (filter some (r .via ∷ []))) ≡ true
+    pick true = ?
+    pick false = ?
