@@ -129,23 +129,29 @@ node-no-clist : (p : ℕ) → isNode p ≡ true → isClist p ≡ true → ⊥
 unfolding isNode isClist between inClist nodes
 node-no-clist p e d =
     let lo : leb 101 p ≡ true = search (and-l, and-r) in
-    let hi : leb p 32 ≡ true = search (and-l, and-r) in
+    let hi : leb p 32 ≡ true = search and-r in
     omega (arith, leb-true 101 p lo, leb-true p 32 hi)
 
 -- the sources of a row in a node are in nodes
 node-sources : (vs : List Request) (rs : List Row) (r : Row) → Shape vs rs r → isNode (r .place) ≡ true → any (λ m. not (isNode (rowOf rs m .place))) (sources r) ≡ false
-unfolding sources
+unfolding sources any nonzero filter isOpening isRegistered isHeld isPortEnd isLentCopy
 node-sources vs rs r h e = none-one P (r .source) (r .via ∷ []) (both h .0) (none-one P (r .via) [] (both h .1) refl)
   where
     P : ℕ → Bool
     P m = not (isNode (rowOf rs m .place))
 
     both : Shape vs rs r → ((r .source ≡ 0) ⊎ (P (r .source) ≡ false)) × ((r .via ≡ 0) ⊎ (P (r .via) ≡ false))
-    both (opening d) = ?
-    both (registered d) = ?
-    both (held d) = ?
-    both (port-end d) = ?
-    both (lent-copy d) = ?
+    both (opening d) =
+        let a : eqb (r .source) 0 ≡ true = search (and-l, and-r) in
+        let b : eqb (r .via) 0 ≡ true = search (and-l, and-r) in
+        (inl (eqb-true (r .source) 0 a), inl (eqb-true (r .via) 0 b))
+    both (registered d) =
+        let a : isNode (rowOf rs (r .source) .place) ≡ true = search (and-l, and-r) in
+        let b : eqb (r .via) 0 ≡ true = search (and-l, and-r) in
+        (inr (rw a refl), inl (eqb-true (r .via) 0 b))
+    both (held d) = let a : isClist (r .place) ≡ true = search (and-l, and-r) in absurd (node-no-clist (r .place) e a)
+    both (port-end d) = let a : not (isNode (r .place)) ≡ true = search (and-l, and-r) in clash e (not-t (isNode (r .place)) a)
+    both (lent-copy d) = let a : not (isNode (r .place)) ≡ true = search (and-l, and-r) in clash e (not-t (isNode (r .place)) a)
 
 -- where no row in a node passes the test, none is marked: "rows of nodes never vanish"
 pub nodes-stay : (st : State) → Sound st → (f : Row → Bool)
