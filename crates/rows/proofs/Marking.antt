@@ -1,17 +1,16 @@
 -- What is marked: the least set of numbers that has the rows passing a test and, with a source of a row, that row.
-use Prim.Native.Nat.{ℕ, zero, suc, _<_, _≤_}
-use mathlib.Core.Bool.{Bool, true, false, not, cond, _&&_, _||_}
+use Prim.Native.Nat.{ℕ}
+use mathlib.Core.Bool.{Bool, true, false, not, _||_}
 use mathlib.Core.List.{List, [], _∷_, map}
 use mathlib.Core.Path.{_≡_, refl, ap, sym, _∙_}
-use mathlib.Core.Logic.{_⊎_, inl, inr, ⊎-elim}
+use mathlib.Core.Logic.{⊎-elim}
 use lib.Dec.{eqb}
 use borrow.Author.Tests.{eqb-true, ne-eqb}
 use native.Mathlib.Omega.{arith}
 use Rattle.rows.specs.declared.Row.{Row}
-use Rattle.rows.specs.declared.Request.{Request}
-use Rattle.rows.specs.Lists.{filter, any, all, each, firstWith, rises, member, some, nonzero}
-use Rattle.rows.specs.Tables.{State, noRow, rowOf, numbers, sources, reaches, mark, marked}
-use Rattle.rows.proofs.Bools.{clash, false-of, bool-eq, and-l, and-r, and-i, or-l, or-r, or-map, or-cases, all-mono, any-eq, any-mono, eqb-self, eqb-sym, eqb-sym-f, member-here, member-there, member-cases}
+use Rattle.rows.specs.Lists.{any, all, each, rises, member}
+use Rattle.rows.specs.Tables.{noRow, rowOf, numbers, sources, reaches, mark, marked}
+use Rattle.rows.proofs.Bools.{clash, false-of, bool-eq, and-l, and-r, or-l, or-r, or-map, or-cases, all-mono, any-eq, any-mono, eqb-sym-f, member-here, member-there}
 use Rattle.rows.proofs.Keyed.{olderOf, each-first, older-key, rises-rest, rises-older, rises-fresh}
 use Rattle.rows.proofs.Agree.{Agree, first-here, first-older}
 

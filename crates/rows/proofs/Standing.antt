@@ -1,8 +1,8 @@
 -- A standing row of sound tables: its shape and its sources, looked up among all rows instead of the older ones.
-use Prim.Native.Nat.{ℕ, zero, suc, _<_, _≤_}
+use Prim.Native.Nat.{ℕ, _<_}
 use mathlib.Core.Bool.{Bool, true, false, not, cond, _&&_, _||_}
-use mathlib.Core.List.{List, [], _∷_, map}
-use mathlib.Core.Path.{_≡_, refl, ap, sym, _∙_}
+use mathlib.Core.List.{List, [], _∷_}
+use mathlib.Core.Path.{_≡_, refl}
 use mathlib.Core.Logic.{_⊎_, inl, inr, ⊎-elim}
 use native.Mathlib.Omega.{arith}
 use borrow.Author.Tests.{eqb-true, ne-eqb, leb-true}
@@ -128,7 +128,7 @@ none-one P a ns (inr u) e = pick (some a)
 node-no-clist : (p : ℕ) → isNode p ≡ true → isClist p ≡ true → ⊥
 unfolding isNode isClist between inClist nodes
 node-no-clist p e d =
-    let lo : leb 101 p ≡ true = search (and-l, and-r) in
+    let lo : leb 101 p ≡ true = search and-l in
     let hi : leb p 32 ≡ true = search and-r in
     omega (arith, leb-true 101 p lo, leb-true p 32 hi)
 
@@ -149,7 +149,7 @@ node-sources vs rs r h e = none-one P (r .source) (r .via ∷ []) (both h .0) (n
         let a : isNode (rowOf rs (r .source) .place) ≡ true = search (and-l, and-r) in
         let b : eqb (r .via) 0 ≡ true = search (and-l, and-r) in
         (inr (rw a refl), inl (eqb-true (r .via) 0 b))
-    both (held d) = let a : isClist (r .place) ≡ true = search (and-l, and-r) in absurd (node-no-clist (r .place) e a)
+    both (held d) = let a : isClist (r .place) ≡ true = search and-l in absurd (node-no-clist (r .place) e a)
     both (port-end d) = let a : not (isNode (r .place)) ≡ true = search (and-l, and-r) in clash e (not-t (isNode (r .place)) a)
     both (lent-copy d) = let a : not (isNode (r .place)) ≡ true = search (and-l, and-r) in clash e (not-t (isNode (r .place)) a)
 
