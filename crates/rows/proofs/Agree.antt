@@ -14,6 +14,10 @@ abbrev pub Agree : {A B : Type 0} → (A → B) → (A → B) → List A → Typ
 Agree f g [] = Unit {0}
 Agree f g (x ∷ xs) = (f x ≡ g x) × Agree f g xs
 
+pub agree-map : {A B C : Type 0} (f g : A → B) (h k : A → C) → ((x : A) → f x ≡ g x → h x ≡ k x) → (xs : List A) → Agree f g xs → Agree h k xs
+agree-map f g h k m [] a = tt
+agree-map f g h k m (x ∷ xs) a = (m x (a .0), agree-map f g h k m xs (a .1))
+
 pub filter-agree : {A : Type 0} (f g : A → Bool) (xs : List A) → Agree f g xs → filter f xs ≡ filter g xs
 unfolding filter
 filter-agree f g [] a = refl
