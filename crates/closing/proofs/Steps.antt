@@ -155,7 +155,7 @@ module _ (st : State) (s : Sound st) (seed : Row → Bool) (qs : List ℕ)
       marked-wider seed (falls all-gone) (st .rows) (s .rows-rise) (sources-older st s)
       (λ n t e.
       or-l (member (rowOf (st .rows) n .number) gone) (some (rowOf (st .rows) n .request) && member (rowOf (st .rows) n .request) shut)
-        (rw (number-of n t) (marked-seed seed (st .rows) (s .rows-rise) (sources-older st s) n t e)))
+      (rw (number-of n t) (marked-seed seed (st .rows) (s .rows-rise) (sources-older st s) n t e)))
       (λ n t e.
       ⊎-elim (λ m. rw (number-of n t) at m)
       (λ m. bearer-gone n t (and-l (some (rowOf (st .rows) n .request)) (member (rowOf (st .rows) n .request) shut) m) (and-r (some (rowOf (st .rows) n .request)) (member (rowOf (st .rows) n .request) shut) m))

@@ -39,7 +39,7 @@ module _ {A : Type 0} (key : A → ℕ) (none : A) where
   agree-found f g (x ∷ xs) up h = (
     (rw (first-here x xs) at (h (key x) (member-here (key x) (map key xs)))),
     agree-found f g xs (rises-rest key x xs up)
-      (λ n m. rw (first-older x xs n (rises-older key x xs up n m)) at (h n (member-there n (key x) (map key xs) m))),
+        (λ n m. rw (first-older x xs n (rises-older key x xs up n m)) at (h n (member-there n (key x) (map key xs) m))),
   )
 
   -- the keys that a test keeps

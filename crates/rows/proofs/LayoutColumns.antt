@@ -81,7 +81,7 @@ module _ {A : Type 0} (k : ℕ) (w : ℕ → A → List A → ℕ) (xs : List A)
   columns-at (suc m) c i h hi =
       ⊎-elim
       (λ e. subst (λ (n : ℕ). getD (columns k w m xs ++ pad 0 k (laid (w m) xs)) (n * k + i) 0 ≡ getD (laid (w n) xs) i 0) (sym e)
-        (getD-after (columns k w m xs) (pad 0 k (laid (w m) xs)) (m * k) i (length-columns m) ∙ getD-pad 0 k (laid (w m) xs) i))
+      (getD-after (columns k w m xs) (pad 0 k (laid (w m) xs)) (m * k) i (length-columns m) ∙ getD-pad 0 k (laid (w m) xs) i))
       (λ lt.
       List·getD-append (columns k w m xs) (pad 0 k (laid (w m) xs)) 0 (c * k + i) (omega (arith, length-columns m, mul-le-mul-right k lt, suc-mul c k))
       ∙ columns-at m c i lt hi) (eq-or-lt-of-le (le-of-suc-le-suc h))

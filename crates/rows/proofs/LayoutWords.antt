@@ -56,7 +56,7 @@ module _ (st : State) (s : Sound st) where
   unfolding wordsOf requestsAt
   row-at c i h hi =
       List·getD-append (rowWords rowColumns (st .rows)) (requestWords requestColumns (st .requests) ++ (st .next ∷ [])) 0 (c * rowSlots + i)
-        (omega (arith, long-rows, mul-le-mul-right rowSlots h, suc-mul c rowSlots))
+      (omega (arith, long-rows, mul-le-mul-right rowSlots h, suc-mul c rowSlots))
       ∙ rw (row-columns rowColumns (st .rows)) (columns-at rowSlots rowWord (st .rows) few-rows rowColumns c i h hi)
 
   request-at : (c i : ℕ) → c < requestColumns → i < requestSlots → getD (wordsOf st) (requestsAt + (c * requestSlots + i)) 0 ≡ getD (laid (requestWord c) (st .requests)) i 0
@@ -64,7 +64,7 @@ module _ (st : State) (s : Sound st) where
   request-at c i h hi =
       getD-after (rowWords rowColumns (st .rows)) (requestWords requestColumns (st .requests) ++ (st .next ∷ [])) requestsAt (c * requestSlots + i) long-rows
       ∙ List·getD-append (requestWords requestColumns (st .requests)) (st .next ∷ []) 0 (c * requestSlots + i)
-        (omega (arith, long-requests, mul-le-mul-right requestSlots h, suc-mul c requestSlots))
+      (omega (arith, long-requests, mul-le-mul-right requestSlots h, suc-mul c requestSlots))
       ∙ rw (request-columns requestColumns (st .requests)) (columns-at requestSlots requestWord (st .requests) few-requests requestColumns c i h hi)
 
   next-at : getD (wordsOf st) nextAt 0 ≡ st .next

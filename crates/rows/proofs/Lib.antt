@@ -19,5 +19,5 @@ pub mod LayoutWords
 pub mod Agree
 -- what is marked is the least set closed under "a source is marked"
 pub mod Marking
--- a standing row of sound tables: its shape and its sources
+-- standing rows of sound tables: shapes, sources, rights; rows in nodes stay
 pub mod Standing

@@ -53,7 +53,7 @@ mark-own false k m h = h
 
 module _ (f : Row → Bool) where
   -- the row is marked, the older rows being so
-  unfoldable falls : List Row → Row → Bool
+  falls : List Row → Row → Bool
   falls rs r = f r || any (λ s. member s (marked f rs)) (sources r)
 
   pub marked-stands : (rs : List Row) (n : ℕ) → member n (marked f rs) ≡ true → member n (numbers rs) ≡ true
@@ -111,11 +111,11 @@ module _ (f : Row → Bool) where
       pick ih false q = ih n (sym (marked-other r rs n q) ∙ m)
 
   -- where the sources are older rows, a row is marked if it passes or a source of it is marked
-  pub marked-step : (rs : List Row) → Rises rs → sourcesOlder rs ≡ true → (n : ℕ) → member n (numbers rs) ≡ true
+  pub marked-closed : (rs : List Row) → Rises rs → sourcesOlder rs ≡ true → (n : ℕ) → member n (numbers rs) ≡ true
       → member n (marked f rs) ≡ f (rowOf rs n) || any (λ s. member s (marked f rs)) (sources (rowOf rs n))
   unfolding rowOf numbers falls member sourcesOlder each
-  marked-step [] up old n t = clash t refl
-  marked-step (r ∷ rs) up old n t = pick (marked-step rs (rises-rest (λ r. r .number) r rs up) (and-r (all (λ s. member s (map (λ r. r .number) rs)) (sources r)) (sourcesOlder rs) old) n) (eqb n (r .number)) refl t
+  marked-closed [] up old n t = clash t refl
+  marked-closed (r ∷ rs) up old n t = pick (marked-closed rs (rises-rest (λ r. r .number) r rs up) (and-r (all (λ s. member s (map (λ r. r .number) rs)) (sources r)) (sourcesOlder rs) old) n) (eqb n (r .number)) refl t
     where
       keys : List ℕ
       keys = map (λ r. r .number) rs
@@ -141,11 +141,11 @@ module _ (f : Row → Bool) where
 
   module _ (rs : List Row) (up : Rises rs) (old : sourcesOlder rs ≡ true) (n : ℕ) (t : member n (numbers rs) ≡ true) where
     pub marked-seed : f (rowOf rs n) ≡ true → member n (marked f rs) ≡ true
-    marked-seed e = marked-step rs up old n t ∙ or-l (f (rowOf rs n)) (any (λ s. member s (marked f rs)) (sources (rowOf rs n))) e
+    marked-seed e = marked-closed rs up old n t ∙ or-l (f (rowOf rs n)) (any (λ s. member s (marked f rs)) (sources (rowOf rs n))) e
 
     pub marked-source : (s : ℕ) → member s (sources (rowOf rs n)) ≡ true → member s (marked f rs) ≡ true → member n (marked f rs) ≡ true
     marked-source s u m =
-        marked-step rs up old n t
+        marked-closed rs up old n t
         ∙ or-r (f (rowOf rs n)) (any (λ s. member s (marked f rs)) (sources (rowOf rs n))) (any-at (λ s. member s (marked f rs)) (sources (rowOf rs n)) s u m)
 
 -- the same numbers marked: the same list
@@ -175,14 +175,14 @@ marked-wider f g rs up old wide fit = marked-ext g f rs up (λ n. bool-eq (membe
     more =
         marked-least g (λ n. member n (marked f rs)) rs up
         (λ n t e.
-        ⊎-elim (fit n t) (λ p. marked-step f rs up old n t ∙ or-r (f (rowOf rs n)) (any (λ s. member s (marked f rs)) (sources (rowOf rs n))) p)
+        ⊎-elim (fit n t) (λ p. marked-closed f rs up old n t ∙ or-r (f (rowOf rs n)) (any (λ s. member s (marked f rs)) (sources (rowOf rs n))) p)
         (or-cases (g (rowOf rs n)) (any (λ s. member s (marked f rs)) (sources (rowOf rs n))) e))
 
     less : (n : ℕ) → member n (marked f rs) ≡ true → member n (marked g rs) ≡ true
     less =
         marked-least f (λ n. member n (marked g rs)) rs up
         (λ n t e.
-        marked-step g rs up old n t
+        marked-closed g rs up old n t
         ∙ ⊎-elim (λ p. or-l (g (rowOf rs n)) (any (λ s. member s (marked g rs)) (sources (rowOf rs n))) (wide n t p))
         (or-r (g (rowOf rs n)) (any (λ s. member s (marked g rs)) (sources (rowOf rs n))))
         (or-cases (f (rowOf rs n)) (any (λ s. member s (marked g rs)) (sources (rowOf rs n))) e))

@@ -19,7 +19,7 @@ use Rattle.rows.proofs.Keyed.{first-there}
 abbrev pub Among : List Row → ℕ → Type 0
 Among rs n = (n ≡ 0) ⊎ (member n (numbers rs) ≡ true)
 
--- the row found in a node, of a kind: it is there
+-- a row found in a node is there
 node-there : (rs : List Row) (n : ℕ) → isNode (rowOf rs n .place) ≡ true → member n (numbers rs) ≡ true
 unfolding rowOf numbers noRow isNode between
 node-there rs n e = first-there (λ r. r .number) noRow (λ r. isNode (r .place)) refl rs n e
@@ -29,11 +29,11 @@ kind-there : (P : ℕ → Bool) → P 0 ≡ false → (rs : List Row) (n : ℕ) 
 unfolding rowOf numbers noRow
 kind-there P z rs n e = first-there (λ r. r .number) noRow (λ r. P (r .kind)) z rs n e
 
-pub operation-there : (rs : List Row) (n : ℕ) → isOperation (rowOf rs n .kind) ≡ true → member n (numbers rs) ≡ true
+operation-there : (rs : List Row) (n : ℕ) → isOperation (rowOf rs n .kind) ≡ true → member n (numbers rs) ≡ true
 unfolding isOperation operation
 operation-there = kind-there isOperation refl
 
-pub subdirectory-there : (rs : List Row) (n : ℕ) → isSubdirectory (rowOf rs n .kind) ≡ true → member n (numbers rs) ≡ true
+subdirectory-there : (rs : List Row) (n : ℕ) → isSubdirectory (rowOf rs n .kind) ≡ true → member n (numbers rs) ≡ true
 unfolding isSubdirectory subdirectory
 subdirectory-there = kind-there isSubdirectory refl
 
@@ -41,7 +41,7 @@ pub client-there : (rs : List Row) (n : ℕ) → isClient (rowOf rs n .kind) ≡
 unfolding isClient clientEnd
 client-there = kind-there isClient refl
 
-pub copied-there : (rs : List Row) (n : ℕ) → isCopied (rowOf rs n .kind) ≡ true → member n (numbers rs) ≡ true
+copied-there : (rs : List Row) (n : ℕ) → isCopied (rowOf rs n .kind) ≡ true → member n (numbers rs) ≡ true
 unfolding isCopied isOperation operation isSubdirectory subdirectory
 copied-there = kind-there isCopied refl
 

@@ -1,4 +1,4 @@
--- A standing row of sound tables: its shape and its sources, looked up among all rows instead of the older ones.
+-- Standing rows of sound tables: their shapes, sources and rights, looked up among all rows instead of the older ones; rows in nodes stay.
 use Prim.Native.Nat.{ℕ, _<_}
 use mathlib.Core.Bool.{Bool, true, false, not, cond, _&&_, _||_}
 use mathlib.Core.List.{List, [], _∷_}
@@ -39,10 +39,10 @@ module _ (st : State) (s : Sound st) (n : ℕ) (t : member n (numbers (st .rows)
   look-older m h = older-first (λ r. r .number) noRow (st .rows) (s .rows-rise) n t m h
 
   -- the sources are 0 or older
-  pub source-lower : (rowOf (st .rows) n .source) < n
+  source-lower : (rowOf (st .rows) n .source) < n
   source-lower = lower (rowOf (st .rows) n .source) (shape-sources (st .requests) (rowOf (st .rows) n) older (shape (st .requests) (rowOf (st .rows) n) older right) .0)
 
-  pub via-lower : (rowOf (st .rows) n .via) < n
+  via-lower : (rowOf (st .rows) n .via) < n
   via-lower = lower (rowOf (st .rows) n .via) (shape-sources (st .requests) (rowOf (st .rows) n) older (shape (st .requests) (rowOf (st .rows) n) older right) .1)
 
   pub standing-shape : Shape (st .requests) (st .rows) (rowOf (st .rows) n)
@@ -84,10 +84,6 @@ sources-older st s =
     kept-one (λ s. member s (numbers rs)) (r .source) (r .via ∷ []) a (kept-one (λ s. member s (numbers rs)) (r .via) [] b refl))
     (st .rows) (s .sources-right)
 
-pub source-listed : (r : Row) → some (r .source) ≡ true → member (r .source) (sources r) ≡ true
-unfolding sources nonzero filter
-source-listed r e = rw e (member-here (r .source) (filter some (r .via ∷ [])))
-
 pub via-listed : (r : Row) → some (r .via) ≡ true → member (r .via) (sources r) ≡ true
 unfolding sources nonzero filter
 via-listed r e = pick (some (r .source))
@@ -101,7 +97,7 @@ via-listed r e = pick (some (r .source))
 pub rights-within : (st : State) → Sound st → (n : ℕ) → member n (numbers (st .rows)) ≡ true
     → isEnd (rowOf (st .rows) n .kind) ≡ false → some (rowOf (st .rows) n .source) ≡ true
     → (member (rowOf (st .rows) n .source) (numbers (st .rows)) ≡ true)
-        × (within (rowOf (st .rows) n .rights) (rowOf (st .rows) (rowOf (st .rows) n .source) .rights) ≡ true)
+    × (within (rowOf (st .rows) n .rights) (rowOf (st .rows) (rowOf (st .rows) n .source) .rights) ≡ true)
 unfolding copyMatches
 rights-within st s n t no-end some-source =
     let r = rowOf (st .rows) n in
@@ -109,8 +105,7 @@ rights-within st s n t no-end some-source =
     let pos = some-pos (r .source) some-source in
     let none : eqb (r .source) 0 ≡ false = ne-eqb (r .source) 0 (λ e. omega arith) in
     let copy : eqb (r .kind) (o .kind) && (eqb (r .object) (o .object) && (eqb (r .operation) (o .operation) && within (r .rights) (o .rights))) ≡ true
-            = rw (none, no-end) at (standing-copy st s n t) in
-    (
+    = rw (none, no-end) at (standing-copy st s n t) in (
       ⊎-elim (λ z. absurd (omega arith)) (λ u. u) (shape-sources (st .requests) r (st .rows) (standing-shape st s n t) .0),
       (search (and-l, and-r)),
     )
