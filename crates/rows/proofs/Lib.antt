@@ -5,3 +5,19 @@ pub mod Bools
 pub mod Keyed
 -- soundness as a record, a field a clause
 pub mod Sound
+-- words in padded columns: lengths, and what stands where
+pub mod LayoutColumns
+-- each source of a sound row is 0 or an older row's number
+pub mod RowSources
+-- rows read back from the words in which they lie
+pub mod LayoutRows
+-- requests and process records read back
+pub mod LayoutRequests
+-- a sound state and the words in which it lies
+pub mod LayoutWords
+-- functions that agree on the elements of a list; the keys that a test keeps
+pub mod Agree
+-- what is marked is the least set closed under "a source is marked"
+pub mod Marking
+-- standing rows of sound tables: shapes, sources, rights; rows in nodes stay
+pub mod Standing
