@@ -10,16 +10,13 @@ use native.Mathlib.Omega.{arith}
 use Rattle.rows.specs.declared.Row.{Row}
 use Rattle.rows.specs.Lists.{any, all, each, rises, member}
 use Rattle.rows.specs.Tables.{noRow, rowOf, numbers, sources, reaches, mark, marked}
+use Rattle.rows.specs.Lies.{sourcesOlder}
 use Rattle.rows.proofs.Bools.{clash, false-of, bool-eq, and-l, and-r, or-l, or-r, or-map, or-cases, all-mono, any-eq, any-mono, eqb-sym-f, member-here, member-there}
 use Rattle.rows.proofs.Keyed.{olderOf, each-first, older-key, rises-rest, rises-older, rises-fresh}
 use Rattle.rows.proofs.Agree.{Agree, first-here, first-older}
 
 abbrev Rises : List Row → Type 0
 Rises rs = rises (λ r. r .number) rs ≡ true
-
--- each source is the number of an older row
-unfoldable pub sourcesOlder : List Row → Bool
-sourcesOlder rows = each (λ r rs. all (λ s. member s (numbers rs)) (sources r)) rows
 
 any-eq-on : {A : Type 0} (p f g : A → Bool) → ((a : A) → p a ≡ true → f a ≡ g a) → (xs : List A) → all p xs ≡ true → any f xs ≡ any g xs
 unfolding all any

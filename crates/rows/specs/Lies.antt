@@ -1,5 +1,5 @@
 -- What contracts over the lent words say: a state lies in the words, and what a slot holds.
-use Prim.Native.Nat.{ℕ, zero, suc}
+use Prim.Native.Nat.{ℕ, zero, suc, _<_}
 use mathlib.Core.Bool.{Bool, true, false, not, _&&_, _||_}
 use mathlib.Core.List.{List, [], _∷_, map}
 use mathlib.Core.Path.{_≡_}
@@ -9,21 +9,18 @@ use Rattle.rows.specs.declared.Row.{Row}
 use Rattle.rows.specs.declared.Request.{Request}
 use Rattle.rows.specs.declared.Found.{Found}
 use Rattle.rows.specs.declared.Found.the-variants.{At, Nothing}
-use Rattle.rows.specs.Lists.{if_then_else_, filter, each, member}
-use Rattle.rows.specs.Tables.{State, numbers}
+use Rattle.rows.specs.Lists.{if_then_else_, all, each, member}
+use Rattle.rows.specs.Tables.{State, numbers, sources}
 use Rattle.rows.specs.Sound.{rowsRise, requestsRise, rowsFit, requestsFit, itemsFew}
 use Rattle.rows.specs.Layout.{sourceSlot, rowField, wordsOf}
 
 -- ---- a state that the words hold whole
--- 0, or the number of an older row
-unfoldable pub sourceOlder : List Row → ℕ → Bool
-sourceOlder rs s = eqb s 0 || member s (numbers rs)
-
-unfoldable pub sourcesOlder : Row → List Row → Bool
-sourcesOlder r rs = sourceOlder rs (r .source) && sourceOlder rs (r .via)
+-- the sources of each row are numbers of older rows
+unfoldable pub sourcesOlder : List Row → Bool
+sourcesOlder rows = each (λ r rs. all (λ s. member s (numbers rs)) (sources r)) rows
 
 unfoldable pub laidWell : State → Bool
-laidWell st = rowsRise st && (requestsRise st && (rowsFit st && (requestsFit st && (itemsFew st && each sourcesOlder (st .rows)))))
+laidWell st = rowsRise st && (requestsRise st && (rowsFit st && (requestsFit st && (itemsFew st && sourcesOlder (st .rows)))))
 
 -- the words t are those of the state
 pub record Lies (st : State) (t : List ℕ) : Type 0 where
@@ -52,7 +49,7 @@ foundSlot (suc i) = At i
 
 -- what is found is below a count
 unfoldable pub Within : ℕ → Found → Type 0
-Within k (At i) = suc i Prim.Native.Nat.≤ k
+Within k (At i) = i < k
 Within k Nothing = Unit {0}
 
 -- the words of a slot as a row: its sources are slots plus 1
