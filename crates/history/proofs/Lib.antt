@@ -3,3 +3,5 @@
 pub mod Fit
 -- what holds of the tables and the history after each call
 pub mod Inv
+-- what the history reads of a printed answer
+pub mod Answered
