@@ -1,3 +1,5 @@
 -- Laws of the text side. One line a file:
 -- printed answers read back: the digits of a number give the number
 pub mod Answers
+-- what a call line that is read as a call guarantees: caller, numbers and items in range
+pub mod Readings
