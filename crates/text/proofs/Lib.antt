@@ -3,3 +3,5 @@
 pub mod Answers
 -- what a call line that is read as a call guarantees: caller, numbers and items in range
 pub mod Readings
+-- what an accepted opening text guarantees of its forms
+pub mod OpeningForms
