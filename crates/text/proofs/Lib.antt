@@ -5,3 +5,5 @@ pub mod Answers
 pub mod Readings
 -- what an accepted opening text guarantees of its forms
 pub mod OpeningForms
+-- the rows of the state opened: numbered from 1 on, each an opening row in range
+pub mod OpeningRows
