@@ -7,3 +7,7 @@ pub mod Readings
 pub mod OpeningForms
 -- the rows of the state opened: numbered from 1 on, each an opening row in range
 pub mod OpeningRows
+-- at most 512 rows: 16 for each of at most 32 nodes
+pub mod OpeningCount
+-- the process records of the state opened: in range, at home, those given listed
+pub mod OpeningRecords

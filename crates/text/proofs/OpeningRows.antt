@@ -24,7 +24,7 @@ use Rattle.text.proofs.OpeningForms.{entryShaped, formPassed, Good, Nod
 unfoldable pub counted : Row → List Row → Bool
 counted r rs = eqb (r .number) (suc (length rs))
 
-entries-length : (es : List Entry) (n m : ℕ) (rs : List Row) → length (withEntries n m es rs) ≡ length rs + length es
+pub entries-length : (es : List Entry) (n m : ℕ) (rs : List Row) → length (withEntries n m es rs) ≡ length rs + length es
 unfolding withEntries
 entries-length [] n m rs = omega arith
 entries-length (e ∷ es) n m rs =

@@ -1,0 +1,1 @@
+-- The process records of the state that an opening text opens.
