@@ -11,3 +11,5 @@ pub mod OpeningRows
 pub mod OpeningCount
 -- the process records of the state opened: in range, at home, those given listed
 pub mod OpeningRecords
+-- an accepted opening text opens sound tables
+pub mod Opening
