@@ -5,3 +5,5 @@ pub mod Fit
 pub mod Inv
 -- what the history reads of a printed answer
 pub mod Answered
+-- the rows of the text, as the history begins with them
+pub mod Begun

@@ -49,6 +49,9 @@ row-opening : (fs : List Form) (n m : ℕ) (e : Entry) → between 1 nodes m ≡
 unfolding isOpening entryRow isNode inNode
 row-opening fs n m e b f = rw (b, fit-copied fs e f) refl
 
+pub opened-opening : (fs : List Form) → Good fs → all isOpening (openedFrom empty fs .rows) ≡ true
+opened-opening fs g = opened-all fs isOpening (row-opening fs) g
+
 row-rights : (fs : List Form) (n m : ℕ) (e : Entry) → between 1 nodes m ≡ true → entryFit fs e ≡ true → rightInRange (entryRow n m e) ≡ true
 unfolding rightInRange entryRow
 row-rights fs n m e b f = rw (fit-no-end fs e f) (fit-rights fs e f)
@@ -124,7 +127,7 @@ good-sound fs g =
       rights-in-range = opened-all fs rightInRange (row-rights fs) g;
       places-in-range = opened-all fs (placeInRange (openedFrom empty fs .processes)) (row-place fs fs) g;
       fetched-in-range = rw none refl;
-      sources-right = all-each isOpening (sourceRight (openedFrom empty fs .requests)) (λ r rs o. or-l (isOpening r) _ o) (openedFrom empty fs .rows) (opened-all fs isOpening (row-opening fs) g);
+      sources-right = all-each isOpening (sourceRight (openedFrom empty fs .requests)) (λ r rs o. or-l (isOpening r) _ o) (openedFrom empty fs .rows) (opened-opening fs g);
       depths-right = roots-deep (openedFrom empty fs .rows) c roots;
       copies-match = all-each isRoot copyMatches root-matches (openedFrom empty fs .rows) roots;
       records-in-range = all-mono isHome recordInRange home-ranged (openedFrom empty fs .processes) (opened-home fs (g .passed));

@@ -134,7 +134,6 @@ pub fit-rights : (fs : List Form) (e : Entry) → entryFit fs e ≡ true → leb
 unfolding entryFit entryRanged
 fit-rights fs e h = search (and-l, and-r)
 
--- an operation or a subdirectory, so no end
 pub fit-copied : (fs : List Form) (e : Entry) → entryFit fs e ≡ true → isCopied (e .kind) ≡ true
 unfolding isCopied
 fit-copied fs e h =
@@ -143,10 +142,14 @@ fit-copied fs e h =
       | inr s ↦ or-r (isOperation (e .kind)) (isSubdirectory (e .kind)) (s .kind)
     ]
 
-pub fit-no-end : (fs : List Form) (e : Entry) → entryFit fs e ≡ true → isEnd (e .kind) ≡ false
-unfolding isOperation isSubdirectory isEnd isClient isServer operation subdirectory clientEnd serverEnd
-fit-no-end fs e h =
-    elim (fit-cases fs e h) [
-      | inl o ↦ rw (eqb-true (e .kind) 1 (o .kind)) refl
-      | inr s ↦ rw (eqb-true (e .kind) 2 (s .kind)) refl
+-- an operation or a subdirectory is no end
+pub copied-no-end : (k : ℕ) → isCopied k ≡ true → isEnd k ≡ false
+unfolding isCopied isOperation isSubdirectory isEnd isClient isServer operation subdirectory clientEnd serverEnd
+copied-no-end k h =
+    elim (or-cases (eqb k 1) (eqb k 2) h) [
+      | inl o ↦ rw (eqb-true k 1 o) refl
+      | inr s ↦ rw (eqb-true k 2 s) refl
     ]
+
+pub fit-no-end : (fs : List Form) (e : Entry) → entryFit fs e ≡ true → isEnd (e .kind) ≡ false
+fit-no-end fs e h = copied-no-end (e .kind) (fit-copied fs e h)
