@@ -13,3 +13,5 @@ pub mod OpeningCount
 pub mod OpeningRecords
 -- an accepted opening text opens sound tables
 pub mod Opening
+-- a number of any length is read as its exact value, or as 1,000,001
+pub mod Numbers
