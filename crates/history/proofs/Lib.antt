@@ -7,3 +7,5 @@ pub mod Inv
 pub mod Answered
 -- the rows of the text, as the history begins with them
 pub mod Begun
+-- every answer to a call line on sound tables is one that the history can read
+pub mod Spoken
