@@ -1,9 +1,9 @@
 -- The history begins with the rows that the opening text opens, numbered as there.
-use Prim.Native.Nat.{ℕ, zero, suc, _+_}
+use Prim.Native.Nat.{ℕ, suc}
 use native.Mathlib.Omega.{arith}
-use mathlib.Core.Bool.{Bool, true, false, not, cond, _&&_, _||_}
+use mathlib.Core.Bool.{true, false, _&&_}
 use mathlib.Core.List.{List, [], _∷_, map}
-use mathlib.Core.Path.{_≡_, refl, sym, ap, _∙_}
+use mathlib.Core.Path.{_≡_, refl, ap, _∙_}
 use lib.ListN.{length}
 use lib.Dec.{eqb}
 use borrow.Author.Tests.{eqb-true}
@@ -18,7 +18,6 @@ use Rattle.text.specs.Entry.{stateOpened}
 use Rattle.text.proofs.OpeningForms.{opening-good}
 use Rattle.text.proofs.OpeningRows.{counted, entries-length, opened-next as next-is, opened-counted, copied-no-end}
 use Rattle.text.proofs.Opening.{opened-opening}
-use Rattle.history.specs.Notes.{Noted}
 use Rattle.history.specs.Reading.{entryCount, downFrom, textRows}
 use Rattle.history.proofs.Inv.{view}
 

@@ -1,20 +1,19 @@
 -- Every answer to a call line on sound tables can be read back: an accepted one has a value, of at most 1,000,000, and a refusal has a number.
-use Prim.Native.Nat.{ℕ, zero, suc, _+_, _<_, _≤_}
+use Prim.Native.Nat.{ℕ, suc, _+_, _<_, _≤_}
 use native.Mathlib.Omega.{arith}
-use mathlib.Core.Bool.{Bool, true, false, not, cond, _&&_, _||_}
-use mathlib.Core.List.{List, [], _∷_, map}
-use mathlib.Core.Path.{_≡_, refl, sym, ap, _∙_, subst}
-use lib.ListN.{length, getD}
+use mathlib.Core.Bool.{Bool, true, false, not, cond}
+use mathlib.Core.List.{List, [], _∷_}
+use mathlib.Core.Path.{_≡_, refl}
+use lib.ListN.{length}
 use lib.Dec.{leb, ltb, eqb}
-use borrow.Author.Tests.{ltb-true, ltb-false, leb-true, le-leb, eqb-true}
+use borrow.Author.Tests.{ltb-true, ltb-false, leb-true, le-leb}
 use Rattle.rows.specs.declared.Request.{Request}
-use Rattle.rows.specs.Lists.{if_then_else_, all, firstWith, topOf, rises, member, nonzero, between}
+use Rattle.rows.specs.Lists.{all, firstWith, topOf, rises}
 use Rattle.rows.specs.Limits.{greatestNumber}
-use Rattle.rows.specs.Codes.{isSubdirectory, isOperation, isClient, isServer, isEnd, inNode, mayHold, mayRegister}
-use Rattle.rows.specs.Tables.{State, noRequest, rowOf, requestOf, openOn, processAt, depthOver, isListed, onLoan, isLent}
-use Rattle.rows.specs.Sound.{belowNext, nextInRange, requestsRise, isFetched}
-use Rattle.rows.proofs.Bools.{and-l, and-r, and-i, or-fl, false-of}
-use Rattle.rows.proofs.Keyed.{all-first, first-there, rises-first, rises-rest}
+use Rattle.rows.specs.Tables.{State, noRequest, rowOf, openOn, isListed}
+use Rattle.rows.specs.Sound.{belowNext, nextInRange, requestsRise}
+use Rattle.rows.proofs.Bools.{and-l, and-r, and-i}
+use Rattle.rows.proofs.Keyed.{rises-first, rises-rest}
 use Rattle.rows.proofs.Sound.{Sound}
 use Rattle.calls.specs.declared.Answer.{Answer}
 use Rattle.calls.specs.declared.Answer.the-variants.{Done, Made, Fetched, Told, Refused}
@@ -22,7 +21,7 @@ use Rattle.calls.specs.declared.Item.{Item}
 use Rattle.calls.specs.declared.Call.{Call}
 use Rattle.calls.specs.declared.Call.the-variants.{Go, Hold, Register, Drop, Port, Close, Ask, Fetch, Reply, Refuse, Revoke, Comes}
 use Rattle.calls.specs.Answers.{refusalOf, valuesOf}
-use Rattle.calls.specs.Rules.{Out, refusedIf, notHeld, tooDeep, rowsFull, numbersSpent}
+use Rattle.calls.specs.Rules.{Out, refusedIf, numbersSpent}
 use Rattle.calls.specs.Loans.{itemsOf, copies}
 use Rattle.calls.specs.Calls.{done, made, doGo, doHold, doRegister, doDrop, doPort, doClose, doAsk, doFetch, doReply, doRefuse, doRevoke, doComes, fetchedAnswer, goHome, perform}
 use Rattle.text.specs.declared.Reading.{Reading}

@@ -2,18 +2,17 @@
 use Prim.Native.Nat.{ℕ, zero, suc, _+_, _-_, _*_, _/_, _%_, _^_, _≤_, _<_}
 use native.Mathlib.Omega.{arith}
 use mathlib.Core.Path.{_≡_, refl, sym, ap, _∙_}
-use mathlib.Core.Bool.{Bool, true, false, not, cond, _&&_}
+use mathlib.Core.Bool.{Bool, true, false, cond}
 use mathlib.Core.List.{List, [], _∷_, _++_, append-assoc}
 use lib.ListN.{length, getD, drop, length-append}
 use lib.Seq.{append-snoc, getD-drop}
-use lib.Dec.{leb, ltb, eqb}
-use borrow.Author.Tests.{ltb-true, ltb-false, lt-ltb, le-leb, eq-eqb, ne-eqb, eqb-true, eqb-false}
+use lib.Dec.{ltb, eqb}
+use borrow.Author.Tests.{ltb-true, ltb-false, lt-ltb, le-leb, eq-eqb, ne-eqb, eqb-true}
 use Rattle.rows.specs.Lists.{bytes, between}
 use Rattle.rows.specs.Limits.{greatestNumber}
 use Rattle.rows.proofs.Bools.{bool-eq}
-use Rattle.text.specs.declared.Run.{Run}
 use Rattle.text.specs.declared.Read.{Read}
-use Rattle.text.specs.Patterns.{isDigit, grown, run, digits, began, counted, passed, number, itself, piece, pieces, form, bad, word}
+use Rattle.text.specs.Patterns.{isDigit, grown, run, digits, began, counted, passed, number, itself, piece, pieces, form, bad}
 use Rattle.text.specs.Answers.{decimal, digitsOf, spaced, okText, noText}
 
 -- ---- digits
@@ -31,7 +30,7 @@ unfolding run
 one-more v k i t h = rw (digit-is k h) refl
 
 -- the digits of n are worth n
-pub run-decimal : (d n i : ℕ) (t : List ℕ) → n < 10 ^ d → n ≤ greatestNumber → run isDigit grown 0 i (decimal d n ++ t) ≡ run isDigit grown n (i + length (decimal d n)) t
+run-decimal : (d n i : ℕ) (t : List ℕ) → n < 10 ^ d → n ≤ greatestNumber → run isDigit grown 0 i (decimal d n ++ t) ≡ run isDigit grown n (i + length (decimal d n)) t
 unfolding decimal greatestNumber
 run-decimal zero n i t h l = let z : n ≡ 0 = omega arith in let y : i + 0 ≡ i = omega arith in rw (z, y) refl
 run-decimal (suc d) n i t h l = pick (ltb n 10) refl (run-decimal d (n / 10) i ((48 + n % 10) ∷ t))
@@ -48,7 +47,7 @@ run-decimal (suc d) n i t h l = pick (ltb n 10) refl (run-decimal d (n / 10) i (
     pick false e ih =
         let j : suc (i + length (decimal d (n / 10))) ≡ i + (length (decimal d (n / 10)) + 1) = omega arith in
         rw (append-snoc, length-append)
-          (ih (omega arith) (omega arith) ∙ one-more (n / 10) (n % 10) (i + length (decimal d (n / 10))) t (omega arith) ∙ (rw (grown-digit n l, j) refl))
+        (ih (omega arith) (omega arith) ∙ one-more (n / 10) (n % 10) (i + length (decimal d (n / 10))) t (omega arith) ∙ (rw (grown-digit n l, j) refl))
 
 -- s begins with a digit, with 0 only if n is 0
 record Leads (s : List ℕ) (n : ℕ) : Type 0 where
@@ -93,7 +92,7 @@ number-printed s r n t e h z =
     let there : r .next ≡ r .next + 0 = omega arith in
     let begins : getD s (r .next) 0 ≡ getD (decimal 10 n ++ t) 0 0 = ap (λ k. getD s k 0) there ∙ sym (getD-drop (r .next) s 0 0) ∙ ap (λ x. getD x 0 0) e in
     let worth : run isDigit grown 0 (r .next) (drop (r .next) s) .value ≡ n =
-        ap (λ x. run isDigit grown 0 (r .next) x .value) e ∙ ap (λ x. x .value) (run-decimal 10 n (r .next) t lt h) ∙ run-ends n (r .next + length (decimal 10 n)) t z in
+    ap (λ x. run isDigit grown 0 (r .next) x .value) e ∙ ap (λ x. x .value) (run-decimal 10 n (r .next) t lt h) ∙ run-ends n (r .next + length (decimal 10 n)) t z in
     rw (begins, l .zeros, l .digit) (pick worth (eqb n 0) refl)
   where
     pick : run isDigit grown 0 (r .next) (drop (r .next) s) .value ≡ n → (b : Bool) → eqb n 0 ≡ b
@@ -116,7 +115,7 @@ pub read-ok : (n : ℕ) (ns : List ℕ) → n ≤ greatestNumber → Gives (form
 unfolding okText spaced bytes began
 read-ok n ns h =
     rw (ok-prefix (digitsOf n ++ spaced ns ++ bytes ")\n"))
-      (number-printed (40 ∷ 111 ∷ 107 ∷ 32 ∷ (digitsOf n ++ spaced ns ++ bytes ")\n")) (began 4) n (spaced ns ++ bytes ")\n") (append-assoc (digitsOf n) (spaced ns) (bytes ")\n")) h (after-number ns))
+    (number-printed (40 ∷ 111 ∷ 107 ∷ 32 ∷ (digitsOf n ++ spaced ns ++ bytes ")\n")) (began 4) n (spaced ns ++ bytes ")\n") (append-assoc (digitsOf n) (spaced ns) (bytes ")\n")) h (after-number ns))
 
 no-prefix : (u : List ℕ) → form (40 ∷ 110 ∷ 111 ∷ u) 0 "(ok #" .good ≡ false
 unfolding form pieces piece itself passed began bytes bad

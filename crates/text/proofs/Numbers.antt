@@ -1,5 +1,5 @@
 -- A number of any length is never wrapped: what is read is its exact value, or 1,000,001 if that is above 1,000,000.
-use Prim.Native.Nat.{ℕ, zero, suc, _+_, _*_, _-_, _≤_, _<_}
+use Prim.Native.Nat.{ℕ, suc, _+_, _*_, _-_, _<_}
 use native.Mathlib.Omega.{arith}
 use mathlib.Core.Path.{_≡_, refl}
 use mathlib.Core.Bool.{Bool, true, false, cond}
@@ -9,7 +9,6 @@ use lib.Dec.{leb}
 use borrow.Author.Tests.{lt-leb, leb-false}
 use Rattle.rows.specs.Lists.{if_then_else_}
 use Rattle.rows.specs.Limits.{greatestNumber}
-use Rattle.text.specs.declared.Run.{Run}
 use Rattle.text.specs.Patterns.{isDigit, grown, run, digits}
 
 -- what v is worth with one more digit, with no bound

@@ -1,28 +1,27 @@
 -- An accepted opening text opens sound tables; so are the empty tables.
-use Prim.Native.Nat.{ℕ, zero, suc, _≤_, _<_}
+use Prim.Native.Nat.{ℕ, _≤_}
 use native.Mathlib.Omega.{arith}
-use mathlib.Core.Path.{_≡_, refl, sym, ap, _∙_}
-use mathlib.Core.Bool.{Bool, true, false, not, cond, _&&_, _||_}
+use mathlib.Core.Path.{_≡_, refl}
+use mathlib.Core.Bool.{Bool, true, _&&_}
 use mathlib.Core.List.{List, [], _∷_, map}
-use mathlib.Core.Logic.{_⊎_, inl, inr}
+use mathlib.Core.Logic.{inl, inr}
 use lib.ListN.{length}
-use lib.Dec.{leb, ltb, eqb}
+use lib.Dec.{leb, eqb}
 use borrow.Author.Tests.{eqb-true, eq-eqb, ne-eqb, lt-ltb, le-leb}
 use Rattle.rows.specs.declared.Row.{Row}
-use Rattle.rows.specs.declared.Request.{Request}
-use Rattle.rows.specs.Lists.{any, all, each, topOf, rises, member, distinct, between}
-use Rattle.rows.specs.Limits.{processes, nodes, greatestOperation, allRights, greatestNumber, rowSlots, requestSlots, greatestDepth}
-use Rattle.rows.specs.Codes.{isOperation, isSubdirectory, isClient, isServer, isEnd, isCopied, inNode, isNode, isClist, isSystem, withSystem}
-use Rattle.rows.specs.Tables.{State, noRow, empty, rowOf, isListed, numbers, depthOver}
+use Rattle.rows.specs.Lists.{all, each, topOf, rises, member, distinct, between}
+use Rattle.rows.specs.Limits.{processes, nodes, greatestOperation, greatestNumber, rowSlots, requestSlots, greatestDepth}
+use Rattle.rows.specs.Codes.{isOperation, inNode, isNode, isSystem, withSystem}
+use Rattle.rows.specs.Tables.{noRow, empty, rowOf, isListed, depthOver}
 use Rattle.rows.specs.Sound.{rowsRise, requestsRise, numbersApart, belowNext, nextInRange, rowsFit, requestsFit, recordsFit, objectInRange, objectsInRange, rightInRange, rightsInRange, placeInRange, placesInRange, fetchedInRange, isOpening, sourceRight, sourcesRight, depthRight, depthsRight, copyMatches, copiesMatch, recordInRange, recordsInRange, endPaired, endsPaired, portsStand, requestersListed, itemsFew, itemsApart, itemsLent, onePerPort, copyListed, copiesListed, olderFetched, awaitsFetch, same, systemHolds, processesPlaced}
 use Rattle.rows.proofs.Bools.{false-of, and-l, and-r, and-i, or-l, or-r, all-mono}
 use Rattle.rows.proofs.Keyed.{first-none, rises-range}
 use Rattle.rows.proofs.Sound.{Sound, sound-open}
 use Rattle.text.specs.declared.Entry.{Entry}
-use Rattle.text.specs.Opening.{Form, nodeForm, processForm, opens, openingOf, givesProcess, entryRow, withForm, openedFrom}
+use Rattle.text.specs.Opening.{Form, nodeForm, processForm, opens, openingOf, entryRow, withForm, openedFrom}
 use Rattle.text.specs.Entry.{stateOpened}
-use Rattle.text.proofs.OpeningForms.{between-range, range-between, formPassed, Good, opening-good}
-use Rattle.text.proofs.OpeningRows.{counted, opened-next, opened-counted, counted-top, counted-rises, entryFit, opened-all, OfOperation, OfSubdirectory, fit-cases, fit-rights, fit-copied, fit-no-end}
+use Rattle.text.proofs.OpeningForms.{between-range, range-between, Good, opening-good}
+use Rattle.text.proofs.OpeningRows.{counted, opened-next, opened-counted, counted-top, counted-rises, entryFit, opened-all, fit-cases, fit-rights, fit-copied, fit-no-end}
 use Rattle.text.proofs.OpeningCount.{opened-few}
 use Rattle.text.proofs.OpeningRecords.{isHome, opened-length, opened-home, opened-listed, home-placed, home-ranged}
 
@@ -86,7 +85,7 @@ no-zero : (rs : List Row) → each counted rs ≡ true → rowOf rs 0 ≡ noRow
 unfolding rowOf
 no-zero rs c =
     first-none (λ r. r .number) noRow rs 0
-      (false-of (member 0 (map (λ r. r .number) rs)) (λ t. let (lo, hi) = rises-range (λ r. r .number) rs (counted-rises rs c) 0 t in omega arith))
+    (false-of (member 0 (map (λ r. r .number) rs)) (λ t. let (lo, hi) = rises-range (λ r. r .number) rs (counted-rises rs c) 0 t in omega arith))
 
 roots-deep : (rs : List Row) → each counted rs ≡ true → all isRoot rs ≡ true → each depthRight rs ≡ true
 unfolding each all depthRight depthOver isRoot noRow greatestDepth
@@ -105,7 +104,7 @@ unfolding isRoot entryRow
 row-root fs n m e b f = refl
 
 -- ---- all of it
-pub good-sound : (fs : List Form) → Good fs → Sound (openedFrom empty fs)
+good-sound : (fs : List Form) → Good fs → Sound (openedFrom empty fs)
 unfolding rowsRise requestsRise numbersApart belowNext nextInRange rowsFit requestsFit recordsFit objectsInRange rightsInRange placesInRange fetchedInRange sourcesRight sourceRight depthsRight copiesMatch recordsInRange endsPaired portsStand requestersListed itemsFew itemsApart itemsLent onePerPort copyListed copiesListed olderFetched systemHolds processesPlaced rises topOf all each distinct greatestNumber rowSlots requestSlots entryRow
 good-sound fs g =
     let c = opened-counted fs in

@@ -1,18 +1,17 @@
 -- At most 512 rows are opened: 16 for each node, and distinct numbers between 1 and n are at most n.
-use Prim.Native.Nat.{ℕ, zero, suc, _+_, _*_, _≤_, _<_}
+use Prim.Native.Nat.{ℕ, zero, suc, _*_, _≤_}
 use native.Mathlib.Omega.{arith}
-use mathlib.Core.Path.{_≡_, refl, sym, ap, _∙_}
-use mathlib.Core.Bool.{Bool, true, false, not, cond, _&&_, _||_}
+use mathlib.Core.Path.{_≡_, refl}
+use mathlib.Core.Bool.{Bool, true, false, not, cond}
 use mathlib.Core.List.{List, [], _∷_}
 use lib.ListN.{length}
-use lib.Dec.{leb, ltb, eqb}
-use borrow.Author.Tests.{eqb-true, eqb-false, leb-true, le-leb}
+use lib.Dec.{eqb}
+use borrow.Author.Tests.{eqb-true, eqb-false}
 use Rattle.rows.specs.Lists.{filter, any, all, each, member, distinct, between}
 use Rattle.rows.specs.Limits.{nodes, mostEntries}
 use Rattle.rows.specs.Tables.{empty}
-use Rattle.rows.proofs.Bools.{and-l, and-r, and-i, not-t, or-fl, or-fr, eqb-sym, eqb-sym-f, all-and, all-filter}
-use Rattle.text.specs.declared.Entry.{Entry}
-use Rattle.text.specs.Opening.{Form, nodeForm, processForm, givesNode, withEntries, withForm, openedFrom}
+use Rattle.rows.proofs.Bools.{and-l, and-r, and-i, not-t, or-fl, or-fr, eqb-sym-f, all-and, all-filter}
+use Rattle.text.specs.Opening.{Form, nodeForm, processForm, givesNode, withForm, openedFrom}
 use Rattle.text.proofs.OpeningForms.{between-range, range-between, formPassed, node-passed}
 use Rattle.text.proofs.OpeningRows.{entries-length}
 
@@ -78,8 +77,8 @@ distinct-length zero (m ∷ ns) d r = let (lo, hi) = between-range 1 0 m (and-l 
 distinct-length (suc n) ns d r =
     let l = length-without (suc n) ns d in
     let h : length (filter (other (suc n)) ns) ≤ n =
-        distinct-length n (filter (other (suc n)) ns) (distinct-filter (other (suc n)) ns d)
-          (all-and (other (suc n)) (between 1 (suc n)) (between 1 n) (below n) (filter (other (suc n)) ns) (filter-passes (other (suc n)) ns) (all-filter (other (suc n)) (between 1 (suc n)) ns r)) in
+    distinct-length n (filter (other (suc n)) ns) (distinct-filter (other (suc n)) ns d)
+    (all-and (other (suc n)) (between 1 (suc n)) (between 1 n) (below n) (filter (other (suc n)) ns) (filter-passes (other (suc n)) ns) (all-filter (other (suc n)) (between 1 (suc n)) ns r)) in
     omega arith
 
 -- ---- the nodes given

@@ -1,7 +1,7 @@
 -- What an accepted opening text guarantees of its forms: each in range, of the right shape and given once; all that they name is listed.
-use Prim.Native.Nat.{ℕ, zero, suc, _≤_, _<_}
+use Prim.Native.Nat.{ℕ, zero, suc, _≤_}
 use native.Mathlib.Omega.{arith}
-use mathlib.Core.Path.{_≡_, refl, sym, subst, ap, _∙_}
+use mathlib.Core.Path.{_≡_, refl, subst}
 use mathlib.Core.Bool.{Bool, true, false, not, cond, _&&_, _||_}
 use mathlib.Core.List.{List, [], _∷_}
 use lib.ListN.{length}
@@ -10,7 +10,7 @@ use borrow.Author.Tests.{ltb-true, ltb-false, leb-true, le-leb, eqb-true}
 use Rattle.rows.specs.Lists.{any, all, each, between}
 use Rattle.rows.specs.Limits.{processes, nodes, mostEntries, mostBytes}
 use Rattle.rows.specs.Codes.{operation, subdirectory, isOperation, isSubdirectory}
-use Rattle.rows.proofs.Bools.{and-l, and-r, and-i, not-f}
+use Rattle.rows.proofs.Bools.{and-l, and-r, and-i}
 use Rattle.text.specs.declared.Entry.{Entry}
 use Rattle.text.specs.Patterns.{form, whole, mostGroups}
 use Rattle.text.specs.Opening.{Form, nodeForm, processForm, Line, lastLine, formLine, badLine, FirstPass, readTo, stoppedBy, Opening, opens, refusedAt, operationEntry, subdirectoryEntry, addEntry, entriesFrom, nodeLine, processLine, openLine, lineOf, entryRanged, givesNode, givesProcess, formRefusal, firstPass, formListed, missingAt, secondPass, openingOf, entriesIn}
@@ -61,8 +61,8 @@ line-shaped s =
     let e = cond (whole s (form s 0 "(open)\n")) lastLine badLine in
     let p = cond (whole s h) (formLine (processForm (h .b) (h .c))) e in
     if-shaped (ltb (suc mostBytes) (length s)) badLine (cond (f .good && whole s (form s (g .next) ")\n")) (formLine (nodeForm (f .c) (g .entries))) p) tt
-      (if-shaped (f .good && whole s (form s (g .next) ")\n")) (formLine (nodeForm (f .c) (g .entries))) p (entries-shaped mostGroups s (f .next))
-      (if-shaped (whole s h) (formLine (processForm (h .b) (h .c))) e refl (if-shaped (whole s (form s 0 "(open)\n")) lastLine badLine tt tt)))
+    (if-shaped (f .good && whole s (form s (g .next) ")\n")) (formLine (nodeForm (f .c) (g .entries))) p (entries-shaped mostGroups s (f .next))
+    (if-shaped (whole s h) (formLine (processForm (h .b) (h .c))) e refl (if-shaped (whole s (form s 0 "(open)\n")) lastLine badLine tt tt)))
 
 -- ---- the first pass: each form is not refused after those older, and has shaped entries
 unfoldable pub formPassed : Form → List Form → Bool
@@ -142,7 +142,7 @@ pub node-passed : (older : List Form) (n : ℕ) (es : List Entry) → formPassed
 unfolding formPassed formRefusal entriesIn
 node-passed older n es h =
     pick (between 1 nodes n && all entryRanged es) refl (any (givesNode n) older) refl (ltb mostEntries (length es)) refl
-      (eqb-true (formRefusal older (nodeForm n es)) 0 (and-l (eqb (formRefusal older (nodeForm n es)) 0) (all entryShaped es) h))
+    (eqb-true (formRefusal older (nodeForm n es)) 0 (and-l (eqb (formRefusal older (nodeForm n es)) 0) (all entryShaped es) h))
   where
     pick : (a : Bool) → between 1 nodes n && all entryRanged es ≡ a → (b : Bool) → any (givesNode n) older ≡ b → (c : Bool) → ltb mostEntries (length es) ≡ c
         → _≡_ {A = ℕ} (cond (not a) 3 (cond b 4 (cond c 6 0))) 0 → NodePassed older n es
@@ -162,7 +162,7 @@ pub process-passed : (older : List Form) (p n : ℕ) → formPassed (processForm
 unfolding formPassed formRefusal entriesIn
 process-passed older p n h =
     pick (between 1 processes p && between 1 nodes n) refl (any (givesProcess p) older) refl
-      (eqb-true (formRefusal older (processForm p n)) 0 (and-l (eqb (formRefusal older (processForm p n)) 0) (all entryShaped []) h))
+    (eqb-true (formRefusal older (processForm p n)) 0 (and-l (eqb (formRefusal older (processForm p n)) 0) (all entryShaped []) h))
   where
     pick : (a : Bool) → between 1 processes p && between 1 nodes n ≡ a → (b : Bool) → any (givesProcess p) older ≡ b → _≡_ {A = ℕ} (cond (not a) 3 (cond b 4 0)) 0 → ProcessPassed older p n
     pick false ea b eb z = absurd (omega arith)

@@ -1,14 +1,13 @@
 -- The process records of the state that an opening text opens: 64, each in range and at home, those of the processes given listed.
-use Prim.Native.Nat.{ℕ, zero, suc, _-_, _≤_, _<_}
+use Prim.Native.Nat.{ℕ, zero, suc, _-_, _≤_}
 use native.Mathlib.Omega.{arith}
-use native.Mathlib.Decide.{ℕ-discrete}
-use mathlib.Core.Path.{_≡_, refl, sym, ap, _∙_}
-use mathlib.Core.Bool.{Bool, true, false, not, cond, _&&_, _||_}
+use mathlib.Core.Path.{_≡_, refl, _∙_}
+use mathlib.Core.Bool.{Bool, true, false, _&&_, _||_}
 use mathlib.Core.List.{List, [], _∷_}
 use lib.ListN.{length, getD, set, length-set}
-use lib.Seq.{getD-set-same, getD-set-other}
-use lib.Dec.{leb, ltb, eqb}
-use borrow.Author.Tests.{eqb-true, eq-eqb, lt-ltb}
+use lib.Seq.{getD-set-same}
+use lib.Dec.{eqb}
+use borrow.Author.Tests.{eqb-true}
 use Rattle.rows.specs.declared.Row.{Row}
 use Rattle.rows.specs.declared.Process.{Process}
 use Rattle.rows.specs.Lists.{any, all, each, between, some}
@@ -93,7 +92,7 @@ home-placed rs p [] e = refl
 home-placed rs p (x ∷ ps) e =
     let h : isHome x ≡ true = and-l (isHome x) (all isHome ps) e in
     and-i (processPlaced rs p x) (placedFrom rs (suc p) ps) (or-l (eqb (x .through) 0 && eqb (x .active) (x .prime)) _ (and-r (recordInRange x) (eqb (x .through) 0 && eqb (x .active) (x .prime)) h))
-      (home-placed rs (suc p) ps (and-r (isHome x) (all isHome ps) e))
+    (home-placed rs (suc p) ps (and-r (isHome x) (all isHome ps) e))
 
 pub home-ranged : (x : Process) → isHome x ≡ true → recordInRange x ≡ true
 unfolding isHome

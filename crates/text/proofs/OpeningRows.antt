@@ -1,21 +1,19 @@
 -- The rows of the state that an opening text opens: numbered from 1 on, each an opening row of a fit entry.
-use Prim.Native.Nat.{ℕ, zero, suc, _+_, _≤_, _<_}
+use Prim.Native.Nat.{ℕ, suc, _+_}
 use native.Mathlib.Omega.{arith}
-use native.Mathlib.Numerals.{add-one}
-use mathlib.Core.Path.{_≡_, refl, sym, subst, ap, _∙_}
-use mathlib.Core.Bool.{Bool, true, false, not, cond, _&&_, _||_}
+use mathlib.Core.Path.{_≡_, refl, ap}
+use mathlib.Core.Bool.{Bool, true, false, cond, _&&_, _||_}
 use mathlib.Core.List.{List, [], _∷_}
 use mathlib.Core.Logic.{_⊎_, inl, inr}
 use lib.ListN.{length}
 use lib.Dec.{leb, ltb, eqb}
-use borrow.Author.Tests.{eqb-true, eq-eqb, ne-eqb, lt-ltb, leb-true}
+use borrow.Author.Tests.{eqb-true, eq-eqb, lt-ltb}
 use Rattle.rows.specs.declared.Row.{Row}
 use Rattle.rows.specs.Lists.{any, all, each, topOf, rises, between}
 use Rattle.rows.specs.Limits.{processes, nodes, greatestOperation, allRights}
-use Rattle.rows.specs.Codes.{operation, subdirectory, clientEnd, serverEnd, isOperation, isSubdirectory, isClient, isServer, isEnd, isCopied, inNode, isNode}
-use Rattle.rows.specs.Tables.{State, empty}
-use Rattle.rows.specs.Sound.{isOpening}
-use Rattle.rows.proofs.Bools.{clash, and-l, and-r, and-i, or-cases, or-l, or-r, all-and}
+use Rattle.rows.specs.Codes.{operation, subdirectory, clientEnd, serverEnd, isOperation, isSubdirectory, isClient, isServer, isEnd, isCopied}
+use Rattle.rows.specs.Tables.{empty}
+use Rattle.rows.proofs.Bools.{and-l, and-r, and-i, or-cases, or-l, or-r, all-and}
 use Rattle.text.specs.declared.Entry.{Entry}
 use Rattle.text.specs.Opening.{Form, nodeForm, processForm, entryRanged, givesNode, givesProcess, entryListed, formListed, entryRow, withEntries, withForm, openedFrom}
 use Rattle.text.proofs.OpeningForms.{entryShaped, formPassed, Good, NodePassed, node-passed}
@@ -80,7 +78,7 @@ forms-fit fs (nodeForm n es ∷ gs) p l =
     let both = all-and entryRanged (entryListed fs) (λ e. entryRanged e && entryListed fs e) (λ e a b. and-i (entryRanged e) (entryListed fs e) a b) es (k .ranged) listed in
     let fit = all-and entryShaped (λ e. entryRanged e && entryListed fs e) (entryFit fs) (λ e a b. and-i (entryShaped e) (entryRanged e && entryListed fs e) a b) es (k .shaped) both in
     and-i (between 1 nodes n && all (entryFit fs) es) (all (entriesFit fs) gs) (and-i (between 1 nodes n) (all (entryFit fs) es) (k .node) fit)
-      (forms-fit fs gs (and-r (formPassed (nodeForm n es) gs) (each formPassed gs) p) (and-r (all (entryListed fs) es) (all (formListed fs) gs) l))
+    (forms-fit fs gs (and-r (formPassed (nodeForm n es) gs) (each formPassed gs) p) (and-r (all (entryListed fs) es) (all (formListed fs) gs) l))
 forms-fit fs (processForm q n ∷ gs) p l =
     forms-fit fs gs (and-r (formPassed (processForm q n) gs) (each formPassed gs) p) (and-r (formListed fs (processForm q n)) (all (formListed fs) gs) l)
 
@@ -90,7 +88,7 @@ module _ (fs : List Form) (test : Row → Bool) (holds : (n m : ℕ) (e : Entry)
   entries-all [] n m rs b f h = h
   entries-all (e ∷ es) n m rs b f h =
       entries-all es (suc n) m (entryRow n m e ∷ rs) b (and-r (entryFit fs e) (all (entryFit fs) es) f)
-        (and-i (test (entryRow n m e)) (all test rs) (holds n m e b (and-l (entryFit fs e) (all (entryFit fs) es) f)) h)
+      (and-i (test (entryRow n m e)) (all test rs) (holds n m e b (and-l (entryFit fs e) (all (entryFit fs) es) f)) h)
 
   forms-all : (gs : List Form) → all (entriesFit fs) gs ≡ true → all test (openedFrom empty gs .rows) ≡ true
   unfolding openedFrom withForm empty all entriesFit
@@ -98,7 +96,7 @@ module _ (fs : List Form) (test : Row → Bool) (holds : (n m : ℕ) (e : Entry)
   forms-all (nodeForm n es ∷ gs) f =
       let k = and-l (between 1 nodes n && all (entryFit fs) es) (all (entriesFit fs) gs) f in
       entries-all es (openedFrom empty gs .next) n (openedFrom empty gs .rows) (and-l (between 1 nodes n) (all (entryFit fs) es) k) (and-r (between 1 nodes n) (all (entryFit fs) es) k)
-        (forms-all gs (and-r (between 1 nodes n && all (entryFit fs) es) (all (entriesFit fs) gs) f))
+      (forms-all gs (and-r (between 1 nodes n && all (entryFit fs) es) (all (entriesFit fs) gs) f))
   forms-all (processForm p n ∷ gs) f = forms-all gs f
 
   pub opened-all : Good fs → all test (openedFrom empty fs .rows) ≡ true

@@ -1,16 +1,16 @@
 -- What a call line that is read as a call guarantees: its caller, its numbers and its items are in range, no item twice.
-use Prim.Native.Nat.{ℕ, zero, suc, _≤_, _<_}
+use Prim.Native.Nat.{ℕ, suc, _≤_, _<_}
 use native.Mathlib.Omega.{arith}
-use mathlib.Core.Path.{_≡_, refl, sym, subst, ap, _∙_}
+use mathlib.Core.Path.{_≡_, refl, subst}
 use mathlib.Core.Bool.{Bool, true, false, not, cond, _&&_}
 use mathlib.Core.List.{List, [], _∷_, _++_, map}
 use mathlib.Core.Logic.{_⊎_, inl, inr}
-use lib.ListN.{length, getD}
+use lib.ListN.{length}
 use lib.Dec.{leb, ltb, eqb}
 use borrow.Author.Tests.{ltb-false, leb-true, lt-ltb}
 use Rattle.rows.specs.Lists.{all, distinct, between, some, filter}
 use Rattle.rows.specs.Limits.{allRights, greatestNumber, mostItems, mostBytes}
-use Rattle.rows.proofs.Bools.{and-l, and-r, and-i, not-f, all-mono}
+use Rattle.rows.proofs.Bools.{and-l, and-r, all-mono}
 use Rattle.calls.specs.declared.Item.{Item}
 use Rattle.calls.specs.declared.Items.{Items}
 use Rattle.calls.specs.declared.Call.{Call}
@@ -81,7 +81,7 @@ simple-reads : (w p e : ℕ) → Reads (simple w p e)
 unfolding simple Good Reads
 simple-reads w p e =
     if-reads (eqb w (wordOf "go")) _ _
-      (ranged-reads (isProcess p && leb e greatestNumber) (Go p e) (λ q. record { caller = and-l (isProcess p) (leb e greatestNumber) q; number = leb-true e greatestNumber (and-r (isProcess p) (leb e greatestNumber) q) }))
+    (ranged-reads (isProcess p && leb e greatestNumber) (Go p e) (λ q. record { caller = and-l (isProcess p) (leb e greatestNumber) q; number = leb-true e greatestNumber (and-r (isProcess p) (leb e greatestNumber) q) }))
     (if-reads (eqb w (wordOf "hold")) _ _ (number-reads p e Hold (λ g. g))
     (if-reads (eqb w (wordOf "register")) _ _ (number-reads p e Register (λ g. g))
     (if-reads (eqb w (wordOf "drop")) _ _ (number-reads p e Drop (λ g. g))
@@ -103,7 +103,7 @@ comes-form-reads s other h =
     let r = isNumber (f .b) in
     let q = isNumber (f .c) in
     if-reads (whole s f) (ranged (r && q) (Comes (f .b) (f .c))) other
-      (ranged-reads (r && q) (Comes (f .b) (f .c)) (λ e. record { row = and-l r q e; request = and-r r q e })) h
+    (ranged-reads (r && q) (Comes (f .b) (f .c)) (λ e. record { row = and-l r q e; request = and-r r q e })) h
 
 -- ---- the items of an ask
 isNamed : Item → Bool
@@ -152,14 +152,14 @@ judged-reads p c is =
         let few : length is ≤ mostItems = ltb-false mostItems (length is) el in
         let rows : all (λ i. isNumber (i .row)) is ≡ true = all-mono itemRanged (λ i. isNumber (i .row)) (λ i q. row-ranged i q) is ok in
         rw (items-packed is (all-mono itemRanged isNamed (λ i q. number-some (i .row) (row-ranged i q)) is ok) few)
-          (record {
-            caller = and-l (isProcess p) (isNumber c && all itemRanged is) ea;
-            number = and-l (isNumber c) (all itemRanged is) r;
-            few = few;
-            rows = rows;
-            rights = all-mono itemRanged (λ i. leb (i .rights) allRights) (λ i q. rights-ranged i q) is ok;
-            apart = eb;
-          })
+        (record {
+          caller = and-l (isProcess p) (isNumber c && all itemRanged is) ea;
+          number = and-l (isNumber c) (all itemRanged is) r;
+          few = few;
+          rows = rows;
+          rights = all-mono itemRanged (λ i. leb (i .rights) allRights) (λ i q. rights-ranged i q) is ok;
+          apart = eb;
+        })
 
 ask-form-reads : (s : List ℕ) (other : Reading) → Reads other → Reads (askForm s other)
 unfolding askForm
@@ -172,7 +172,7 @@ line-reads : (s : List ℕ) → Reads (readingOf s)
 unfolding readingOf Reads
 line-reads s =
     if-reads (ltb (suc mostBytes) (length s)) (Refused 2) (askForm s (comesForm s (simpleForm s))) (omega arith)
-      (ask-form-reads s (comesForm s (simpleForm s)) (comes-form-reads s (simpleForm s) (simple-form-reads s)))
+    (ask-form-reads s (comesForm s (simpleForm s)) (comes-form-reads s (simpleForm s) (simple-form-reads s)))
 
 -- ---- what other files use
 pub reading-good : (line : List ℕ) (c : Call) → readingOf line ≡ Asks c → Good c
