@@ -11,3 +11,9 @@ pub mod Gone
 pub mod Standing
 -- comes from, computed in one pass over the notes, is what the word means
 pub mod Comes
+-- what the history reads of a printed answer
+pub mod Answered
+-- the rows of the text, as the history begins with them
+pub mod Begun
+-- every answer to a call line on sound tables is one that the history can read
+pub mod Spoken

@@ -1,0 +1,178 @@
+-- Every answer to a call line on sound tables can be read back: an accepted one has a value, of at most 1,000,000, and a refusal has a number.
+use Prim.Native.Nat.{ℕ, suc, _+_, _<_, _≤_}
+use native.Mathlib.Omega.{arith}
+use mathlib.Core.Bool.{Bool, true, false, not, cond}
+use mathlib.Core.List.{List, [], _∷_}
+use mathlib.Core.Path.{_≡_, refl}
+use lib.ListN.{length}
+use lib.Dec.{leb, ltb, eqb}
+use borrow.Author.Tests.{ltb-true, ltb-false, leb-true, le-leb}
+use Rattle.rows.specs.declared.Request.{Request}
+use Rattle.rows.specs.Lists.{all, firstWith, topOf, rises}
+use Rattle.rows.specs.Limits.{greatestNumber}
+use Rattle.rows.specs.Tables.{State, noRequest, rowOf, openOn, isListed}
+use Rattle.rows.specs.Sound.{belowNext, nextInRange, requestsRise}
+use Rattle.rows.proofs.Bools.{and-l, and-r, and-i}
+use Rattle.rows.proofs.Keyed.{rises-first, rises-rest}
+use Rattle.rows.proofs.Sound.{Sound}
+use Rattle.calls.specs.declared.Answer.{Answer}
+use Rattle.calls.specs.declared.Answer.the-variants.{Done, Made, Fetched, Told, Refused}
+use Rattle.calls.specs.declared.Item.{Item}
+use Rattle.calls.specs.declared.Call.{Call}
+use Rattle.calls.specs.declared.Call.the-variants.{Go, Hold, Register, Drop, Port, Close, Ask, Fetch, Reply, Refuse, Revoke, Comes}
+use Rattle.calls.specs.Answers.{refusalOf, valuesOf}
+use Rattle.calls.specs.Rules.{Out, refusedIf, numbersSpent}
+use Rattle.calls.specs.Loans.{itemsOf, copies}
+use Rattle.calls.specs.Calls.{done, made, doGo, doHold, doRegister, doDrop, doPort, doClose, doAsk, doFetch, doReply, doRefuse, doRevoke, doComes, fetchedAnswer, goHome, perform}
+use Rattle.text.specs.declared.Reading.{Reading}
+use Rattle.text.specs.declared.Reading.the-variants.{Asks, Crowded, Refused as BadLine}
+use Rattle.text.specs.CallLines.{readingOf}
+use Rattle.text.specs.Entry.{callerUnlisted, answered, callOn, refused}
+use Rattle.text.proofs.OpeningForms.{between-range}
+use Rattle.text.proofs.Readings.{reading-refused}
+use Rattle.history.proofs.Inv.{firstValue}
+
+pub record Spoken (a : Answer) : Type 0 where
+  pub has-value : refusalOf a ≡ 0 → 0 < length (valuesOf a)
+  pub in-range : refusalOf a ≡ 0 → firstValue (valuesOf a) ≤ greatestNumber
+
+-- ---- each answer
+refused-spoken : (k : ℕ) → 0 < k → Spoken (Refused k)
+unfolding refusalOf
+refused-spoken k h = record { has-value = λ e. let z : k ≡ 0 = e in absurd (omega arith); in-range = λ e. let z : k ≡ 0 = e in absurd (omega arith) }
+
+done-spoken : Spoken Done
+unfolding valuesOf firstValue
+done-spoken = record { has-value = λ e. omega arith; in-range = λ e. omega arith }
+
+made-spoken : (n : ℕ) → n ≤ greatestNumber → Spoken (Made n)
+unfolding valuesOf firstValue
+made-spoken n h = record { has-value = λ e. omega arith; in-range = λ e. h }
+
+fetched-spoken : (v a b c d : ℕ) → v ≤ greatestNumber → Spoken (Fetched v a b c d)
+unfolding valuesOf firstValue
+fetched-spoken v a b c d h = record { has-value = λ e. omega arith; in-range = λ e. h }
+
+told-spoken : (t : Bool) → Spoken (Told t)
+unfolding valuesOf firstValue greatestNumber
+told-spoken true = record { has-value = λ e. omega arith; in-range = λ e. omega arith }
+told-spoken false = record { has-value = λ e. omega arith; in-range = λ e. omega arith }
+
+-- ---- refusals in order
+unless : (st : State) (test : Bool) (k : ℕ) (other : Out) → 0 < k → (test ≡ false → Spoken (other .answer)) → Spoken (refusedIf st test k other .answer)
+unfolding refusedIf
+unless st true k other h s = refused-spoken k h
+unless st false k other h s = s refl
+
+-- a number is left, so the next one is in range
+next-spoken : (st : State) (k : ℕ) (after : State) → 0 < k → numbersSpent st k ≡ false → Spoken (made (st .next) after .answer)
+unfolding made numbersSpent
+next-spoken st k after h e = let l = ltb-false (suc greatestNumber) (st .next + k) e in made-spoken (st .next) (omega arith)
+
+-- ---- the calls
+go-spoken : (st : State) (p e : ℕ) → Spoken (doGo st p e .answer)
+unfolding doGo done
+go-spoken st p e = pick (eqb e 0) _ (unless st _ 7 _ (omega arith) λ _. unless st _ 8 _ (omega arith) λ _. done-spoken)
+  where
+    pick : (b : Bool) (o : Out) → Spoken (o .answer) → Spoken (cond b (done (goHome st p)) o .answer)
+    pick true o s = done-spoken
+    pick false o s = s
+
+hold-spoken : (st : State) (p s : ℕ) → Spoken (doHold st p s .answer)
+unfolding doHold
+hold-spoken st p s = unless st _ 7 _ (omega arith) λ _. unless st _ 9 _ (omega arith) λ _. unless st _ 12 _ (omega arith) λ _. unless st _ 15 _ (omega arith) λ _. unless st _ 16 _ (omega arith) λ _. unless st (numbersSpent st 1) 18 _ (omega arith) λ e. next-spoken st 1 _ (omega arith) e
+
+register-spoken : (st : State) (p s : ℕ) → Spoken (doRegister st p s .answer)
+unfolding doRegister
+register-spoken st p s = unless st _ 7 _ (omega arith) λ _. unless st _ 8 _ (omega arith) λ _. unless st _ 9 _ (omega arith) λ _. unless st _ 12 _ (omega arith) λ _. unless st _ 15 _ (omega arith) λ _. unless st _ 16 _ (omega arith) λ _. unless st (numbersSpent st 1) 18 _ (omega arith) λ e. next-spoken st 1 _ (omega arith) e
+
+drop-spoken : (st : State) (p e : ℕ) → Spoken (doDrop st p e .answer)
+unfolding doDrop done
+drop-spoken st p e = unless st _ 7 _ (omega arith) λ _. unless st _ 8 _ (omega arith) λ _. unless st _ 13 _ (omega arith) λ _. done-spoken
+
+port-spoken : (st : State) (p s : ℕ) → Spoken (doPort st p s .answer)
+unfolding doPort
+port-spoken st p s = unless st _ 7 _ (omega arith) λ _. unless st _ 8 _ (omega arith) λ _. unless st _ 15 _ (omega arith) λ _. unless st _ 16 _ (omega arith) λ _. unless st (numbersSpent st 2) 18 _ (omega arith) λ e. next-spoken st 2 _ (omega arith) e
+
+close-spoken : (st : State) (p e : ℕ) → Spoken (doClose st p e .answer)
+unfolding doClose done
+close-spoken st p e = unless st _ 7 _ (omega arith) λ _. unless st _ 8 _ (omega arith) λ _. unless st _ 12 _ (omega arith) λ _. done-spoken
+
+ask-spoken : (st : State) (p c : ℕ) (is : List Item) → Spoken (doAsk st p c is .answer)
+unfolding doAsk
+ask-spoken st p c is =
+    unless st _ 7 _ (omega arith) λ _. unless st _ 8 _ (omega arith) λ _. unless st _ 9 _ (omega arith) λ _. unless st _ 10 _ (omega arith) λ _. unless st _ 15 _ (omega arith) λ _. unless st _ 16 _ (omega arith) λ _. unless st _ 17 _ (omega arith) λ _.
+    unless st (numbersSpent st (suc (length (copies st is)))) 18 _ (omega arith) λ e. next-spoken st (suc (length (copies st is))) _ (omega arith) e
+
+reply-spoken : (st : State) (p e : ℕ) → Spoken (doReply st p e .answer)
+unfolding doReply done
+reply-spoken st p e = unless st _ 7 _ (omega arith) λ _. unless st _ 8 _ (omega arith) λ _. unless st _ 10 _ (omega arith) λ _. unless st _ 11 _ (omega arith) λ _. unless st _ 14 _ (omega arith) λ _. done-spoken
+
+refuse-spoken : (st : State) (p e : ℕ) → Spoken (doRefuse st p e .answer)
+unfolding doRefuse done
+refuse-spoken st p e = unless st _ 7 _ (omega arith) λ _. unless st _ 8 _ (omega arith) λ _. unless st _ 11 _ (omega arith) λ _. done-spoken
+
+revoke-spoken : (st : State) (p e : ℕ) → Spoken (doRevoke st p e .answer)
+unfolding doRevoke done
+revoke-spoken st p e = unless st _ 7 _ (omega arith) λ _. done-spoken
+
+comes-spoken : (st : State) (e q : ℕ) → Spoken (doComes st e q .answer)
+unfolding doComes
+comes-spoken st e q = unless st _ 7 _ (omega arith) λ _. told-spoken _
+
+-- ---- fetch: the request's number is one of the tables
+rises-all : (m : ℕ) (vs : List Request) → rises (λ v. v .number) vs ≡ true → topOf (λ v. v .number) vs ≤ m → all (λ v. leb (v .number) m) vs ≡ true
+unfolding all topOf
+rises-all m [] e h = refl
+rises-all m (v ∷ vs) e h =
+    let l = rises-first (λ v. v .number) v vs e in
+    and-i (leb (v .number) m) (all (λ v. leb (v .number) m) vs) (le-leb (v .number) m h) (rises-all m vs (rises-rest (λ v. v .number) v vs e) (omega arith))
+
+request-ranged : (st : State) → Sound st → all (λ v. leb (v .number) greatestNumber) (st .requests) ≡ true
+unfolding requestsRise belowNext nextInRange
+request-ranged st s =
+    let below = ltb-true (topOf (λ v. v .number) (st .requests)) (st .next) (and-r (ltb (topOf (λ r. r .number) (st .rows)) (st .next)) (ltb (topOf (λ v. v .number) (st .requests)) (st .next)) (s .below-next)) in
+    let (lo, hi) = between-range 1 (suc greatestNumber) (st .next) (s .next-in-range) in
+    rises-all greatestNumber (st .requests) (s .requests-rise) (omega arith)
+
+-- also where none is found
+open-ranged : (m : ℕ) (vs : List Request) (c : ℕ) → all (λ v. leb (v .number) m) vs ≡ true → leb (openOn vs c .number) m ≡ true
+unfolding all openOn firstWith noRequest
+open-ranged m [] c e = le-leb 0 m (omega arith)
+open-ranged m (v ∷ vs) c e = pick (open-ranged m vs c (and-r (leb (v .number) m) (all (λ v. leb (v .number) m) vs) e)) (eqb (v .port) c)
+  where
+    pick : leb (firstWith (λ v. v .port) noRequest vs c .number) m ≡ true → (b : Bool) → leb (cond b v (firstWith (λ v. v .port) noRequest vs c) .number) m ≡ true
+    pick ih true = and-l (leb (v .number) m) (all (λ v. leb (v .number) m) vs) e
+    pick ih false = ih
+
+fetch-spoken : (st : State) → Sound st → (p e : ℕ) → Spoken (doFetch st p e .answer)
+unfolding doFetch fetchedAnswer
+fetch-spoken st s p e =
+    let c = rowOf (st .rows) e .object in
+    let h = leb-true (openOn (st .requests) c .number) greatestNumber (open-ranged greatestNumber (st .requests) c (request-ranged st s)) in
+    unless st _ 7 _ (omega arith) λ _. unless st _ 8 _ (omega arith) λ _. unless st _ 11 _ (omega arith) λ _. fetched-spoken (openOn (st .requests) c .number) _ _ _ _ h
+
+pub perform-spoken : (st : State) → Sound st → (c : Call) → Spoken (perform st c .answer)
+unfolding perform
+perform-spoken st s (Go p e) = go-spoken st p e
+perform-spoken st s (Hold p e) = hold-spoken st p e
+perform-spoken st s (Register p e) = register-spoken st p e
+perform-spoken st s (Drop p e) = drop-spoken st p e
+perform-spoken st s (Port p e) = port-spoken st p e
+perform-spoken st s (Close p c) = close-spoken st p c
+perform-spoken st s (Ask p c is) = ask-spoken st p c (itemsOf is)
+perform-spoken st s (Fetch p v) = fetch-spoken st s p v
+perform-spoken st s (Reply p v) = reply-spoken st p v
+perform-spoken st s (Refuse p v) = refuse-spoken st p v
+perform-spoken st s (Revoke p q) = revoke-spoken st p q
+perform-spoken st s (Comes e q) = comes-spoken st e q
+
+-- ---- a line
+pub call-spoken : (st : State) → Sound st → (line : List ℕ) → Spoken (callOn st line .answer)
+unfolding callOn answered refused
+call-spoken st s line = pick (readingOf line) refl
+  where
+    pick : (x : Reading) → readingOf line ≡ x → Spoken (answered st x .answer)
+    pick (Asks c) e = unless st (callerUnlisted st c) 5 (perform st c) (omega arith) λ _. perform-spoken st s c
+    pick (Crowded p) e = unless st (not (isListed (st .processes) p)) 5 (refused st 6) (omega arith) λ _. refused-spoken 6 (omega arith)
+    pick (BadLine k) e = refused-spoken k (reading-refused line k e)

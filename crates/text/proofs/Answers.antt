@@ -1,0 +1,126 @@
+-- Printed answers read back: the digits of a number give the number, `(ok n ..)` reads as accepted with n, `(no ..)` as refused.
+use Prim.Native.Nat.{ℕ, zero, suc, _+_, _-_, _*_, _/_, _%_, _^_, _≤_, _<_}
+use native.Mathlib.Omega.{arith}
+use mathlib.Core.Path.{_≡_, refl, sym, ap, _∙_}
+use mathlib.Core.Bool.{Bool, true, false, cond}
+use mathlib.Core.List.{List, [], _∷_, _++_, append-assoc}
+use lib.ListN.{length, getD, drop, length-append}
+use lib.Seq.{append-snoc, getD-drop}
+use lib.Dec.{ltb, eqb}
+use borrow.Author.Tests.{ltb-true, ltb-false, lt-ltb, le-leb, eq-eqb, ne-eqb, eqb-true}
+use Rattle.rows.specs.Lists.{bytes, between}
+use Rattle.rows.specs.Limits.{greatestNumber}
+use Rattle.rows.proofs.Bools.{bool-eq}
+use Rattle.text.specs.declared.Read.{Read}
+use Rattle.text.specs.Patterns.{isDigit, grown, run, digits, began, counted, passed, number, itself, piece, pieces, form, bad}
+use Rattle.text.specs.Answers.{decimal, digitsOf, spaced, okText, noText}
+
+-- ---- digits
+digit-is : (k : ℕ) → k < 10 → isDigit (48 + k) ≡ true
+unfolding isDigit between
+digit-is k h = rw (le-leb 48 (48 + k) (omega arith), le-leb (48 + k) 57 (omega arith)) refl
+
+-- one more digit
+grown-digit : (n : ℕ) → n ≤ greatestNumber → grown (n / 10) (48 + n % 10) ≡ n
+unfolding grown greatestNumber
+grown-digit n h = let e : n / 10 * 10 + (48 + n % 10 - 48) ≡ n = omega arith in rw (e, le-leb n 1000000 h) refl
+
+one-more : (v k i : ℕ) (t : List ℕ) → k < 10 → run isDigit grown v i ((48 + k) ∷ t) ≡ run isDigit grown (grown v (48 + k)) (suc i) t
+unfolding run
+one-more v k i t h = rw (digit-is k h) refl
+
+-- the digits of n are worth n
+run-decimal : (d n i : ℕ) (t : List ℕ) → n < 10 ^ d → n ≤ greatestNumber → run isDigit grown 0 i (decimal d n ++ t) ≡ run isDigit grown n (i + length (decimal d n)) t
+unfolding decimal greatestNumber
+run-decimal zero n i t h l = let z : n ≡ 0 = omega arith in let y : i + 0 ≡ i = omega arith in rw (z, y) refl
+run-decimal (suc d) n i t h l = pick (ltb n 10) refl (run-decimal d (n / 10) i ((48 + n % 10) ∷ t))
+  where
+    pick : (b : Bool) → ltb n 10 ≡ b → (n / 10 < 10 ^ d → n / 10 ≤ greatestNumber → run isDigit grown 0 i (decimal d (n / 10) ++ ((48 + n % 10) ∷ t)) ≡ run isDigit grown (n / 10) (i + length (decimal d (n / 10))) ((48 + n % 10) ∷ t))
+        → run isDigit grown 0 i (cond b ((48 + n) ∷ []) (decimal d (n / 10) ++ ((48 + n % 10) ∷ [])) ++ t) ≡ run isDigit grown n (i + length (cond b ((48 + n) ∷ []) (decimal d (n / 10) ++ ((48 + n % 10) ∷ [])))) t
+    pick true e ih =
+        let lt : n < 10 = ltb-true n 10 e in
+        let q : n / 10 ≡ 0 = omega arith in
+        let m : n % 10 ≡ n = omega arith in
+        let g : grown 0 (48 + n) ≡ n = rw (q, m) at (grown-digit n l) in
+        let j : suc i ≡ i + 1 = omega arith in
+        one-more 0 n i t lt ∙ (rw (g, j) refl)
+    pick false e ih =
+        let j : suc (i + length (decimal d (n / 10))) ≡ i + (length (decimal d (n / 10)) + 1) = omega arith in
+        rw (append-snoc, length-append)
+        (ih (omega arith) (omega arith) ∙ one-more (n / 10) (n % 10) (i + length (decimal d (n / 10))) t (omega arith) ∙ (rw (grown-digit n l, j) refl))
+
+-- s begins with a digit, with 0 only if n is 0
+record Leads (s : List ℕ) (n : ℕ) : Type 0 where
+  digit : isDigit (getD s 0 0) ≡ true
+  zeros : eqb (getD s 0 0) 48 ≡ eqb n 0
+
+leads-one : (n : ℕ) (t : List ℕ) → n < 10 → Leads ((48 + n) ∷ t) n
+leads-one n t h =
+    record {
+      digit = digit-is n h;
+      zeros = bool-eq (eqb (48 + n) 48) (eqb n 0) (λ e. let q = eqb-true (48 + n) 48 e in eq-eqb n 0 (omega arith)) (λ e. let q = eqb-true n 0 e in eq-eqb (48 + n) 48 (omega arith));
+    }
+
+leads-decimal : (d n : ℕ) (t : List ℕ) → n < 10 ^ suc d → Leads (decimal (suc d) n ++ t) n
+unfolding decimal
+leads-decimal zero n t h = let l : n < 10 = omega arith in rw (lt-ltb n 10 l) (leads-one n t l)
+leads-decimal (suc d) n t h = pick (ltb n 10) refl (leads-decimal d (n / 10) ((48 + n % 10) ∷ t))
+  where
+    pick : (b : Bool) → ltb n 10 ≡ b → (n / 10 < 10 ^ suc d → Leads (decimal (suc d) (n / 10) ++ ((48 + n % 10) ∷ t)) (n / 10)) → Leads (cond b ((48 + n) ∷ []) (decimal (suc d) (n / 10) ++ ((48 + n % 10) ∷ [])) ++ t) n
+    pick true e ih = leads-one n t (ltb-true n 10 e)
+    pick false e ih =
+        let big : 10 ≤ n = ltb-false n 10 e in
+        let l = ih (omega arith) in
+        rw append-snoc (record { digit = l .digit; zeros = l .zeros ∙ ne-eqb (n / 10) 0 (omega arith) ∙ sym (ne-eqb n 0 (omega arith)) })
+
+-- ---- a printed number
+run-ends : (v i : ℕ) (t : List ℕ) → isDigit (getD t 0 0) ≡ false → run isDigit grown v i t .value ≡ v
+unfolding run
+run-ends v i [] e = refl
+run-ends v i (b ∷ t) e = rw e refl
+
+-- what is read where the digits of n stand, with no digit after them
+pub record Gives (f : Read) (n : ℕ) : Type 0 where
+  pub good : f .good ≡ true
+  pub value : f .c ≡ n
+
+number-printed : (s : List ℕ) (r : Read) (n : ℕ) (t : List ℕ) → drop (r .next) s ≡ digitsOf n ++ t → n ≤ greatestNumber → isDigit (getD t 0 0) ≡ false → Gives (number s r) n
+unfolding number counted digits digitsOf greatestNumber
+number-printed s r n t e h z =
+    let lt : n < 10 ^ 10 = omega arith in
+    let l = leads-decimal 9 n t lt in
+    let there : r .next ≡ r .next + 0 = omega arith in
+    let begins : getD s (r .next) 0 ≡ getD (decimal 10 n ++ t) 0 0 = ap (λ k. getD s k 0) there ∙ sym (getD-drop (r .next) s 0 0) ∙ ap (λ x. getD x 0 0) e in
+    let worth : run isDigit grown 0 (r .next) (drop (r .next) s) .value ≡ n =
+    ap (λ x. run isDigit grown 0 (r .next) x .value) e ∙ ap (λ x. x .value) (run-decimal 10 n (r .next) t lt h) ∙ run-ends n (r .next + length (decimal 10 n)) t z in
+    rw (begins, l .zeros, l .digit) (pick worth (eqb n 0) refl)
+  where
+    pick : run isDigit grown 0 (r .next) (drop (r .next) s) .value ≡ n → (b : Bool) → eqb n 0 ≡ b
+        → Gives (cond b (counted r (record { value = 0; next = r .next + 1 })) (counted r (run isDigit grown 0 (r .next) (drop (r .next) s)))) n
+    pick worth true q = record { good = refl; value = sym (eqb-true n 0 q) }
+    pick worth false q = record { good = refl; value = worth }
+
+-- ---- answers
+after-number : (ns : List ℕ) → isDigit (getD (spaced ns ++ bytes ")\n") 0 0) ≡ false
+unfolding spaced bytes isDigit between
+after-number [] = refl
+after-number (n ∷ ns) = refl
+
+ok-prefix : (u : List ℕ) → form (40 ∷ 111 ∷ 107 ∷ 32 ∷ u) 0 "(ok #" ≡ number (40 ∷ 111 ∷ 107 ∷ 32 ∷ u) (began 4)
+unfolding form pieces piece itself passed began bytes
+ok-prefix u =
+    rw (lt-ltb 0 (suc (suc (suc (suc (length u))))) (omega arith), lt-ltb 1 (suc (suc (suc (suc (length u))))) (omega arith), lt-ltb 2 (suc (suc (suc (suc (length u))))) (omega arith), lt-ltb 3 (suc (suc (suc (suc (length u))))) (omega arith)) refl
+
+pub read-ok : (n : ℕ) (ns : List ℕ) → n ≤ greatestNumber → Gives (form (okText (n ∷ ns)) 0 "(ok #") n
+unfolding okText spaced bytes began
+read-ok n ns h =
+    rw (ok-prefix (digitsOf n ++ spaced ns ++ bytes ")\n"))
+    (number-printed (40 ∷ 111 ∷ 107 ∷ 32 ∷ (digitsOf n ++ spaced ns ++ bytes ")\n")) (began 4) n (spaced ns ++ bytes ")\n") (append-assoc (digitsOf n) (spaced ns) (bytes ")\n")) h (after-number ns))
+
+no-prefix : (u : List ℕ) → form (40 ∷ 110 ∷ 111 ∷ u) 0 "(ok #" .good ≡ false
+unfolding form pieces piece itself passed began bytes bad
+no-prefix u = rw (lt-ltb 0 (suc (suc (suc (length u)))) (omega arith), lt-ltb 1 (suc (suc (suc (length u)))) (omega arith)) refl
+
+pub read-no : (ns : List ℕ) → form (noText ns) 0 "(ok #" .good ≡ false
+unfolding noText bytes
+read-no ns = no-prefix (spaced ns ++ bytes ")\n")

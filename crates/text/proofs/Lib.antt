@@ -1,0 +1,17 @@
+-- Laws of the text side. One line a file:
+-- printed answers read back: the digits of a number give the number
+pub mod Answers
+-- what a call line that is read as a call guarantees: caller, numbers and items in range
+pub mod Readings
+-- what an accepted opening text guarantees of its forms
+pub mod OpeningForms
+-- the rows of the state opened: numbered from 1 on, each an opening row in range
+pub mod OpeningRows
+-- at most 512 rows: 16 for each of at most 32 nodes
+pub mod OpeningCount
+-- the process records of the state opened: in range, at home, those given listed
+pub mod OpeningRecords
+-- an accepted opening text opens sound tables
+pub mod Opening
+-- a number of any length is read as its exact value, or as 1,000,001
+pub mod Numbers

@@ -1,0 +1,148 @@
+-- An accepted opening text opens sound tables; so are the empty tables.
+use Prim.Native.Nat.{ℕ, _≤_}
+use native.Mathlib.Omega.{arith}
+use mathlib.Core.Path.{_≡_, refl}
+use mathlib.Core.Bool.{Bool, true, _&&_}
+use mathlib.Core.List.{List, [], _∷_, map}
+use mathlib.Core.Logic.{inl, inr}
+use lib.ListN.{length}
+use lib.Dec.{leb, eqb}
+use borrow.Author.Tests.{eqb-true, eq-eqb, ne-eqb, lt-ltb, le-leb}
+use Rattle.rows.specs.declared.Row.{Row}
+use Rattle.rows.specs.Lists.{all, each, topOf, rises, member, distinct, between}
+use Rattle.rows.specs.Limits.{processes, nodes, greatestOperation, greatestNumber, rowSlots, requestSlots, greatestDepth}
+use Rattle.rows.specs.Codes.{isOperation, inNode, isNode, isSystem, withSystem}
+use Rattle.rows.specs.Tables.{noRow, empty, rowOf, isListed, depthOver}
+use Rattle.rows.specs.Sound.{rowsRise, requestsRise, numbersApart, belowNext, nextInRange, rowsFit, requestsFit, recordsFit, objectInRange, objectsInRange, rightInRange, rightsInRange, placeInRange, placesInRange, fetchedInRange, isOpening, sourceRight, sourcesRight, depthRight, depthsRight, copyMatches, copiesMatch, recordInRange, recordsInRange, endPaired, endsPaired, portsStand, requestersListed, itemsFew, itemsApart, itemsLent, onePerPort, copyListed, copiesListed, olderFetched, awaitsFetch, same, systemHolds, processesPlaced}
+use Rattle.rows.proofs.Bools.{false-of, and-l, and-r, and-i, or-l, or-r, all-mono}
+use Rattle.rows.proofs.Keyed.{first-none, rises-range}
+use Rattle.rows.proofs.Sound.{Sound, sound-open}
+use Rattle.text.specs.declared.Entry.{Entry}
+use Rattle.text.specs.Opening.{Form, nodeForm, processForm, opens, openingOf, entryRow, withForm, openedFrom}
+use Rattle.text.specs.Entry.{stateOpened}
+use Rattle.text.proofs.OpeningForms.{between-range, range-between, Good, opening-good}
+use Rattle.text.proofs.OpeningRows.{counted, opened-next, opened-counted, counted-top, counted-rises, entryFit, opened-all, fit-cases, fit-rights, fit-copied, fit-no-end}
+use Rattle.text.proofs.OpeningCount.{opened-few}
+use Rattle.text.proofs.OpeningRecords.{isHome, opened-length, opened-home, opened-listed, home-placed, home-ranged}
+
+pub empty-sound : Sound empty
+unfolding Rattle.rows.specs.Computes.computes
+empty-sound = sound-open empty refl
+
+opened-requests : (fs : List Form) → openedFrom empty fs .requests ≡ []
+unfolding openedFrom withForm empty
+opened-requests [] = refl
+opened-requests (nodeForm n es ∷ fs) = refl
+opened-requests (processForm p n ∷ fs) = refl
+
+-- ---- of each row of a fit entry
+row-object : (fs : List Form) → Good fs → (n m : ℕ) (e : Entry) → between 1 nodes m ≡ true → entryFit fs e ≡ true → objectInRange (openedFrom empty fs .processes) (entryRow n m e) ≡ true
+unfolding objectInRange entryRow
+row-object fs g n m e b f =
+    elim (fit-cases fs e f) [
+      | inl o ↦ or-l (isOperation (e .kind) && (isListed (openedFrom empty fs .processes) (e .object) && leb (e .operation) greatestOperation)) _ (rw (o .kind, opened-listed fs (g .passed) (e .object) (o .listed), o .ranged) refl)
+      | inr s ↦ or-r (isOperation (e .kind) && (isListed (openedFrom empty fs .processes) (e .object) && leb (e .operation) greatestOperation)) _ (rw (s .kind, s .node, s .none) refl)
+    ]
+
+row-opening : (fs : List Form) (n m : ℕ) (e : Entry) → between 1 nodes m ≡ true → entryFit fs e ≡ true → isOpening (entryRow n m e) ≡ true
+unfolding isOpening entryRow isNode inNode
+row-opening fs n m e b f = rw (b, fit-copied fs e f) refl
+
+pub opened-opening : (fs : List Form) → Good fs → all isOpening (openedFrom empty fs .rows) ≡ true
+opened-opening fs g = opened-all fs isOpening (row-opening fs) g
+
+row-rights : (fs : List Form) (n m : ℕ) (e : Entry) → between 1 nodes m ≡ true → entryFit fs e ≡ true → rightInRange (entryRow n m e) ≡ true
+unfolding rightInRange entryRow
+row-rights fs n m e b f = rw (fit-no-end fs e f) (fit-rights fs e f)
+
+row-place : (fs gs : List Form) (n m : ℕ) (e : Entry) → between 1 nodes m ≡ true → entryFit fs e ≡ true → placeInRange (openedFrom empty gs .processes) (entryRow n m e) ≡ true
+unfolding placeInRange entryRow isNode inNode
+row-place fs gs n m e b f = rw b refl
+
+row-no-end : (fs : List Form) (rs : List Row) (n m : ℕ) (e : Entry) → between 1 nodes m ≡ true → entryFit fs e ≡ true → endPaired rs (entryRow n m e) ≡ true
+unfolding endPaired entryRow
+row-no-end fs rs n m e b f = rw (fit-no-end fs e f) refl
+
+row-not-system : (n m : ℕ) (e : Entry) → between 1 nodes m ≡ true → same (isSystem (entryRow n m e .place)) (awaitsFetch [] n) ≡ true
+unfolding same isSystem withSystem entryRow inNode awaitsFetch nodes
+row-not-system n m e b = let (lo, hi) = between-range 1 nodes m b in let t : m ≤ 32 = hi in rw (ne-eqb m 200 (omega arith)) refl
+
+-- ---- of each row with those older at hand
+all-each : {A : Type 0} (f : A → Bool) (g : A → List A → Bool) → ((a : A) (xs : List A) → f a ≡ true → g a xs ≡ true) → (xs : List A) → all f xs ≡ true → each g xs ≡ true
+unfolding all each
+all-each f g h [] e = refl
+all-each f g h (a ∷ xs) e = and-i (g a xs) (each g xs) (h a xs (and-l (f a) (all f xs) e)) (all-each f g h xs (and-r (f a) (all f xs) e))
+
+unfoldable isRoot : Row → Bool
+isRoot r = eqb (r .source) 0 && (eqb (r .via) 0 && eqb (r .depth) 1)
+
+root-matches : (r : Row) (rs : List Row) → isRoot r ≡ true → copyMatches r rs ≡ true
+unfolding copyMatches isRoot
+root-matches r rs e = or-l (eqb (r .source) 0) _ (and-l (eqb (r .source) 0) (eqb (r .via) 0 && eqb (r .depth) 1) e)
+
+-- a row of no source has depth 1: no row has number 0
+no-zero : (rs : List Row) → each counted rs ≡ true → rowOf rs 0 ≡ noRow
+unfolding rowOf
+no-zero rs c =
+    first-none (λ r. r .number) noRow rs 0
+    (false-of (member 0 (map (λ r. r .number) rs)) (λ t. let (lo, hi) = rises-range (λ r. r .number) rs (counted-rises rs c) 0 t in omega arith))
+
+roots-deep : (rs : List Row) → each counted rs ≡ true → all isRoot rs ≡ true → each depthRight rs ≡ true
+unfolding each all depthRight depthOver isRoot noRow greatestDepth
+roots-deep [] c e = refl
+roots-deep (r ∷ rs) c e =
+    let older : each counted rs ≡ true = and-r (counted r rs) (each counted rs) c in
+    let root : isRoot r ≡ true = and-l (isRoot r) (all isRoot rs) e in
+    let rest = and-r (eqb (r .source) 0) (eqb (r .via) 0 && eqb (r .depth) 1) root in
+    let s : r .source ≡ 0 = eqb-true (r .source) 0 (and-l (eqb (r .source) 0) (eqb (r .via) 0 && eqb (r .depth) 1) root) in
+    let v : r .via ≡ 0 = eqb-true (r .via) 0 (and-l (eqb (r .via) 0) (eqb (r .depth) 1) rest) in
+    let d : r .depth ≡ 1 = eqb-true (r .depth) 1 (and-r (eqb (r .via) 0) (eqb (r .depth) 1) rest) in
+    and-i (depthRight r rs) (each depthRight rs) (rw (s, v, d, no-zero rs older) refl) (roots-deep rs older (and-r (isRoot r) (all isRoot rs) e))
+
+row-root : (fs : List Form) (n m : ℕ) (e : Entry) → between 1 nodes m ≡ true → entryFit fs e ≡ true → isRoot (entryRow n m e) ≡ true
+unfolding isRoot entryRow
+row-root fs n m e b f = refl
+
+-- ---- all of it
+good-sound : (fs : List Form) → Good fs → Sound (openedFrom empty fs)
+unfolding rowsRise requestsRise numbersApart belowNext nextInRange rowsFit requestsFit recordsFit objectsInRange rightsInRange placesInRange fetchedInRange sourcesRight sourceRight depthsRight copiesMatch recordsInRange endsPaired portsStand requestersListed itemsFew itemsApart itemsLent onePerPort copyListed copiesListed olderFetched systemHolds processesPlaced rises topOf all each distinct greatestNumber rowSlots requestSlots entryRow
+good-sound fs g =
+    let c = opened-counted fs in
+    let few = opened-few fs (g .passed) in
+    let next = opened-next fs in
+    let top = counted-top (openedFrom empty fs .rows) c in
+    let none = opened-requests fs in
+    let roots = opened-all fs isRoot (row-root fs) g in
+    record {
+      rows-rise = counted-rises (openedFrom empty fs .rows) c;
+      requests-rise = rw none refl;
+      numbers-apart = rw none refl;
+      below-next = rw (none, lt-ltb (topOf (λ r. r .number) (openedFrom empty fs .rows)) (openedFrom empty fs .next) (omega arith), lt-ltb 0 (openedFrom empty fs .next) (omega arith)) refl;
+      next-in-range = range-between 1 1000001 (openedFrom empty fs .next) (omega arith) (omega arith);
+      rows-fit = le-leb (length (openedFrom empty fs .rows)) 1024 (omega arith);
+      requests-fit = rw none refl;
+      records-fit = eq-eqb (length (openedFrom empty fs .processes)) processes (opened-length fs);
+      objects-in-range = opened-all fs (objectInRange (openedFrom empty fs .processes)) (row-object fs g) g;
+      rights-in-range = opened-all fs rightInRange (row-rights fs) g;
+      places-in-range = opened-all fs (placeInRange (openedFrom empty fs .processes)) (row-place fs fs) g;
+      fetched-in-range = rw none refl;
+      sources-right = all-each isOpening (sourceRight (openedFrom empty fs .requests)) (λ r rs o. or-l (isOpening r) _ o) (openedFrom empty fs .rows) (opened-opening fs g);
+      depths-right = roots-deep (openedFrom empty fs .rows) c roots;
+      copies-match = all-each isRoot copyMatches root-matches (openedFrom empty fs .rows) roots;
+      records-in-range = all-mono isHome recordInRange home-ranged (openedFrom empty fs .processes) (opened-home fs (g .passed));
+      ends-paired = opened-all fs (endPaired (openedFrom empty fs .rows)) (row-no-end fs (openedFrom empty fs .rows)) g;
+      ports-stand = rw none refl;
+      requesters-listed = rw none refl;
+      items-few = rw none refl;
+      items-apart = rw none refl;
+      items-lent = rw none refl;
+      one-per-port = rw none refl;
+      copies-listed = opened-all fs (copyListed (openedFrom empty fs .requests)) (λ n m e b f. refl) g;
+      older-fetched = rw none refl;
+      system-holds = rw none (opened-all fs (λ r. same (isSystem (r .place)) (awaitsFetch [] (r .number))) (λ n m e b f. row-not-system n m e b) g);
+      processes-placed = home-placed (openedFrom empty fs .rows) 1 (openedFrom empty fs .processes) (opened-home fs (g .passed));
+    }
+
+pub opened-sound : (ls rest : List (List ℕ)) (fs : List Form) → openingOf ls ≡ opens fs rest → Sound (stateOpened fs)
+unfolding stateOpened
+opened-sound ls rest fs e = good-sound fs (opening-good ls rest fs e)

@@ -1,0 +1,129 @@
+-- At most 512 rows are opened: 16 for each node, and distinct numbers between 1 and n are at most n.
+use Prim.Native.Nat.{ℕ, zero, suc, _*_, _≤_}
+use native.Mathlib.Omega.{arith}
+use mathlib.Core.Path.{_≡_, refl}
+use mathlib.Core.Bool.{Bool, true, false, not, cond}
+use mathlib.Core.List.{List, [], _∷_}
+use lib.ListN.{length}
+use lib.Dec.{eqb}
+use borrow.Author.Tests.{eqb-true, eqb-false}
+use Rattle.rows.specs.Lists.{filter, any, all, each, member, distinct, between}
+use Rattle.rows.specs.Limits.{nodes, mostEntries}
+use Rattle.rows.specs.Tables.{empty}
+use Rattle.rows.proofs.Bools.{and-l, and-r, and-i, not-t, or-fl, or-fr, eqb-sym-f, all-and, all-filter}
+use Rattle.text.specs.Opening.{Form, nodeForm, processForm, givesNode, withForm, openedFrom}
+use Rattle.text.proofs.OpeningForms.{between-range, range-between, formPassed, node-passed}
+use Rattle.text.proofs.OpeningRows.{entries-length}
+
+-- ---- distinct numbers between 1 and n
+other : ℕ → ℕ → Bool
+other m k = not (eqb m k)
+
+without-none : (m : ℕ) (ns : List ℕ) → member m ns ≡ false → filter (other m) ns ≡ ns
+unfolding filter member other
+without-none m [] e = refl
+without-none m (n ∷ ns) e = rw (or-fl (eqb m n) (member m ns) e, without-none m ns (or-fr (eqb m n) (member m ns) e)) refl
+
+member-filter : (f : ℕ → Bool) (n : ℕ) (ns : List ℕ) → member n ns ≡ false → member n (filter f ns) ≡ false
+unfolding filter member
+member-filter f n [] e = refl
+member-filter f n (m ∷ ns) e = pick (member-filter f n ns (or-fr (eqb n m) (member n ns) e)) (f m)
+  where
+    pick : member n (filter f ns) ≡ false → (b : Bool) → member n (cond b (m ∷ filter f ns) (filter f ns)) ≡ false
+    pick ih true = rw (or-fl (eqb n m) (member n ns) e) ih
+    pick ih false = ih
+
+distinct-filter : (f : ℕ → Bool) (ns : List ℕ) → distinct ns ≡ true → distinct (filter f ns) ≡ true
+unfolding filter distinct
+distinct-filter f [] e = refl
+distinct-filter f (n ∷ ns) e = pick (distinct-filter f ns (and-r (not (member n ns)) (distinct ns) e)) (f n)
+  where
+    pick : distinct (filter f ns) ≡ true → (b : Bool) → distinct (cond b (n ∷ filter f ns) (filter f ns)) ≡ true
+    pick ih true = rw (member-filter f n ns (not-t (member n ns) (and-l (not (member n ns)) (distinct ns) e))) ih
+    pick ih false = ih
+
+-- one of them at most is m
+length-without : (m : ℕ) (ns : List ℕ) → distinct ns ≡ true → length ns ≤ suc (length (filter (other m) ns))
+unfolding filter distinct other
+length-without m [] e = omega arith
+length-without m (n ∷ ns) e = pick (length-without m ns (and-r (not (member n ns)) (distinct ns) e)) (eqb m n) refl
+  where
+    pick : length ns ≤ suc (length (filter (other m) ns)) → (b : Bool) → eqb m n ≡ b → suc (length ns) ≤ suc (length (cond (not b) (n ∷ filter (other m) ns) (filter (other m) ns)))
+    pick ih true q =
+        let fresh : member m ns ≡ false = rw (eqb-true m n q) (not-t (member n ns) (and-l (not (member n ns)) (distinct ns) e)) in
+        rw (without-none m ns fresh) (omega arith)
+    pick ih false q = omega arith
+
+filter-passes : (f : ℕ → Bool) (ns : List ℕ) → all f (filter f ns) ≡ true
+unfolding filter all
+filter-passes f [] = refl
+filter-passes f (n ∷ ns) = pick (filter-passes f ns) (f n) refl
+  where
+    pick : all f (filter f ns) ≡ true → (b : Bool) → f n ≡ b → all f (cond b (n ∷ filter f ns) (filter f ns)) ≡ true
+    pick ih true q = and-i (f n) (all f (filter f ns)) q ih
+    pick ih false q = ih
+
+below : (n k : ℕ) → other (suc n) k ≡ true → between 1 (suc n) k ≡ true → between 1 n k ≡ true
+unfolding other
+below n k o b =
+    let (lo, hi) = between-range 1 (suc n) k b in
+    let ne : suc n ≡ k → ⊥ = eqb-false (suc n) k (not-t (eqb (suc n) k) o) in
+    range-between 1 n k lo (omega arith)
+
+distinct-length : (n : ℕ) (ns : List ℕ) → distinct ns ≡ true → all (between 1 n) ns ≡ true → length ns ≤ n
+unfolding all
+distinct-length zero [] d r = omega arith
+distinct-length zero (m ∷ ns) d r = let (lo, hi) = between-range 1 0 m (and-l (between 1 0 m) (all (between 1 0) ns) r) in absurd (omega arith)
+distinct-length (suc n) ns d r =
+    let l = length-without (suc n) ns d in
+    let h : length (filter (other (suc n)) ns) ≤ n =
+    distinct-length n (filter (other (suc n)) ns) (distinct-filter (other (suc n)) ns d)
+    (all-and (other (suc n)) (between 1 (suc n)) (between 1 n) (below n) (filter (other (suc n)) ns) (filter-passes (other (suc n)) ns) (all-filter (other (suc n)) (between 1 (suc n)) ns r)) in
+    omega arith
+
+-- ---- the nodes given
+nodesGiven : List Form → List ℕ
+nodesGiven [] = []
+nodesGiven (nodeForm n es ∷ fs) = n ∷ nodesGiven fs
+nodesGiven (processForm p n ∷ fs) = nodesGiven fs
+
+given-member : (n : ℕ) (fs : List Form) → any (givesNode n) fs ≡ false → member n (nodesGiven fs) ≡ false
+unfolding any givesNode nodesGiven member
+given-member n [] e = refl
+given-member n (nodeForm m es ∷ fs) e = rw (eqb-sym-f m n (or-fl (eqb m n) (any (givesNode n) fs) e)) (given-member n fs (or-fr (eqb m n) (any (givesNode n) fs) e))
+given-member n (processForm p m ∷ fs) e = given-member n fs e
+
+given-distinct : (fs : List Form) → each formPassed fs ≡ true → distinct (nodesGiven fs) ≡ true
+unfolding each distinct nodesGiven
+given-distinct [] e = refl
+given-distinct (nodeForm n es ∷ fs) e =
+    let k = node-passed fs n es (and-l (formPassed (nodeForm n es) fs) (each formPassed fs) e) in
+    rw (given-member n fs (k .fresh)) (given-distinct fs (and-r (formPassed (nodeForm n es) fs) (each formPassed fs) e))
+given-distinct (processForm p n ∷ fs) e = given-distinct fs (and-r (formPassed (processForm p n) fs) (each formPassed fs) e)
+
+given-ranged : (fs : List Form) → each formPassed fs ≡ true → all (between 1 nodes) (nodesGiven fs) ≡ true
+unfolding each all nodesGiven
+given-ranged [] e = refl
+given-ranged (nodeForm n es ∷ fs) e =
+    let k = node-passed fs n es (and-l (formPassed (nodeForm n es) fs) (each formPassed fs) e) in
+    rw (k .node) (given-ranged fs (and-r (formPassed (nodeForm n es) fs) (each formPassed fs) e))
+given-ranged (processForm p n ∷ fs) e = given-ranged fs (and-r (formPassed (processForm p n) fs) (each formPassed fs) e)
+
+-- ---- the rows opened
+rows-of-nodes : (fs : List Form) → each formPassed fs ≡ true → length (openedFrom empty fs .rows) ≤ 16 * length (nodesGiven fs)
+unfolding each openedFrom withForm empty nodesGiven mostEntries
+rows-of-nodes [] e = omega arith
+rows-of-nodes (nodeForm n es ∷ fs) e =
+    let k = node-passed fs n es (and-l (formPassed (nodeForm n es) fs) (each formPassed fs) e) in
+    let few : length es ≤ 16 = k .few in
+    let l = entries-length es (openedFrom empty fs .next) n (openedFrom empty fs .rows) in
+    let h = rows-of-nodes fs (and-r (formPassed (nodeForm n es) fs) (each formPassed fs) e) in
+    omega arith
+rows-of-nodes (processForm p n ∷ fs) e = rows-of-nodes fs (and-r (formPassed (processForm p n) fs) (each formPassed fs) e)
+
+pub opened-few : (fs : List Form) → each formPassed fs ≡ true → length (openedFrom empty fs .rows) ≤ 512
+unfolding nodes
+opened-few fs e =
+    let l : length (nodesGiven fs) ≤ 32 = distinct-length nodes (nodesGiven fs) (given-distinct fs e) (given-ranged fs e) in
+    let h = rows-of-nodes fs e in
+    omega arith
