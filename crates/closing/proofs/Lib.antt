@@ -1,3 +1,7 @@
 -- Laws of closing. One line a file:
 -- laws of keyed lists and of trimmed items that the files below use
 pub mod KeptLists
+-- what sound tables tell of one row and of one open request
+pub mod KeptFacts
+-- what is removed: the seeds, and each row with a removed source
+pub mod KeptMarks
