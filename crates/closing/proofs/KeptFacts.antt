@@ -13,7 +13,7 @@ use Rattle.rows.specs.Lists.{all, each, member, some, nonzero, between}
 use Rattle.rows.specs.Limits.{nodes}
 use Rattle.rows.specs.Codes.{isEnd, isCopied, isClient, isServer, isOperation, isSubdirectory, isNode, clientEnd, serverEnd, operation, subdirectory}
 use Rattle.rows.specs.Tables.{State, noRow, noRequest, rowOf, requestOf, lists}
-use Rattle.rows.specs.Sound.{rowsRise, requestsRise, sourceRight, sourcesRight, isOpening, isRegistered, isHeld, isPortEnd, isLentCopy, copyListed, copiesListed, mayBeListed, itemsLent}
+use Rattle.rows.specs.Sound.{rowsRise, requestsRise, sourceRight, sourcesRight, isOpening, isRegistered, isHeld, isPortEnd, isLentCopy, copyListed, copiesListed, mayBeListed, itemsLent, isPairedWith, otherEnd, endPaired, endsPaired}
 use Rattle.rows.proofs.Bools.{false-of, clash, and-l, and-r, and-i, not-t, or-cases, some-pos, all-at}
 use Rattle.rows.proofs.Keyed.{first-key, first-there, all-first, rises-range, older-key, olderOf, each-first}
 use Rattle.rows.proofs.Sound.{Sound}
@@ -163,6 +163,14 @@ module _ (st : State) (s : Sound st) where
   pub end-stands : (n : ℕ) → isEnd (rowOf (st .rows) n .kind) ≡ true → Stands st n
   unfolding rowOf noRow isEnd isClient isServer clientEnd serverEnd
   end-stands n k = first-there (λ r. r .number) noRow (λ r. isEnd (r .kind)) refl (st .rows) n k
+
+  -- the other end of an end
+  pub paired-at : (n : ℕ) → Stands st n → isEnd (rowOf (st .rows) n .kind) ≡ true → isPairedWith (rowOf (st .rows) n) (rowOf (st .rows) (otherEnd (rowOf (st .rows) n))) ≡ true
+  unfolding endsPaired rowOf endPaired
+  paired-at n t k = pick (all-first (λ r. r .number) noRow (endPaired (st .rows)) (st .rows) n (s .ends-paired) t)
+    where
+      pick : not (isEnd (rowOf (st .rows) n .kind)) || isPairedWith (rowOf (st .rows) n) (rowOf (st .rows) (otherEnd (rowOf (st .rows) n))) ≡ true → isPairedWith (rowOf (st .rows) n) (rowOf (st .rows) (otherEnd (rowOf (st .rows) n))) ≡ true
+      pick e = rw k at e
 
   -- ---- requests
   pub request-number : (q : ℕ) → IsOpen st q → requestOf (st .requests) q .number ≡ q
