@@ -5,3 +5,5 @@ pub mod KeptLists
 pub mod KeptFacts
 -- what is removed: the seeds, and each row with a removed source
 pub mod KeptMarks
+-- look-up in the rows and requests that closing leaves
+pub mod KeptLookups
