@@ -7,3 +7,5 @@ pub mod KeptFacts
 pub mod KeptMarks
 -- look-up in the rows and requests that closing leaves
 pub mod KeptLookups
+-- the process records that closing leaves
+pub mod KeptProcesses
