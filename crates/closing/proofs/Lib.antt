@@ -9,3 +9,5 @@ pub mod KeptMarks
 pub mod KeptLookups
 -- the process records that closing leaves
 pub mod KeptProcesses
+-- the clauses on the requests that stay open
+pub mod KeptRequests
