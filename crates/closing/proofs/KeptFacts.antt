@@ -160,9 +160,13 @@ module _ (st : State) (s : Sound st) where
   copy-at n t k = copy-facts _ _ _ k (row-sort n t)
 
   -- what look-up finds with a kind stands
+  pub kind-stands : (P : ℕ → Bool) → P 0 ≡ false → (n : ℕ) → P (rowOf (st .rows) n .kind) ≡ true → Stands st n
+  unfolding rowOf noRow
+  kind-stands P z n k = first-there (λ r. r .number) noRow (λ r. P (r .kind)) z (st .rows) n k
+
   pub end-stands : (n : ℕ) → isEnd (rowOf (st .rows) n .kind) ≡ true → Stands st n
-  unfolding rowOf noRow isEnd isClient isServer clientEnd serverEnd
-  end-stands n k = first-there (λ r. r .number) noRow (λ r. isEnd (r .kind)) refl (st .rows) n k
+  unfolding isEnd isClient isServer clientEnd serverEnd
+  end-stands n k = kind-stands isEnd refl n k
 
   -- the other end of an end
   pub paired-at : (n : ℕ) → Stands st n → isEnd (rowOf (st .rows) n .kind) ≡ true → isPairedWith (rowOf (st .rows) n) (rowOf (st .rows) (otherEnd (rowOf (st .rows) n))) ≡ true

@@ -122,6 +122,15 @@ unfolding all
 all-of-member f [] h = refl
 all-of-member f (n ∷ ns) h = and-i (f n) (all f ns) (h n (member-here n ns)) (all-of-member f ns (λ m t. h m (member-there m n ns t)))
 
+pub any-of-member : (f : ℕ → Bool) (ns : List ℕ) (n : ℕ) → member n ns ≡ true → f n ≡ true → any f ns ≡ true
+unfolding any member
+any-of-member f [] n t h = t
+any-of-member f (m ∷ ns) n t h = pick (any-of-member f ns n) (eqb n m) refl t
+  where
+    pick : (member n ns ≡ true → f n ≡ true → any f ns ≡ true) → (b : Bool) → eqb n m ≡ b → b || member n ns ≡ true → f m || any f ns ≡ true
+    pick ih true q t = or-l (f m) (any f ns) (ap f (sym (eqb-true n m q)) ∙ h)
+    pick ih false q t = or-r (f m) (any f ns) (ih t h)
+
 module _ {A : Type 0} where
   pub all-map : (h : A → A) (P Q : A → Bool) → ((x : A) → P x ≡ true → Q (h x) ≡ true) → (xs : List A) → all P xs ≡ true → all Q (map h xs) ≡ true
   unfolding all

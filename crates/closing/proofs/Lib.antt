@@ -11,3 +11,7 @@ pub mod KeptLookups
 pub mod KeptProcesses
 -- the clauses on the requests that stay open
 pub mod KeptRequests
+-- the clauses on places: where rows are, whom the system holds, where processes are
+pub mod KeptPlaces
+-- the clauses on rows: ranges, sources, depths, copies, pairs of ends
+pub mod KeptRows
