@@ -93,18 +93,25 @@ pub record EndFacts (r : Row) : Type 0 where
   pub no-via : r .via ≡ 0
   pub no-request : r .request ≡ 0
 
-end-facts : (vs : List Request) (rs : List Row) (r : Row) → isEnd (r .kind) ≡ true → Sort vs rs r → EndFacts r
-unfolding isOpening isRegistered isHeld isPortEnd isLentCopy
-end-facts vs rs r k (opening h) = absurd (end-not-copied (r .kind) k (search (and-l, and-r)))
-end-facts vs rs r k (registered h) = absurd (end-not-copied (r .kind) k (search (and-l, and-r)))
-end-facts vs rs r k (held h) = absurd (end-not-copied (r .kind) k (search (and-l, and-r)))
-end-facts vs rs r k (port-end h) =
+end-sort : (vs : List Request) (rs : List Row) (r : Row) → isEnd (r .kind) ≡ true → Sort vs rs r → isPortEnd rs r ≡ true
+unfolding isOpening isRegistered isHeld isLentCopy
+end-sort vs rs r k (opening h) = absurd (end-not-copied (r .kind) k (search (and-l, and-r)))
+end-sort vs rs r k (registered h) = absurd (end-not-copied (r .kind) k (search (and-l, and-r)))
+end-sort vs rs r k (held h) = absurd (end-not-copied (r .kind) k (search (and-l, and-r)))
+end-sort vs rs r k (port-end h) = h
+end-sort vs rs r k (lent-copy h) = absurd (end-not-copied (r .kind) k (search (and-l, and-r)))
+
+pub end-right : (vs : List Request) (rs : List Row) (r : Row) → isEnd (r .kind) ≡ true → sourceRight vs r rs ≡ true → isPortEnd rs r ≡ true
+end-right vs rs r k e = end-sort vs rs r k (sort-of vs rs r e)
+
+end-facts : (rs : List Row) (r : Row) → isPortEnd rs r ≡ true → EndFacts r
+unfolding isPortEnd
+end-facts rs r h =
     record {
       no-node = not-t (isNode (r .place)) (search (and-l, and-r));
       no-via = eqb-true (r .via) 0 (search (and-l, and-r));
       no-request = eqb-true (r .request) 0 (search (and-l, and-r));
     }
-end-facts vs rs r k (lent-copy h) = absurd (end-not-copied (r .kind) k (search (and-l, and-r)))
 
 -- a lent copy: no end, and its second source is the port of its request
 pub record CopyFacts (vs : List Request) (r : Row) : Type 0 where
@@ -154,7 +161,7 @@ module _ (st : State) (s : Sound st) where
   via-below n t = older n t (rowOf (st .rows) n .via) (sourced _ _ _ (row-sort n t) .via)
 
   pub end-at : (n : ℕ) → Stands st n → isEnd (rowOf (st .rows) n .kind) ≡ true → EndFacts (rowOf (st .rows) n)
-  end-at n t k = end-facts _ _ _ k (row-sort n t)
+  end-at n t k = end-facts _ _ (end-sort _ _ _ k (row-sort n t))
 
   pub copy-at : (n : ℕ) → Stands st n → some (rowOf (st .rows) n .request) ≡ true → CopyFacts (st .requests) (rowOf (st .rows) n)
   copy-at n t k = copy-facts _ _ _ k (row-sort n t)

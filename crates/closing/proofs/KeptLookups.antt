@@ -189,10 +189,13 @@ module _ (g : List ℕ) (f : Request → Bool) (st : State) where
           ap (λ r. H r (olderOf (λ r. r .number) (settled g f st .rows) n)) (row-after n (left-not-gone n t))
           ∙ h n (left-stood n t) (left-not-gone n t) (each-first (λ r. r .number) noRow F (st .rows) a n (left-stood n t))
 
-  -- a row older than n is found among the older ones as before
+  -- a row older than n is found among the older ones as in the whole table, before and after
+  pub older-before : rowsRise st ≡ true → (n m : ℕ) → Stands st n → m < n → rowOf (olderOf (λ r. r .number) (st .rows) n) m ≡ rowOf (st .rows) m
+  unfolding rowsRise rowOf
+  older-before e n m t lt = older-first (λ r. r .number) noRow (st .rows) e n t m lt
+
   pub older-after : rowsRise st ≡ true → (n m : ℕ) → Stands st n → member n g ≡ false → m < n → member m g ≡ false
-      → rowOf (olderOf (λ r. r .number) (settled g f st .rows) n) m ≡ returned f (st .requests) (rowOf (olderOf (λ r. r .number) (st .rows) n) m)
+      → rowOf (olderOf (λ r. r .number) (settled g f st .rows) n) m ≡ returned f (st .requests) (rowOf (st .rows) m)
   unfolding rowsRise rowOf
   older-after e n m t h lt k =
-      older-first (λ r. r .number) noRow (settled g f st .rows) (rows-rise-kept e) n (left-keys n ∙ and-i _ _ t (ap not h)) m lt
-      ∙ row-after m k ∙ ap (returned f (st .requests)) (sym (older-first (λ r. r .number) noRow (st .rows) e n t m lt))
+      older-first (λ r. r .number) noRow (settled g f st .rows) (rows-rise-kept e) n (left-keys n ∙ and-i _ _ t (ap not h)) m lt ∙ row-after m k

@@ -21,9 +21,9 @@ use Rattle.rows.proofs.Keyed.{first-none, rises-range, olderOf}
 use Rattle.rows.proofs.Sound.{Sound}
 use Rattle.closing.specs.Closing.{placedIn, returned, listedIn, leaves, homed, withItems, trimmed, remaining, settled}
 use Rattle.closing.proofs.KeptLists.{any-older, top-member, length-filter}
-use Rattle.closing.proofs.KeptFacts.{Stands, IsOpen, row-number, source-below, via-below, copy-at, copy-listed, lists-open, request-number}
+use Rattle.closing.proofs.KeptFacts.{Stands, IsOpen, row-number, end-right, source-below, via-below, copy-at, copy-listed, lists-open, request-number}
 use Rattle.closing.proofs.KeptMarks.{Closed}
-use Rattle.closing.proofs.KeptLookups.{trimmed-lists, remaining-known, remaining-rises, request-after, returned-keeps, row-after, rows-rise-kept, left-stood, all-left, each-left, older-after}
+use Rattle.closing.proofs.KeptLookups.{trimmed-lists, remaining-known, remaining-rises, request-after, returned-keeps, row-after, rows-rise-kept, left-stood, all-left, each-left, older-before, older-after}
 use Rattle.closing.proofs.KeptProcesses.{listed-kept}
 use Rattle.closing.proofs.KeptPlaces.{no-end-same, node-kept}
 
@@ -76,3 +76,57 @@ module _ (g : List ℕ) (f : Request → Bool) (st : State) (s : Sound st) where
           → topOf (λ v. v .number) (remaining f g (st .requests)) < st .next
       requests (inl z) = below _ _ _ requests-below (inl z)
       requests (inr t) = below _ _ _ requests-below (inr (rises-range (λ v. v .number) (st .requests) (s .requests-rise) _ (remaining-known f g (st .requests) _ t) .1))
+
+-- ---- what a row says of its sources says the same where they are found alike
+same-right : (vs ws : List Request) (r : Row) (rs ss : List Row) → rowOf rs (r .source) .kind ≡ rowOf ss (r .source) .kind → isNode (rowOf rs (r .source) .place) ≡ isNode (rowOf ss (r .source) .place)
+    → rowOf rs (r .via) .kind ≡ rowOf ss (r .via) .kind → requestOf vs (r .request) .port ≡ requestOf ws (r .request) .port → sourceRight vs r rs ≡ sourceRight ws r ss
+unfolding sourceRight isRegistered isHeld isPortEnd isLentCopy
+same-right vs ws r rs ss a b c d = rw (a, b, c, d) refl
+
+same-depth : (r : Row) (rs ss : List Row) → rowOf rs (r .source) .depth ≡ rowOf ss (r .source) .depth → rowOf rs (r .via) .depth ≡ rowOf ss (r .via) .depth → depthRight r rs ≡ depthRight r ss
+unfolding depthRight depthOver
+same-depth r rs ss a b = rw (a, b) refl
+
+same-copy : (r : Row) (rs ss : List Row) → rowOf rs (r .source) .kind ≡ rowOf ss (r .source) .kind → rowOf rs (r .source) .object ≡ rowOf ss (r .source) .object
+    → rowOf rs (r .source) .operation ≡ rowOf ss (r .source) .operation → rowOf rs (r .source) .rights ≡ rowOf ss (r .source) .rights → copyMatches r rs ≡ copyMatches r ss
+unfolding copyMatches
+same-copy r rs ss a b c d = rw (a, b, c, d) refl
+
+module _ (g : List ℕ) (f : Request → Bool) (st : State) (s : Sound st) (c : Closed g f st) where
+  -- the older rows, before and after
+  before : ℕ → List Row
+  before n = olderOf (λ r. r .number) (st .rows) n
+
+  after : ℕ → List Row
+  after n = olderOf (λ r. r .number) (settled g f st .rows) n
+
+  -- a field of an older row that is left, other than the place
+  field : {B : Type 0} (F : Row → B) → ((p : ℕ) (r : Row) → F (placedIn p r) ≡ F r) → (n m : ℕ) → Stands st n → member n g ≡ false → m < n → member m g ≡ false
+      → F (rowOf (after n) m) ≡ F (rowOf (before n) m)
+  unfolding before after
+  field F h n m t k lt j =
+      ap F (older-after g f st (s .rows-rise) n m t k lt j) ∙ returned-keeps F h f (st .requests) (rowOf (st .rows) m) ∙ ap F (sym (older-before g f st (s .rows-rise) n m t lt))
+
+  of-source : {B : Type 0} (F : Row → B) → ((p : ℕ) (r : Row) → F (placedIn p r) ≡ F r) → (n : ℕ) → Stands st n → member n g ≡ false
+      → F (rowOf (after n) (rowOf (st .rows) n .source)) ≡ F (rowOf (before n) (rowOf (st .rows) n .source))
+  of-source F h n t k = field F h n (rowOf (st .rows) n .source) t k (source-below st s n t) (c .source-stays n t k)
+
+  of-via : {B : Type 0} (F : Row → B) → ((p : ℕ) (r : Row) → F (placedIn p r) ≡ F r) → (n : ℕ) → Stands st n → member n g ≡ false
+      → F (rowOf (after n) (rowOf (st .rows) n .via)) ≡ F (rowOf (before n) (rowOf (st .rows) n .via))
+  of-via F h n t k = field F h n (rowOf (st .rows) n .via) t k (via-below st s n t) (c .via-stays n t k)
+
+  pub depths-right-kept : depthsRight (settled g f st) ≡ true
+  unfolding depthsRight depthRight placedIn before after
+  depths-right-kept =
+      each-left g f st depthRight depthRight (s .rows-rise)
+      (λ n t k e. returned-keeps (λ r. depthRight r (after n)) (λ p r. refl) f (st .requests) (rowOf (st .rows) n)
+        ∙ same-depth (rowOf (st .rows) n) (after n) (before n) (of-source (λ r. r .depth) (λ p r. refl) n t k) (of-via (λ r. r .depth) (λ p r. refl) n t k) ∙ e)
+      (s .depths-right)
+
+  pub copies-match-kept : copiesMatch (settled g f st) ≡ true
+  unfolding copiesMatch copyMatches placedIn before after
+  copies-match-kept =
+      each-left g f st copyMatches copyMatches (s .rows-rise)
+      (λ n t k e. returned-keeps (λ r. copyMatches r (after n)) (λ p r. refl) f (st .requests) (rowOf (st .rows) n)
+        ∙ same-copy (rowOf (st .rows) n) (after n) (before n) (of-source (λ r. r .kind) (λ p r. refl) n t k) (of-source (λ r. r .object) (λ p r. refl) n t k) (of-source (λ r. r .operation) (λ p r. refl) n t k) (of-source (λ r. r .rights) (λ p r. refl) n t k) ∙ e)
+      (s .copies-match)
