@@ -123,7 +123,7 @@ module _ (g : List ℕ) (f : Request → Bool) (st : State) (s : Sound st) (c : 
       at-request q t = ap some (first-key (λ v. v .number) noRequest (st .requests) q t) ∙ pos-some q (rises-range (λ v. v .number) (st .requests) (s .requests-rise) q t .0)
 
   -- ---- only ends are returned
-  listed-end : (n : ℕ) → Stands st n → member n g ≡ false → listedIn f (st .requests) n ≡ true → isEnd (rowOf (st .rows) n .kind) ≡ true
+  pub listed-end : (n : ℕ) → Stands st n → member n g ≡ false → listedIn f (st .requests) n ≡ true → isEnd (rowOf (st .rows) n .kind) ≡ true
   unfolding requestsRise listedIn mayBeListed
   listed-end n t k h =
       let (q, o, p) = any-first (λ v. v .number) noRequest (λ w. f w && lists n w) (st .requests) (s .requests-rise) h in
