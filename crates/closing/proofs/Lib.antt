@@ -15,3 +15,5 @@ pub mod KeptRequests
 pub mod KeptPlaces
 -- the clauses on rows: ranges, sources, depths, copies, pairs of ends
 pub mod KeptRows
+-- closing keeps the tables sound: of seeds, of a request, of a port, of a dropped row
+pub mod Kept
