@@ -1,9 +1,9 @@
 -- Closing keeps the tables sound, and so do its three uses: closing a request, closing a port, dropping a row.
-use Prim.Native.Nat.{ℕ, zero, suc, _<_}
-use mathlib.Core.Bool.{Bool, true, false, _&&_, _||_}
+use Prim.Native.Nat.{ℕ, _<_}
+use mathlib.Core.Bool.{Bool, true, false, _&&_}
 use mathlib.Core.List.{List, [], _∷_}
 use mathlib.Core.Path.{_≡_, refl, sym, ap, _∙_}
-use mathlib.Core.Logic.{_⊎_, inl, inr, ⊎-elim}
+use mathlib.Core.Logic.{⊎-elim}
 use lib.Dec.{eqb}
 use borrow.Author.Tests.{eqb-true, eq-eqb, ne-eqb}
 use native.Mathlib.Omega.{arith}
@@ -13,10 +13,10 @@ use Rattle.rows.specs.Lists.{member, some}
 use Rattle.rows.specs.Codes.{isEnd}
 use Rattle.rows.specs.Tables.{State, rowOf, marked, bears}
 use Rattle.rows.specs.Sound.{nextInRange, isPairedWith, otherEnd}
-use Rattle.rows.proofs.Bools.{false-of, clash, and-l, and-r, some-pos, member-cases}
+use Rattle.rows.proofs.Bools.{clash, and-l, and-r, some-pos, member-cases}
 use Rattle.rows.proofs.Sound.{Sound}
 use Rattle.closing.specs.Closing.{closes, settled, closing, closeRequest, isEndOf, closePort, isRow, dropRow}
-use Rattle.closing.proofs.KeptFacts.{Stands, EndFacts, row-number, end-at, end-stands, paired-at}
+use Rattle.closing.proofs.KeptFacts.{Stands, row-number, end-at, end-stands, paired-at}
 use Rattle.closing.proofs.KeptMarks.{Closed, Closable, closable-closed}
 use Rattle.closing.proofs.KeptLookups.{rows-rise-kept}
 use Rattle.closing.proofs.KeptProcesses.{records-fit-kept, records-in-range-kept}
@@ -29,30 +29,30 @@ pub settled-kept : (g : List ℕ) (f : Request → Bool) (st : State) → Sound 
 settled-kept g f st s c =
     record {
       rows-rise = rows-rise-kept g f st (s .rows-rise);
-      requests-rise = requests-rise-kept g f st s c;
-      numbers-apart = numbers-apart-kept g f st s c;
+      requests-rise = requests-rise-kept g f st s;
+      numbers-apart = numbers-apart-kept g f st s;
       below-next = below-next-kept g f st s;
       next-in-range = unfold nextInRange settled in s .next-in-range;
       rows-fit = rows-fit-kept g f st s;
-      requests-fit = requests-fit-kept g f st s c;
+      requests-fit = requests-fit-kept g f st s;
       records-fit = records-fit-kept g f st (s .records-fit);
       objects-in-range = objects-in-range-kept g f st s;
       rights-in-range = rights-in-range-kept g f st s;
       places-in-range = places-in-range-kept g f st s c;
-      fetched-in-range = fetched-in-range-kept g f st s c;
+      fetched-in-range = fetched-in-range-kept g f st s;
       sources-right = sources-right-kept g f st s c;
       depths-right = depths-right-kept g f st s c;
       copies-match = copies-match-kept g f st s c;
       records-in-range = records-in-range-kept g f st (s .records-in-range);
       ends-paired = ends-paired-kept g f st s c;
       ports-stand = ports-stand-kept g f st s c;
-      requesters-listed = requesters-listed-kept g f st s c;
-      items-few = items-few-kept g f st s c;
-      items-apart = items-apart-kept g f st s c;
-      items-lent = items-lent-kept g f st s c;
-      one-per-port = one-per-port-kept g f st s c;
+      requesters-listed = requesters-listed-kept g f st s;
+      items-few = items-few-kept g f st s;
+      items-apart = items-apart-kept g f st s;
+      items-lent = items-lent-kept g f st s;
+      one-per-port = one-per-port-kept g f st s;
       copies-listed = copies-listed-kept g f st s c;
-      older-fetched = older-fetched-kept g f st s c;
+      older-fetched = older-fetched-kept g f st s;
       system-holds = system-holds-kept g f st s c;
       processes-placed = processes-placed-kept g f st s c;
     }
@@ -77,7 +77,7 @@ module _ (st : State) (s : Sound st) where
       let p : isPairedWith r o ≡ true = paired-at st s n t k in
       let e : isEnd (o .kind) ≡ true = and-l (isEnd (o .kind)) (eqb (r .object) (o .object) && eqb (r .source) (o .source)) p in
       record {
-        stands = end-stands st s (otherEnd r) e;
+        stands = end-stands st (otherEnd r) e;
         is-end = e;
         port = eqb-true _ _ (and-l (eqb (r .object) (o .object)) (eqb (r .source) (o .source)) (and-r (isEnd (o .kind)) (eqb (r .object) (o .object) && eqb (r .source) (o .source)) p));
       }
@@ -107,7 +107,7 @@ module _ (st : State) (s : Sound st) where
   drop-kept e h = closing-kept (isRow e) [] st s (record { pairs = pairs; bearing = λ n t m. clash m refl })
     where
       other : (n : ℕ) → Stands st n → isEnd (rowOf (st .rows) n .kind) ≡ true → isRow e (rowOf (st .rows) n) ≡ false
-      other n t k = ne-eqb (rowOf (st .rows) n .number) e (λ z. clash (ap (λ m. isEnd (rowOf (st .rows) m .kind)) (sym z ∙ row-number st s n t) ∙ k) h)
+      other n t k = ne-eqb (rowOf (st .rows) n .number) e (λ z. clash (ap (λ m. isEnd (rowOf (st .rows) m .kind)) (sym z ∙ row-number st n t) ∙ k) h)
 
       pairs : (n : ℕ) → Stands st n → isEnd (rowOf (st .rows) n .kind) ≡ true → isRow e (rowOf (st .rows) n) ≡ isRow e (rowOf (st .rows) (otherEnd (rowOf (st .rows) n)))
       pairs n t k = other n t k ∙ sym (other (otherEnd (rowOf (st .rows) n)) (pair-at n t k .stands) (pair-at n t k .is-end))

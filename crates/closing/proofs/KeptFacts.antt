@@ -1,20 +1,20 @@
 -- What sound tables tell of one row and of one open request, each found by its number.
-use Prim.Native.Nat.{ℕ, zero, suc, _<_, _≤_}
-use mathlib.Core.Bool.{Bool, true, false, not, cond, _&&_, _||_}
-use mathlib.Core.List.{List, [], _∷_, map}
-use mathlib.Core.Path.{_≡_, refl, sym, ap, _∙_, subst}
+use Prim.Native.Nat.{ℕ, _<_}
+use mathlib.Core.Bool.{Bool, true, false, not, _&&_, _||_}
+use mathlib.Core.List.{List, map}
+use mathlib.Core.Path.{_≡_, refl, sym, ap, _∙_}
 use mathlib.Core.Logic.{_⊎_, inl, inr, ⊎-elim}
-use lib.Dec.{leb, ltb, eqb}
-use borrow.Author.Tests.{eqb-true, eqb-false, eq-eqb, ne-eqb}
+use lib.Dec.{ltb, eqb}
+use borrow.Author.Tests.{eqb-true}
 use native.Mathlib.Omega.{arith}
 use Rattle.rows.specs.declared.Row.{Row}
 use Rattle.rows.specs.declared.Request.{Request}
-use Rattle.rows.specs.Lists.{all, each, member, some, nonzero, between}
+use Rattle.rows.specs.Lists.{all, member, some, nonzero, between}
 use Rattle.rows.specs.Limits.{nodes}
 use Rattle.rows.specs.Codes.{isEnd, isCopied, isClient, isServer, isOperation, isSubdirectory, isNode, clientEnd, serverEnd, operation, subdirectory}
 use Rattle.rows.specs.Tables.{State, noRow, noRequest, rowOf, requestOf, lists}
-use Rattle.rows.specs.Sound.{rowsRise, requestsRise, sourceRight, sourcesRight, isOpening, isRegistered, isHeld, isPortEnd, isLentCopy, copyListed, copiesListed, mayBeListed, itemsLent, isPairedWith, otherEnd, endPaired, endsPaired}
-use Rattle.rows.proofs.Bools.{false-of, clash, and-l, and-r, and-i, not-t, or-cases, some-pos, all-at}
+use Rattle.rows.specs.Sound.{rowsRise, sourceRight, sourcesRight, isOpening, isRegistered, isHeld, isPortEnd, isLentCopy, copyListed, copiesListed, mayBeListed, itemsLent, isPairedWith, otherEnd, endPaired, endsPaired}
+use Rattle.rows.proofs.Bools.{false-of, clash, and-l, and-r, not-t, or-cases, all-at}
 use Rattle.rows.proofs.Keyed.{first-key, first-there, all-first, rises-range, older-key, olderOf, each-first}
 use Rattle.rows.proofs.Sound.{Sound}
 use Rattle.closing.proofs.KeptLists.{member-nonzero}
@@ -77,8 +77,8 @@ sourced vs rs r (held h) =
     record {
       source = found (λ x. isNode (x .place)) refl rs (r .source) (search (and-l, and-r));
       via =
-        ⊎-elim (none rs (r .via)) (found (λ x. isSubdirectory (x .kind)) refl rs (r .via))
-        (or-cases (eqb (r .via) 0) (isSubdirectory (rowOf rs (r .via) .kind)) (search (and-l, and-r)));
+          ⊎-elim (none rs (r .via)) (found (λ x. isSubdirectory (x .kind)) refl rs (r .via))
+          (or-cases (eqb (r .via) 0) (isSubdirectory (rowOf rs (r .via) .kind)) (search (and-l, and-r)));
     }
 sourced vs rs r (port-end h) = record { source = found (λ x. isOperation (x .kind)) refl rs (r .source) (search (and-l, and-r)); via = none rs (r .via) (search (and-l, and-r)) }
 sourced vs rs r (lent-copy h) =
@@ -135,15 +135,34 @@ copy-facts vs rs r k (lent-copy h) =
       through-port = eqb-true (requestOf vs (r .request) .port) (r .via) (search (and-l, and-r));
     }
 
--- ---- of the row n and the open request q
+-- ---- of the row n and the open request q, by look-up alone
+module _ (st : State) where
+  pub row-number : (n : ℕ) → Stands st n → rowOf (st .rows) n .number ≡ n
+  unfolding rowOf
+  row-number n t = first-key (λ r. r .number) noRow (st .rows) n t
+
+  -- what look-up finds with a kind stands
+  pub kind-stands : (P : ℕ → Bool) → P 0 ≡ false → (n : ℕ) → P (rowOf (st .rows) n .kind) ≡ true → Stands st n
+  unfolding rowOf noRow
+  kind-stands P z n k = first-there (λ r. r .number) noRow (λ r. P (r .kind)) z (st .rows) n k
+
+  pub end-stands : (n : ℕ) → isEnd (rowOf (st .rows) n .kind) ≡ true → Stands st n
+  unfolding isEnd isClient isServer clientEnd serverEnd
+  end-stands n k = kind-stands isEnd refl n k
+
+  pub request-number : (q : ℕ) → IsOpen st q → requestOf (st .requests) q .number ≡ q
+  unfolding requestOf
+  request-number q t = first-key (λ v. v .number) noRequest (st .requests) q t
+
+  pub lists-open : (e q : ℕ) → lists e (requestOf (st .requests) q) ≡ true → IsOpen st q
+  unfolding requestOf lists noRequest member
+  lists-open e q t = first-there (λ v. v .number) noRequest (lists e) (false-of _ (λ u. clash (and-r (some e) false u) refl)) (st .requests) q t
+
+-- and by soundness
 module _ (st : State) (s : Sound st) where
   row-sort : (n : ℕ) → Stands st n → Sort (st .requests) (olderOf (λ r. r .number) (st .rows) n) (rowOf (st .rows) n)
   unfolding sourcesRight rowOf
   row-sort n t = sort-of (st .requests) _ _ (each-first (λ r. r .number) noRow (sourceRight (st .requests)) (st .rows) (s .sources-right) n t)
-
-  pub row-number : (n : ℕ) → Stands st n → rowOf (st .rows) n .number ≡ n
-  unfolding rowOf
-  row-number n t = first-key (λ r. r .number) noRow (st .rows) n t
 
   pub row-positive : (n : ℕ) → Stands st n → 0 < n
   unfolding rowsRise
@@ -166,15 +185,6 @@ module _ (st : State) (s : Sound st) where
   pub copy-at : (n : ℕ) → Stands st n → some (rowOf (st .rows) n .request) ≡ true → CopyFacts (st .requests) (rowOf (st .rows) n)
   copy-at n t k = copy-facts _ _ _ k (row-sort n t)
 
-  -- what look-up finds with a kind stands
-  pub kind-stands : (P : ℕ → Bool) → P 0 ≡ false → (n : ℕ) → P (rowOf (st .rows) n .kind) ≡ true → Stands st n
-  unfolding rowOf noRow
-  kind-stands P z n k = first-there (λ r. r .number) noRow (λ r. P (r .kind)) z (st .rows) n k
-
-  pub end-stands : (n : ℕ) → isEnd (rowOf (st .rows) n .kind) ≡ true → Stands st n
-  unfolding isEnd isClient isServer clientEnd serverEnd
-  end-stands n k = kind-stands isEnd refl n k
-
   -- the other end of an end
   pub paired-at : (n : ℕ) → Stands st n → isEnd (rowOf (st .rows) n .kind) ≡ true → isPairedWith (rowOf (st .rows) n) (rowOf (st .rows) (otherEnd (rowOf (st .rows) n))) ≡ true
   unfolding endsPaired rowOf endPaired
@@ -182,15 +192,6 @@ module _ (st : State) (s : Sound st) where
     where
       pick : not (isEnd (rowOf (st .rows) n .kind)) || isPairedWith (rowOf (st .rows) n) (rowOf (st .rows) (otherEnd (rowOf (st .rows) n))) ≡ true → isPairedWith (rowOf (st .rows) n) (rowOf (st .rows) (otherEnd (rowOf (st .rows) n))) ≡ true
       pick e = rw k at e
-
-  -- ---- requests
-  pub request-number : (q : ℕ) → IsOpen st q → requestOf (st .requests) q .number ≡ q
-  unfolding requestOf
-  request-number q t = first-key (λ v. v .number) noRequest (st .requests) q t
-
-  pub lists-open : (e q : ℕ) → lists e (requestOf (st .requests) q) ≡ true → IsOpen st q
-  unfolding requestOf lists noRequest member
-  lists-open e q t = first-there (λ v. v .number) noRequest (lists e) (false-of _ (λ u. clash (and-r (some e) false u) refl)) (st .requests) q t
 
   -- a copy is listed by the open request that it bears
   pub copy-listed : (n : ℕ) → Stands st n → some (rowOf (st .rows) n .request) ≡ true → lists n (requestOf (st .requests) (rowOf (st .rows) n .request)) ≡ true
@@ -203,7 +204,7 @@ module _ (st : State) (s : Sound st) where
       pick : copyListed (st .requests) r ≡ true → lists n (requestOf (st .requests) (r .request)) ≡ true
       pick e =
           ⊎-elim (not-zero (r .request) k)
-          (λ w. ap (λ m. lists m (requestOf (st .requests) (r .request))) (sym (row-number n t)) ∙ and-r (ltb (r .request) (r .number)) (lists (r .number) (requestOf (st .requests) (r .request))) w)
+          (λ w. ap (λ m. lists m (requestOf (st .requests) (r .request))) (sym (row-number st n t)) ∙ and-r (ltb (r .request) (r .number)) (lists (r .number) (requestOf (st .requests) (r .request))) w)
           (or-cases (eqb (r .request) 0) (ltb (r .request) (r .number) && lists (r .number) (requestOf (st .requests) (r .request))) e)
 
   -- what a request lists may be listed there

@@ -1,15 +1,15 @@
 -- Lists told by their keys, kept and trimmed lists: what the files on kept tables use of lists alone.
-use Prim.Native.Nat.{ℕ, zero, suc, _<_, _≤_}
+use Prim.Native.Nat.{ℕ, suc, _<_, _≤_}
 use mathlib.Core.Bool.{Bool, true, false, not, cond, _&&_, _||_}
 use mathlib.Core.List.{List, [], _∷_, map}
 use mathlib.Core.Path.{_≡_, refl, sym, ap, _∙_, subst}
 use mathlib.Core.Logic.{_⊎_, inl, inr}
-use lib.Dec.{leb, ltb, eqb}
+use lib.Dec.{eqb}
 use lib.ListN.{length}
-use borrow.Author.Tests.{eqb-true, eqb-false, eq-eqb, ne-eqb, ltb-true, ltb-false, lt-ltb, le-ltb}
+use borrow.Author.Tests.{eqb-true, ne-eqb}
 use native.Mathlib.Omega.{arith}
 use Rattle.rows.specs.Lists.{filter, any, all, each, firstWith, topOf, rises, member, distinct, some, nonzero}
-use Rattle.rows.proofs.Bools.{false-of, clash, and-l, and-r, and-i, not-t, or-l, or-r, or-fl, or-fr, or-map, eqb-self, eqb-sym-f, some-pos, member-here, member-there}
+use Rattle.rows.proofs.Bools.{false-of, clash, and-l, and-r, and-i, not-t, or-l, or-r, or-map, eqb-self, some-pos, member-here, member-there}
 use Rattle.rows.proofs.Keyed.{rises-rest, rises-first, rises-cons, rises-older, olderOf}
 
 -- ---- a list with rising keys is told by what look-up finds

@@ -1,24 +1,22 @@
 -- The rows and requests that closing leaves: their keys, look-up among them, and what holds of all.
-use Prim.Native.Nat.{ℕ, zero, suc, _<_, _≤_}
+use Prim.Native.Nat.{ℕ, _<_}
 use mathlib.Core.Bool.{Bool, true, false, not, cond, _&&_, _||_}
 use mathlib.Core.List.{List, [], _∷_, map}
-use mathlib.Core.Path.{_≡_, refl, sym, ap, _∙_, subst}
-use mathlib.Core.Logic.{_⊎_, inl, inr, ⊎-elim}
-use lib.Dec.{leb, ltb, eqb}
-use borrow.Author.Tests.{eqb-true, eqb-false, eq-eqb, ne-eqb}
-use native.Mathlib.Omega.{arith}
+use mathlib.Core.Path.{_≡_, refl, sym, ap, _∙_}
+use mathlib.Core.Logic.{_⊎_, ⊎-elim}
+use lib.Dec.{eqb}
+use borrow.Author.Tests.{eqb-false}
 use Rattle.rows.specs.declared.Row.{Row}
 use Rattle.rows.specs.declared.Request.{Request}
 use Rattle.rows.specs.Lists.{any, all, each, filter, member, rises, some}
 use Rattle.rows.specs.Codes.{inClist}
 use Rattle.rows.specs.Tables.{State, noRow, noRequest, rowOf, requestOf, lists}
-use Rattle.rows.specs.Sound.{rowsRise, requestsRise}
-use Rattle.rows.proofs.Bools.{false-of, clash, and-l, and-r, and-i, not-t, not-f, or-cases, or-l, or-r, or-fl, or-fr, any-none, member-here, member-there, member-cases, true-or-false}
-use Rattle.rows.proofs.Keyed.{first-map, first-filter, first-key, keys-map, keys-filter, all-first, each-first, rises-map, rises-rest, rises-older, rises-range, older-first, olderOf}
-use Rattle.rows.proofs.Sound.{Sound}
+use Rattle.rows.specs.Sound.{rowsRise}
+use Rattle.rows.proofs.Bools.{clash, and-l, and-r, and-i, not-t, or-fl, or-fr, any-none, member-cases}
+use Rattle.rows.proofs.Keyed.{first-map, first-filter, keys-map, keys-filter, all-first, each-first, rises-map, rises-rest, older-first, olderOf}
 use Rattle.closing.specs.Closing.{oldestListing, placedIn, returned, listedIn, leaves, withItems, trimmed, remaining, settled}
-use Rattle.closing.proofs.KeptLists.{first-here, first-rest, all-of-first, each-of-first, rises-filter, rises-keys, keys-kept, trim, member-trim}
-use Rattle.closing.proofs.KeptFacts.{Stands, IsOpen}
+use Rattle.closing.proofs.KeptLists.{all-of-first, each-of-first, rises-filter, rises-keys, keys-kept, trim, member-trim}
+use Rattle.closing.proofs.KeptFacts.{Stands}
 
 -- ---- an item of a trimmed list
 pub trimmed-lists : (f : Request → Bool) (g : List ℕ) (vs : List Request) (v : Request) (e : ℕ) → lists e (trimmed f g vs v) ≡ lists e v && not (leaves f g vs e)
@@ -150,7 +148,7 @@ module _ (g : List ℕ) (f : Request → Bool) (st : State) where
   pub left-stood : (n : ℕ) → Stands (settled g f st) n → Stands st n
   left-stood n t = and-l (member n (map (λ r. r .number) (st .rows))) (not (member n g)) (sym (left-keys n) ∙ t)
 
-  pub left-not-gone : (n : ℕ) → Stands (settled g f st) n → member n g ≡ false
+  left-not-gone : (n : ℕ) → Stands (settled g f st) n → member n g ≡ false
   left-not-gone n t = not-t (member n g) (and-r (member n (map (λ r. r .number) (st .rows))) (not (member n g)) (sym (left-keys n) ∙ t))
 
   pub row-after : (n : ℕ) → member n g ≡ false → rowOf (settled g f st .rows) n ≡ returned f (st .requests) (rowOf (st .rows) n)
@@ -179,7 +177,7 @@ module _ (g : List ℕ) (f : Request → Bool) (st : State) where
   -- of each row with the older ones
   pub each-left : (F H : Row → List Row → Bool) → rowsRise st ≡ true
       → ((n : ℕ) → Stands st n → member n g ≡ false → F (rowOf (st .rows) n) (olderOf (λ r. r .number) (st .rows) n) ≡ true
-        → H (returned f (st .requests) (rowOf (st .rows) n)) (olderOf (λ r. r .number) (settled g f st .rows) n) ≡ true)
+      → H (returned f (st .requests) (rowOf (st .rows) n)) (olderOf (λ r. r .number) (settled g f st .rows) n) ≡ true)
       → each F (st .rows) ≡ true → each H (settled g f st .rows) ≡ true
   unfolding rowsRise rowOf
   each-left F H e h a = each-of-first (λ r. r .number) noRow H (settled g f st .rows) (rows-rise-kept e) at-row

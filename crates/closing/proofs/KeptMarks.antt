@@ -1,24 +1,24 @@
 -- What is removed: the law of `marked`, and the five facts of what is removed and closed on which everything kept rests.
-use Prim.Native.Nat.{ℕ, zero, suc, pred, _<_, _≤_}
-use mathlib.Core.Bool.{Bool, true, false, not, cond, _&&_, _||_}
+use Prim.Native.Nat.{ℕ, zero, suc, _<_}
+use mathlib.Core.Bool.{Bool, true, false, cond, _&&_, _||_}
 use mathlib.Core.List.{List, [], _∷_, map}
-use mathlib.Core.Path.{_≡_, refl, sym, ap, _∙_, subst}
-use mathlib.Core.Logic.{_⊎_, inl, inr, ⊎-elim}
-use lib.Dec.{leb, ltb, eqb}
-use borrow.Author.Tests.{eqb-true, eqb-false, eq-eqb, ne-eqb, ltb-true, lt-ltb}
+use mathlib.Core.Path.{_≡_, refl, sym, ap, _∙_}
+use mathlib.Core.Logic.{⊎-elim}
+use lib.Dec.{ltb, eqb}
+use borrow.Author.Tests.{eqb-true, ne-eqb, ltb-true, lt-ltb}
 use native.Mathlib.Omega.{arith}
 use Rattle.rows.specs.declared.Row.{Row}
 use Rattle.rows.specs.declared.Request.{Request}
 use Rattle.rows.specs.Lists.{any, all, filter, member, rises, some, nonzero}
 use Rattle.rows.specs.Codes.{isEnd}
 use Rattle.rows.specs.Tables.{State, noRow, rowOf, requestOf, sources, mark, marked}
-use Rattle.rows.specs.Sound.{otherEnd, rowsRise, isPairedWith, endPaired, endsPaired}
-use Rattle.rows.proofs.Bools.{false-of, clash, and-l, and-r, and-i, not-t, or-cases, or-l, or-r, or-fl, or-fr, or-map, eqb-sym, eqb-sym-f, some-pos, member-here, member-cases}
+use Rattle.rows.specs.Sound.{otherEnd, rowsRise, isPairedWith}
+use Rattle.rows.proofs.Bools.{false-of, clash, and-l, and-r, and-i, or-l, or-r, or-fl, or-fr, or-map, member-here, member-cases}
 use Rattle.rows.proofs.Keyed.{first-key, all-first, rises-rest, rises-older, rises-fresh, rises-range}
 use Rattle.rows.proofs.Sound.{Sound}
 use Rattle.closing.specs.Closing.{closes}
 use Rattle.closing.proofs.KeptLists.{first-here, first-rest, all-of-first}
-use Rattle.closing.proofs.KeptFacts.{Stands, IsOpen, row-number, row-positive, source-below, via-below, end-at, end-stands, paired-at, copy-at, copy-listed, lists-open, request-number}
+use Rattle.closing.proofs.KeptFacts.{Stands, row-number, source-below, via-below, end-at, end-stands, paired-at, copy-at, copy-listed, lists-open, request-number}
 
 -- ---- one mark
 mark-other : (b : Bool) (n k : ℕ) (m : List ℕ) → eqb n k ≡ false → member n (mark b k m) ≡ member n m
@@ -112,7 +112,6 @@ module _ (f : Row → Bool) where
 
 -- ---- what is removed, g, and closed, by f
 pub record Closed (g : List ℕ) (f : Request → Bool) (st : State) : Type 0 where
-  pub only-rows : (n : ℕ) → member n g ≡ true → Stands st n
   pub source-stays : (n : ℕ) → Stands st n → member n g ≡ false → member (rowOf (st .rows) n .source) g ≡ false
   pub via-stays : (n : ℕ) → Stands st n → member n g ≡ false → member (rowOf (st .rows) n .via) g ≡ false
   pub other-end-stays : (n : ℕ) → Stands st n → isEnd (rowOf (st .rows) n .kind) ≡ true → member n g ≡ false → member (otherEnd (rowOf (st .rows) n)) g ≡ false
@@ -131,7 +130,7 @@ module _ (seed : Row → Bool) (qs : List ℕ) (st : State) (s : Sound st) (c : 
     where
       at-row : (n : ℕ) → Stands st n → olderSources (rowOf (st .rows) n) ≡ true
       at-row n t =
-          let x : rowOf (st .rows) n .number ≡ n = row-number st s n t in
+          let x : rowOf (st .rows) n .number ≡ n = row-number st n t in
           let a : rowOf (st .rows) n .source < n = source-below st s n t in
           let b : rowOf (st .rows) n .via < n = via-below st s n t in
           and-i _ _ (lt-ltb (rowOf (st .rows) n .source) (rowOf (st .rows) n .number) (omega arith)) (lt-ltb (rowOf (st .rows) n .via) (rowOf (st .rows) n .number) (omega arith))
@@ -145,7 +144,6 @@ module _ (seed : Row → Bool) (qs : List ℕ) (st : State) (s : Sound st) (c : 
   unfolding closes isPairedWith
   closable-closed =
       record {
-        only-rows = marked-known seed (st .rows);
         source-stays = λ n t h. or-fl (source-gone n) (via-gone n) (left n t h);
         via-stays = λ n t h. or-fr (source-gone n) (via-gone n) (left n t h);
         other-end-stays = λ n t k h. sym (pair n t k) ∙ h;
@@ -173,7 +171,7 @@ module _ (seed : Row → Bool) (qs : List ℕ) (st : State) (s : Sound st) (c : 
           let o : ℕ = otherEnd (R n) in
           let p : isPairedWith (R n) (R o) ≡ true = paired-at st s n t k in
           let ko : isEnd (R o .kind) ≡ true = and-l (isEnd (R o .kind)) (eqb (R n .object) (R o .object) && eqb (R n .source) (R o .source)) p in
-          let to : Stands st o = end-stands st s o ko in
+          let to : Stands st o = end-stands st o ko in
           let same-source : R n .source ≡ R o .source = eqb-true _ _ (and-r (eqb (R n .object) (R o .object)) (eqb (R n .source) (R o .source)) (and-r (isEnd (R o .kind)) (eqb (R n .object) (R o .object) && eqb (R n .source) (R o .source)) p)) in
           let same-via : R n .via ≡ R o .via = end-at st s n t k .no-via ∙ sym (end-at st s o to ko .no-via) in
           law n t ∙ ap (λ b. b || (source-gone n || via-gone n)) (c .pairs n t k) ∙ ap (λ m. seed (R o) || (member m g || via-gone n)) same-source ∙ ap (λ m. seed (R o) || (source-gone o || member m g)) same-via ∙ sym (law o to)
@@ -182,7 +180,7 @@ module _ (seed : Row → Bool) (qs : List ℕ) (st : State) (s : Sound st) (c : 
       stays n t h k =
           let q : ℕ = R n .request in
           let v : Request = requestOf (st .requests) q in
-          let num : v .number ≡ q = request-number st s q (lists-open st s n q (copy-listed st s n t k)) in
+          let num : v .number ≡ q = request-number st q (lists-open st n q (copy-listed st s n t k)) in
           let port : v .port ≡ R n .via = copy-at st s n t k .through-port in
           let a : member (v .number) qs ≡ false = ap (λ m. member m qs) num ∙ false-of (member q qs) (λ u. clash (law n t ∙ or-l (seed (R n)) (source-gone n || via-gone n) (c .bearing n t u)) h) in
           let b : member (v .port) g ≡ false = ap (λ m. member m g) port ∙ or-fr (source-gone n) (via-gone n) (left n t h) in

@@ -1,9 +1,9 @@
 -- Places: only ends are moved by a return, to a listed process; the system holds what awaits a fetch; each process is where it may be.
-use Prim.Native.Nat.{ℕ, zero, suc, _<_, _≤_, _+_, _-_}
+use Prim.Native.Nat.{ℕ, _+_, _-_}
 use mathlib.Core.Bool.{Bool, true, false, not, cond, _&&_, _||_}
 use mathlib.Core.List.{List, [], _∷_, map}
 use mathlib.Core.Path.{_≡_, refl, sym, ap, _∙_, subst}
-use mathlib.Core.Logic.{_⊎_, inl, inr, ⊎-elim}
+use mathlib.Core.Logic.{⊎-elim}
 use lib.Dec.{leb, ltb, eqb}
 use lib.ListN.{length}
 use borrow.Author.Tests.{eqb-true, ne-eqb, le-leb, lt-leb}
@@ -16,7 +16,7 @@ use Rattle.rows.specs.Limits.{processes, nodes}
 use Rattle.rows.specs.Codes.{isEnd, isClient, isServer, isSubdirectory, clientEnd, serverEnd, subdirectory, isNode, isClist, isSystem, inClist, ownerOf, withSystem}
 use Rattle.rows.specs.Tables.{State, noRow, noRequest, rowOf, requestOf, isListed, lists}
 use Rattle.rows.specs.Sound.{requestsRise, recordsFit, placeInRange, placesInRange, mayBeListed, isFetched, olderFetchedBy, olderFetched, awaitsFetch, same, systemHolds, processesPlaced, requestersListed}
-use Rattle.rows.proofs.Bools.{false-of, clash, and-l, and-r, and-i, not-t, or-cases, or-l, or-r, or-fl, or-fr, or-map, all-mono, pos-some, true-or-false}
+use Rattle.rows.proofs.Bools.{false-of, clash, and-l, and-r, and-i, not-t, or-cases, or-r, or-fl, or-fr, or-map, all-mono, pos-some, true-or-false}
 use Rattle.rows.proofs.Keyed.{first-key, first-none, rises-range}
 use Rattle.rows.proofs.Sound.{Sound}
 use Rattle.closing.specs.Closing.{oldestListing, placedIn, returned, listedIn, leaves, homed, withItems, trimmed, remaining, settled}
@@ -139,13 +139,13 @@ module _ (g : List ℕ) (f : Request → Bool) (st : State) (s : Sound st) (c : 
           let right : mayBeListed v r ≡ true = listed-right st s q o n (and-r (f v) (lists n v) p) in
           ⊎-elim (λ e. and-l (isEnd (r .kind)) (ltb (r .number) (v .number)) e)
           (λ e. let sm : some (r .request) ≡ true = and-l (some (r .request)) (eqb (r .request) (v .number)) e in
-            let z : r .request ≡ q = eqb-true _ _ (and-r (some (r .request)) (eqb (r .request) (v .number)) e) ∙ request-number st s q o in
-            clash (ap (λ m. f (requestOf (st .requests) m)) z ∙ closes) (c .request-stays n t k sm))
+          let z : r .request ≡ q = eqb-true _ _ (and-r (some (r .request)) (eqb (r .request) (v .number)) e) ∙ request-number st q o in
+          clash (ap (λ m. f (requestOf (st .requests) m)) z ∙ closes) (c .request-stays n t k sm))
           (or-cases (isEnd (r .kind) && ltb (r .number) (v .number)) (some (r .request) && eqb (r .request) (v .number)) right)
 
   -- what no closing request lists is as it was
   unlisted-same : (n : ℕ) → Stands st n → listedIn f (st .requests) n ≡ false → returned f (st .requests) (rowOf (st .rows) n) ≡ rowOf (st .rows) n
-  unlisted-same n t h = returned-same f (st .requests) (rowOf (st .rows) n) (ap (listedIn f (st .requests)) (row-number st s n t) ∙ h)
+  unlisted-same n t h = returned-same f (st .requests) (rowOf (st .rows) n) (ap (listedIn f (st .requests)) (row-number st n t) ∙ h)
 
   pub no-end-same : (n : ℕ) → Stands st n → member n g ≡ false → isEnd (rowOf (st .rows) n .kind) ≡ false → returned f (st .requests) (rowOf (st .rows) n) ≡ rowOf (st .rows) n
   no-end-same n t k e = unlisted-same n t (false-of _ (λ h. clash (listed-end n t k h) e))
@@ -154,9 +154,9 @@ module _ (g : List ℕ) (f : Request → Bool) (st : State) (s : Sound st) (c : 
   listed-clist : (n : ℕ) → Stands st n → listedIn f (st .requests) n ≡ true → Clist (st .processes) (returned f (st .requests) (rowOf (st .rows) n) .place)
   unfolding requestersListed recordsFit processes
   listed-clist n t h =
-      let l : listedIn f (st .requests) (rowOf (st .rows) n .number) ≡ true = ap (listedIn f (st .requests)) (row-number st s n t) ∙ h in
+      let l : listedIn f (st .requests) (rowOf (st .rows) n .number) ≡ true = ap (listedIn f (st .requests)) (row-number st n t) ∙ h in
       let asker : isListed (st .processes) (oldestListing f (rowOf (st .rows) n .number) (st .requests) .asker) ≡ true =
-            oldest-all f (rowOf (st .rows) n .number) (λ v. isListed (st .processes) (v .asker)) (st .requests) requests-positive (s .requesters-listed) l in
+      oldest-all f (rowOf (st .rows) n .number) (λ v. isListed (st .processes) (v .asker)) (st .requests) requests-positive (s .requesters-listed) l in
       subst (Clist (st .processes)) (sym (returned-place f (st .requests) (rowOf (st .rows) n) requests-positive l))
       (clist (st .processes) (eqb-true (length (st .processes)) 64 (s .records-fit)) (oldestListing f (rowOf (st .rows) n .number) (st .requests) .asker) asker)
 
@@ -199,19 +199,19 @@ module _ (g : List ℕ) (f : Request → Bool) (st : State) (s : Sound st) (c : 
       R n = returned f (st .requests) (rowOf (st .rows) n)
 
       number : (n : ℕ) → Stands st n → R n .number ≡ n
-      number n t = returned-keeps (λ r. r .number) (unfold placedIn in λ p r. refl) f (st .requests) (rowOf (st .rows) n) ∙ row-number st s n t
+      number n t = returned-keeps (λ r. r .number) (unfold placedIn in λ p r. refl) f (st .requests) (rowOf (st .rows) n) ∙ row-number st n t
 
       at-row : (n : ℕ) → Stands st n → member n g ≡ false → same (isSystem (rowOf (st .rows) n .place)) (awaitsFetch (st .requests) (rowOf (st .rows) n .number)) ≡ true
           → same (isSystem (R n .place)) (awaitsFetch (remaining f g (st .requests)) (R n .number)) ≡ true
       at-row n t k e =
           ⊎-elim
           (λ h. let a : isSystem (R n .place) ≡ false = listed-clist n t h .no-system in
-            let b : awaitsFetch (remaining f g (st .requests)) (R n .number) ≡ false = ap (awaitsFetch (remaining f g (st .requests))) (number n t) ∙ awaits-returned f g n (st .requests) (s .older-fetched) h in
-            ap (λ x. same x (awaitsFetch (remaining f g (st .requests)) (R n .number))) a ∙ ap (same false) b ∙ (unfold same in refl))
+          let b : awaitsFetch (remaining f g (st .requests)) (R n .number) ≡ false = ap (awaitsFetch (remaining f g (st .requests))) (number n t) ∙ awaits-returned f g n (st .requests) (s .older-fetched) h in
+          ap (λ x. same x (awaitsFetch (remaining f g (st .requests)) (R n .number))) a ∙ ap (same false) b ∙ (unfold same in refl))
           (λ h. let a : R n ≡ rowOf (st .rows) n = unlisted-same n t h in
-            let b : awaitsFetch (remaining f g (st .requests)) (R n .number) ≡ awaitsFetch (st .requests) (rowOf (st .rows) n .number) =
-                  ap (awaitsFetch (remaining f g (st .requests))) (number n t) ∙ awaits-same f g n k (st .requests) h ∙ ap (awaitsFetch (st .requests)) (sym (row-number st s n t)) in
-            ap (same (isSystem (R n .place))) b ∙ ap (λ r. same (isSystem (r .place)) (awaitsFetch (st .requests) (rowOf (st .rows) n .number))) a ∙ e)
+          let b : awaitsFetch (remaining f g (st .requests)) (R n .number) ≡ awaitsFetch (st .requests) (rowOf (st .rows) n .number) =
+          ap (awaitsFetch (remaining f g (st .requests))) (number n t) ∙ awaits-same f g n k (st .requests) h ∙ ap (awaitsFetch (st .requests)) (sym (row-number st n t)) in
+          ap (same (isSystem (R n .place))) b ∙ ap (λ r. same (isSystem (r .place)) (awaitsFetch (st .requests) (rowOf (st .rows) n .number))) a ∙ e)
           (true-or-false (listedIn f (st .requests) n))
 
   pub processes-placed-kept : processesPlaced (settled g f st) ≡ true
@@ -223,4 +223,4 @@ module _ (g : List ℕ) (f : Request → Bool) (st : State) (s : Sound st) (c : 
 
       unmoved : (n : ℕ) → member n g ≡ false → isSubdirectory (rowOf (st .rows) n .kind) ≡ true → rowOf (settled g f st .rows) n ≡ rowOf (st .rows) n
       unmoved n k e =
-          row-after g f st n k ∙ no-end-same n (kind-stands st s isSubdirectory (unfold isSubdirectory subdirectory in refl) n e) k (no-end (rowOf (st .rows) n .kind) e)
+          row-after g f st n k ∙ no-end-same n (kind-stands st isSubdirectory (unfold isSubdirectory subdirectory in refl) n e) k (no-end (rowOf (st .rows) n .kind) e)

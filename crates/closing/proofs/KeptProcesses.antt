@@ -1,23 +1,23 @@
 -- The process records that closing leaves: the same processes are listed, and each is where it may be.
 use Prim.Native.Nat.{ℕ, zero, suc, _<_, _≤_}
-use mathlib.Core.Bool.{Bool, true, false, not, cond, _&&_, _||_}
+use mathlib.Core.Bool.{Bool, true, false, cond, _&&_}
 use mathlib.Core.List.{List, [], _∷_, map}
-use mathlib.Core.Path.{_≡_, refl, sym, ap, _∙_, subst}
-use mathlib.Core.Logic.{_⊎_, inl, inr, ⊎-elim}
-use lib.Dec.{leb, ltb, eqb}
+use mathlib.Core.Path.{_≡_, refl, sym, ap, _∙_}
+use mathlib.Core.Logic.{⊎-elim}
+use lib.Dec.{eqb}
 use lib.ListN.{length, getD, length-map, List·getD-map, List·getD-eq-default}
-use borrow.Author.Tests.{eqb-true, eq-eqb}
+use borrow.Author.Tests.{eqb-true}
 use native.Mathlib.Omega.{arith}
 use native.Mathlib.Decide.{decLt}
 use Rattle.rows.specs.declared.Row.{Row}
 use Rattle.rows.specs.declared.Request.{Request}
 use Rattle.rows.specs.declared.Process.{Process}
-use Rattle.rows.specs.Lists.{all, member, some, between}
+use Rattle.rows.specs.Lists.{member, some, between}
 use Rattle.rows.specs.Limits.{processes, nodes}
 use Rattle.rows.specs.Codes.{isSubdirectory, inClist}
 use Rattle.rows.specs.Tables.{State, noProcess, rowOf, processAt, isListed}
-use Rattle.rows.specs.Sound.{recordsFit, recordUnused, recordInRange, recordsInRange, processPlaced, placedFrom, processesPlaced}
-use Rattle.rows.proofs.Bools.{clash, and-l, and-r, and-i, or-cases, or-l, or-r, eqb-self, true-or-false}
+use Rattle.rows.specs.Sound.{recordsFit, recordUnused, recordInRange, recordsInRange, processPlaced, placedFrom}
+use Rattle.rows.proofs.Bools.{clash, and-l, and-r, and-i, or-cases, or-l, or-r, eqb-self}
 use Rattle.closing.specs.Closing.{homed, settled}
 use Rattle.closing.proofs.KeptLists.{all-map}
 
@@ -69,8 +69,8 @@ module _ (g : List ℕ) (f : Request → Bool) (st : State) where
           → recordInRange (cond b (record { prime = x .prime; active = x .prime; through = 0 }) x) ≡ true
       pick x h true q =
           unfold recordInRange in ⊎-elim (λ u. absurd (used x q u))
-            (λ w. let m : between 1 nodes (x .prime) ≡ true = and-l (between 1 nodes (x .prime)) (between 1 nodes (x .active)) w in or-r (recordUnused (record { prime = x .prime; active = x .prime; through = 0 })) _ (and-i _ _ m m))
-            (or-cases (recordUnused x) (between 1 nodes (x .prime) && between 1 nodes (x .active)) h)
+          (λ w. let m : between 1 nodes (x .prime) ≡ true = and-l (between 1 nodes (x .prime)) (between 1 nodes (x .active)) w in or-r (recordUnused (record { prime = x .prime; active = x .prime; through = 0 })) _ (and-i _ _ m m))
+          (or-cases (recordUnused x) (between 1 nodes (x .prime) && between 1 nodes (x .active)) h)
       pick x h false q = h
 
 -- ---- where each process is: the subdirectory rows that are left are as they were

@@ -1,25 +1,22 @@
 -- The clauses of soundness on requests hold of those that stay open.
-use Prim.Native.Nat.{ℕ, zero, suc, _<_, _≤_}
+use Prim.Native.Nat.{ℕ, suc, _≤_}
 use mathlib.Core.Bool.{Bool, true, false, not, cond, _&&_, _||_}
 use mathlib.Core.List.{List, [], _∷_, map}
-use mathlib.Core.Path.{_≡_, refl, sym, ap, _∙_, subst}
-use mathlib.Core.Logic.{_⊎_, inl, inr, ⊎-elim}
+use mathlib.Core.Path.{_≡_, refl, sym, ap, _∙_}
 use lib.Dec.{leb, ltb, eqb}
 use lib.ListN.{length, length-map}
-use borrow.Author.Tests.{ltb-true, lt-ltb, leb-true, le-leb}
+use borrow.Author.Tests.{leb-true, le-leb}
 use native.Mathlib.Omega.{arith}
-use Rattle.rows.specs.declared.Row.{Row}
 use Rattle.rows.specs.declared.Request.{Request}
-use Rattle.rows.specs.Lists.{any, all, each, filter, member, distinct, topOf, rises, some, nonzero}
+use Rattle.rows.specs.Lists.{any, all, each, filter, member, distinct, some, nonzero}
 use Rattle.rows.specs.Limits.{requestSlots, mostItems}
-use Rattle.rows.specs.Codes.{isClient, isEnd}
+use Rattle.rows.specs.Codes.{isClient}
 use Rattle.rows.specs.Tables.{State, rowOf, numbers, isListed, lists}
 use Rattle.rows.specs.Sound.{requestsRise, numbersApart, requestsFit, fetchedInRange, portStands, portsStand, requestersListed, itemsFew, itemsApart, mayBeListed, itemsLent, onePerPort, isFetched, olderFetchedBy, olderFetched}
-use Rattle.rows.proofs.Bools.{false-of, clash, and-l, and-r, and-i, not-t, or-cases, or-l, or-r, or-fl, or-map, all-mono, any-mono, all-at}
+use Rattle.rows.proofs.Bools.{clash, and-l, and-r, and-i, not-t, or-fl, or-map, any-mono, all-at}
 use Rattle.rows.proofs.Sound.{Sound}
-use Rattle.closing.specs.Closing.{placedIn, returned, listedIn, leaves, homed, withItems, trimmed, remaining, settled}
+use Rattle.closing.specs.Closing.{placedIn, listedIn, leaves, homed, withItems, trimmed, remaining, settled}
 use Rattle.closing.proofs.KeptLists.{distinct-filter, length-filter, all-of-member, trim, member-trim, any-trim, member-nonzero, distinct-trim}
-use Rattle.closing.proofs.KeptFacts.{Stands, IsOpen}
 use Rattle.closing.proofs.KeptMarks.{Closed}
 use Rattle.closing.proofs.KeptLookups.{trimmed-lists, remaining-keys, all-remaining, remaining-rises, left-keys, row-after, returned-keeps}
 use Rattle.closing.proofs.KeptProcesses.{listed-kept}
@@ -66,7 +63,8 @@ module _ (f : Request → Bool) (g : List ℕ) where
       let d : length (filter (λ v. not (f v)) vs) ≤ length vs = length-filter (λ v. not (f v)) vs in
       omega arith
 
-module _ (g : List ℕ) (f : Request → Bool) (st : State) (s : Sound st) (c : Closed g f st) where
+-- ---- the clauses
+module _ (g : List ℕ) (f : Request → Bool) (st : State) (s : Sound st) where
   pub requests-rise-kept : requestsRise (settled g f st) ≡ true
   unfolding requestsRise settled
   requests-rise-kept = remaining-rises f g (st .requests) (s .requests-rise)
@@ -115,14 +113,14 @@ module _ (g : List ℕ) (f : Request → Bool) (st : State) (s : Sound st) (c : 
   unfolding olderFetched settled
   older-fetched-kept = older-fetched-remain f g (st .requests) (s .older-fetched)
 
-  pub ports-stand-kept : portsStand (settled g f st) ≡ true
+  pub ports-stand-kept : Closed g f st → portsStand (settled g f st) ≡ true
   unfolding portsStand portStands settled trimmed withItems placedIn
-  ports-stand-kept = all-remaining f g (portStands (st .rows)) (portStands (settled g f st .rows)) at-request (st .requests) (s .ports-stand)
+  ports-stand-kept c = all-remaining f g (portStands (st .rows)) (portStands (settled g f st .rows)) at-request (st .requests) (s .ports-stand)
     where
       at-request : (vs : List Request) (v : Request) → f v ≡ false → portStands (st .rows) v ≡ true → portStands (settled g f st .rows) (trimmed f g vs v) ≡ true
       at-request vs v q e =
           let k : isClient (rowOf (settled g f st .rows) (v .port) .kind) ≡ isClient (rowOf (st .rows) (v .port) .kind) =
-                ap (λ r. isClient (r .kind)) (row-after g f st (v .port) (c .port-stays v q)) ∙ returned-keeps (λ r. isClient (r .kind)) (λ p r. refl) f (st .requests) (rowOf (st .rows) (v .port)) in
+          ap (λ r. isClient (r .kind)) (row-after g f st (v .port) (c .port-stays v q)) ∙ returned-keeps (λ r. isClient (r .kind)) (λ p r. refl) f (st .requests) (rowOf (st .rows) (v .port)) in
           ap (λ b. b && ltb (suc (v .port)) (v .number)) k ∙ e
 
   pub items-lent-kept : itemsLent (settled g f st) ≡ true

@@ -1,29 +1,28 @@
 -- The clauses of soundness on rows hold of those that closing leaves: a row that is left has its sources, its other end and its request left.
-use Prim.Native.Nat.{ℕ, zero, suc, _<_, _≤_, max}
-use mathlib.Core.Bool.{Bool, true, false, not, cond, _&&_, _||_}
-use mathlib.Core.List.{List, [], _∷_, map}
-use mathlib.Core.Path.{_≡_, refl, sym, ap, _∙_, subst}
+use Prim.Native.Nat.{ℕ, _<_, _≤_}
+use mathlib.Core.Bool.{Bool, true, false, not, _&&_, _||_}
+use mathlib.Core.List.{List, map}
+use mathlib.Core.Path.{_≡_, refl, sym, ap, _∙_}
 use mathlib.Core.Logic.{_⊎_, inl, inr, ⊎-elim}
-use lib.Dec.{leb, ltb, eqb}
+use lib.Dec.{ltb, eqb}
 use lib.ListN.{length, length-map}
 use borrow.Author.Tests.{eqb-false, ltb-true, lt-ltb, leb-true, le-leb}
 use native.Mathlib.Omega.{arith}
 use Rattle.rows.specs.declared.Row.{Row}
 use Rattle.rows.specs.declared.Request.{Request}
-use Rattle.rows.specs.declared.Process.{Process}
-use Rattle.rows.specs.Lists.{all, each, filter, member, topOf, rises, some}
-use Rattle.rows.specs.Limits.{rowSlots, greatestOperation}
-use Rattle.rows.specs.Codes.{isEnd, isOperation, isNode, isCopied}
-use Rattle.rows.specs.Tables.{State, noRequest, rowOf, requestOf, isListed, depthOver, lists}
+use Rattle.rows.specs.Lists.{filter, member, topOf, rises, some}
+use Rattle.rows.specs.Limits.{rowSlots}
+use Rattle.rows.specs.Codes.{isEnd, isOperation, isNode}
+use Rattle.rows.specs.Tables.{State, noRequest, rowOf, requestOf, depthOver, lists}
 use Rattle.rows.specs.Sound.{rowsRise, requestsRise, belowNext, rowsFit, objectInRange, objectsInRange, rightInRange, rightsInRange, isOpening, isRegistered, isHeld, isPortEnd, isLentCopy, sourceRight, sourcesRight, depthRight, depthsRight, copyMatches, copiesMatch, isPairedWith, otherEnd, endPaired, endsPaired, copyListed, copiesListed}
-use Rattle.rows.proofs.Bools.{false-of, clash, and-l, and-r, and-i, not-t, or-cases, or-l, or-r, or-map, pos-some, some-pos, true-or-false}
+use Rattle.rows.proofs.Bools.{false-of, clash, and-l, and-r, and-i, or-l, or-r, pos-some, true-or-false}
 use Rattle.rows.proofs.Keyed.{first-none, rises-range, olderOf}
 use Rattle.rows.proofs.Sound.{Sound}
 use Rattle.closing.specs.Closing.{placedIn, returned, listedIn, leaves, homed, withItems, trimmed, remaining, settled}
 use Rattle.closing.proofs.KeptLists.{any-older, top-member, length-filter}
-use Rattle.closing.proofs.KeptFacts.{Stands, IsOpen, row-number, end-right, source-below, via-below, copy-at, copy-listed, lists-open, request-number}
+use Rattle.closing.proofs.KeptFacts.{Stands, IsOpen, row-number, end-right, source-below, via-below, copy-at, copy-listed, lists-open}
 use Rattle.closing.proofs.KeptMarks.{Closed}
-use Rattle.closing.proofs.KeptLookups.{trimmed-lists, remaining-known, remaining-rises, request-after, returned-keeps, row-after, rows-rise-kept, left-stood, all-left, each-left, older-before, older-after}
+use Rattle.closing.proofs.KeptLookups.{trimmed-lists, remaining-known, remaining-rises, request-after, returned-keeps, row-after, left-stood, all-left, each-left, older-before, older-after}
 use Rattle.closing.proofs.KeptProcesses.{listed-kept}
 use Rattle.closing.proofs.KeptPlaces.{listed-end, no-end-same, node-kept}
 
@@ -33,7 +32,7 @@ module _ (g : List ℕ) (f : Request → Bool) (st : State) (s : Sound st) where
   unfolding objectsInRange objectInRange placedIn
   objects-in-range-kept =
       unfold settled in all-left g f st (objectInRange (st .processes)) (objectInRange (map (homed g) (st .processes))) (s .rows-rise)
-        (λ n t k e. returned-keeps (objectInRange (map (homed g) (st .processes))) (λ p r. refl) f (st .requests) (rowOf (st .rows) n) ∙ listed (rowOf (st .rows) n) e) (s .objects-in-range)
+      (λ n t k e. returned-keeps (objectInRange (map (homed g) (st .processes))) (λ p r. refl) f (st .requests) (rowOf (st .rows) n) ∙ listed (rowOf (st .rows) n) e) (s .objects-in-range)
     where
       listed : (r : Row) → objectInRange (st .processes) r ≡ true → objectInRange (map (homed g) (st .processes)) r ≡ true
       listed r e = rw (listed-kept g (st .processes) (r .object)) e
@@ -56,7 +55,7 @@ module _ (g : List ℕ) (f : Request → Bool) (st : State) (s : Sound st) where
   unfolding belowNext rowsRise requestsRise
   below-next-kept =
       unfold settled in and-i _ _ (lt-ltb (topOf (λ r. r .number) (settled g f st .rows)) (st .next) (rows (top-member (λ r. r .number) (settled g f st .rows))))
-        (lt-ltb (topOf (λ v. v .number) (remaining f g (st .requests))) (st .next) (requests (top-member (λ v. v .number) (remaining f g (st .requests)))))
+      (lt-ltb (topOf (λ v. v .number) (remaining f g (st .requests))) (st .next) (requests (top-member (λ v. v .number) (remaining f g (st .requests)))))
     where
       rows-below : topOf (λ r. r .number) (st .rows) < st .next
       rows-below = ltb-true _ _ (and-l (ltb (topOf (λ r. r .number) (st .rows)) (st .next)) (ltb (topOf (λ v. v .number) (st .requests)) (st .next)) (s .below-next))
@@ -120,7 +119,7 @@ module _ (g : List ℕ) (f : Request → Bool) (st : State) (s : Sound st) (c : 
   depths-right-kept =
       each-left g f st depthRight depthRight (s .rows-rise)
       (λ n t k e. returned-keeps (λ r. depthRight r (after n)) (λ p r. refl) f (st .requests) (rowOf (st .rows) n)
-        ∙ same-depth (rowOf (st .rows) n) (after n) (before n) (of-source (λ r. r .depth) (λ p r. refl) n t k) (of-via (λ r. r .depth) (λ p r. refl) n t k) ∙ e)
+      ∙ same-depth (rowOf (st .rows) n) (after n) (before n) (of-source (λ r. r .depth) (λ p r. refl) n t k) (of-via (λ r. r .depth) (λ p r. refl) n t k) ∙ e)
       (s .depths-right)
 
   pub copies-match-kept : copiesMatch (settled g f st) ≡ true
@@ -128,17 +127,17 @@ module _ (g : List ℕ) (f : Request → Bool) (st : State) (s : Sound st) (c : 
   copies-match-kept =
       each-left g f st copyMatches copyMatches (s .rows-rise)
       (λ n t k e. returned-keeps (λ r. copyMatches r (after n)) (λ p r. refl) f (st .requests) (rowOf (st .rows) n)
-        ∙ same-copy (rowOf (st .rows) n) (after n) (before n) (of-source (λ r. r .kind) (λ p r. refl) n t k) (of-source (λ r. r .object) (λ p r. refl) n t k) (of-source (λ r. r .operation) (λ p r. refl) n t k) (of-source (λ r. r .rights) (λ p r. refl) n t k) ∙ e)
+      ∙ same-copy (rowOf (st .rows) n) (after n) (before n) (of-source (λ r. r .kind) (λ p r. refl) n t k) (of-source (λ r. r .object) (λ p r. refl) n t k) (of-source (λ r. r .operation) (λ p r. refl) n t k) (of-source (λ r. r .rights) (λ p r. refl) n t k) ∙ e)
       (s .copies-match)
 
   -- ---- the request that a row bears
-  pub request-open : (n : ℕ) → Stands st n → some (rowOf (st .rows) n .request) ≡ true → IsOpen st (rowOf (st .rows) n .request)
-  request-open n t h = lists-open st s n (rowOf (st .rows) n .request) (copy-listed st s n t h)
+  request-open : (n : ℕ) → Stands st n → some (rowOf (st .rows) n .request) ≡ true → IsOpen st (rowOf (st .rows) n .request)
+  request-open n t h = lists-open st n (rowOf (st .rows) n .request) (copy-listed st s n t h)
 
   -- it is found, trimmed, if it is there
   request-left : (n : ℕ) → Stands st n → member n g ≡ false → some (rowOf (st .rows) n .request) ≡ true
       → requestOf (remaining f g (st .requests)) (rowOf (st .rows) n .request)
-        ≡ trimmed f g (olderOf (λ v. v .number) (st .requests) (rowOf (st .rows) n .request)) (requestOf (st .requests) (rowOf (st .rows) n .request))
+      ≡ trimmed f g (olderOf (λ v. v .number) (st .requests) (rowOf (st .rows) n .request)) (requestOf (st .requests) (rowOf (st .rows) n .request))
   unfolding requestsRise
   request-left n t k h = request-after f g (st .requests) (s .requests-rise) (rowOf (st .rows) n .request) (request-open n t h) (c .request-stays n t k h)
 
@@ -250,4 +249,4 @@ module _ (g : List ℕ) (f : Request → Bool) (st : State) (s : Sound st) (c : 
           pick false h e =
               and-i (ltb (r .request) (r .number)) (lists (r .number) (requestOf (remaining f g (st .requests)) (r .request)))
               (and-l (ltb (r .request) (r .number)) (lists (r .number) (requestOf (st .requests) (r .request))) e)
-              (ap (λ m. lists m (requestOf (remaining f g (st .requests)) (r .request))) (row-number st s n t) ∙ still-listed n t k (pos-some (r .request) (not-zero-positive (r .request) (eqb-false (r .request) 0 h))))
+              (ap (λ m. lists m (requestOf (remaining f g (st .requests)) (r .request))) (row-number st n t) ∙ still-listed n t k (pos-some (r .request) (not-zero-positive (r .request) (eqb-false (r .request) 0 h))))
