@@ -1,3 +1,21 @@
 -- Laws of closing. One line a file:
 -- closing in one pass is closing step by step, on sound tables
 pub mod Steps
+-- laws of keyed lists and of trimmed items that the files below use
+pub mod KeptLists
+-- what sound tables tell of one row and of one open request
+pub mod KeptFacts
+-- what is removed: the seeds, and each row with a removed source
+pub mod KeptMarks
+-- look-up in the rows and requests that closing leaves
+pub mod KeptLookups
+-- the process records that closing leaves
+pub mod KeptProcesses
+-- the clauses on the requests that stay open
+pub mod KeptRequests
+-- the clauses on places: where rows are, whom the system holds, where processes are
+pub mod KeptPlaces
+-- the clauses on rows: ranges, sources, depths, copies, pairs of ends
+pub mod KeptRows
+-- closing keeps the tables sound: of seeds, of a request, of a port, of a dropped row
+pub mod Kept

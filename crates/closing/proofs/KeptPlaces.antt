@@ -1,0 +1,226 @@
+-- Places: only ends are moved by a return, to a listed process; the system holds what awaits a fetch; each process is where it may be.
+use Prim.Native.Nat.{ℕ, _+_, _-_}
+use mathlib.Core.Bool.{Bool, true, false, not, cond, _&&_, _||_}
+use mathlib.Core.List.{List, [], _∷_, map}
+use mathlib.Core.Path.{_≡_, refl, sym, ap, _∙_, subst}
+use mathlib.Core.Logic.{⊎-elim}
+use lib.Dec.{leb, ltb, eqb}
+use lib.ListN.{length}
+use borrow.Author.Tests.{eqb-true, ne-eqb, le-leb, lt-leb}
+use native.Mathlib.Omega.{arith}
+use Rattle.rows.specs.declared.Row.{Row}
+use Rattle.rows.specs.declared.Request.{Request}
+use Rattle.rows.specs.declared.Process.{Process}
+use Rattle.rows.specs.Lists.{any, all, each, firstWith, member, some, between}
+use Rattle.rows.specs.Limits.{processes, nodes}
+use Rattle.rows.specs.Codes.{isEnd, isClient, isServer, isSubdirectory, clientEnd, serverEnd, subdirectory, isNode, isClist, isSystem, inClist, ownerOf, withSystem}
+use Rattle.rows.specs.Tables.{State, noRow, noRequest, rowOf, requestOf, isListed, lists}
+use Rattle.rows.specs.Sound.{requestsRise, recordsFit, placeInRange, placesInRange, mayBeListed, isFetched, olderFetchedBy, olderFetched, awaitsFetch, same, systemHolds, processesPlaced, requestersListed}
+use Rattle.rows.proofs.Bools.{false-of, clash, and-l, and-r, and-i, not-t, or-cases, or-r, or-fl, or-fr, or-map, all-mono, pos-some, true-or-false}
+use Rattle.rows.proofs.Keyed.{first-key, first-none, rises-range}
+use Rattle.rows.proofs.Sound.{Sound}
+use Rattle.closing.specs.Closing.{oldestListing, placedIn, returned, listedIn, leaves, homed, withItems, trimmed, remaining, settled}
+use Rattle.closing.proofs.KeptLists.{all-of-first, any-first, any-of-member}
+use Rattle.closing.proofs.KeptFacts.{Stands, IsOpen, row-number, end-at, kind-stands, request-number, listed-right}
+use Rattle.closing.proofs.KeptMarks.{Closed}
+use Rattle.closing.proofs.KeptLookups.{trimmed-lists, all-remaining, returned-keeps, returned-same, oldest-all, returned-place, nothing-returned, row-after, all-left}
+use Rattle.closing.proofs.KeptProcesses.{listed-kept, listed-range, placed-kept}
+
+-- ---- whose newest request is not fetched
+module _ (f : Request → Bool) (g : List ℕ) (n : ℕ) where
+  -- what no closing request lists is listed as before
+  awaits-same : member n g ≡ false → (vs : List Request) → listedIn f vs n ≡ false → awaitsFetch (remaining f g vs) n ≡ awaitsFetch vs n
+  unfolding remaining awaitsFetch listedIn any isFetched leaves
+  awaits-same k [] h = refl
+  awaits-same k (v ∷ vs) h = pick (awaits-same k vs (or-fr (f v && lists n v) (listedIn f vs n) h)) (f v) refl (or-fl (f v && lists n v) (listedIn f vs n) h)
+    where
+      listed : lists n (trimmed f g vs v) ≡ lists n v
+      listed = trimmed-lists f g vs v n ∙ ap (λ b. lists n v && not b) stays ∙ right (lists n v)
+        where
+          right : (b : Bool) → b && true ≡ b
+          right true = refl
+          right false = refl
+
+          stays : leaves f g vs n ≡ false
+          stays = ap (λ b. b || listedIn f vs n) k ∙ or-fr (f v && lists n v) (listedIn f vs n) h
+
+      pick : awaitsFetch (remaining f g vs) n ≡ awaitsFetch vs n → (b : Bool) → f v ≡ b → b && lists n v ≡ false
+          → awaitsFetch (cond b (remaining f g vs) (trimmed f g vs v ∷ remaining f g vs)) n ≡ cond (lists n v) (not (eqb (v .fetched) 1)) (awaitsFetch vs n)
+      pick ih true q u = rw u ih
+      pick ih false q u = rw (listed, ih) (unfold trimmed withItems in refl)
+
+  awaits-none : (vs : List Request) → all (λ w. isFetched w || not (lists n w)) vs ≡ true → awaitsFetch vs n ≡ false
+  unfolding awaitsFetch all
+  awaits-none [] a = refl
+  awaits-none (v ∷ vs) a = pick (awaits-none vs (and-r (isFetched v || not (lists n v)) (all (λ w. isFetched w || not (lists n w)) vs) a)) (lists n v) (isFetched v) (and-l (isFetched v || not (lists n v)) (all (λ w. isFetched w || not (lists n w)) vs) a)
+    where
+      pick : awaitsFetch vs n ≡ false → (b c : Bool) → c || not b ≡ true → cond b (not c) (awaitsFetch vs n) ≡ false
+      pick ih true true e = refl
+      pick ih true false e = clash e refl
+      pick ih false c e = ih
+
+  skips : (v : Request) (vs : List Request) → lists n v ≡ false → awaitsFetch (v ∷ vs) n ≡ awaitsFetch vs n
+  unfolding awaitsFetch
+  skips v vs e = rw e refl
+
+  -- what a closing request lists is left to fetched ones
+  awaits-returned : (vs : List Request) → each olderFetchedBy vs ≡ true → listedIn f vs n ≡ true → awaitsFetch (remaining f g vs) n ≡ false
+  unfolding remaining each listedIn any leaves
+  awaits-returned [] o h = clash h refl
+  awaits-returned (v ∷ vs) o h = pick (awaits-returned vs (and-r (olderFetchedBy v vs) (each olderFetchedBy vs) o)) (f v) (listedIn f vs n) refl h
+    where
+      none : (a : Bool) → a && false ≡ false
+      none true = refl
+      none false = refl
+
+      fewer : (ws : List Request) (w : Request) → f w ≡ false → isFetched w || not (lists n w) ≡ true → isFetched (trimmed f g ws w) || not (lists n (trimmed f g ws w)) ≡ true
+      fewer ws w q e =
+          let fetched : isFetched (trimmed f g ws w) ≡ isFetched w = unfold isFetched trimmed withItems in refl in
+          rw (fetched, trimmed-lists f g ws w n) (or-map (isFetched w) (not (lists n w)) (not (lists n w && not (leaves f g ws n))) (weaker (lists n w) (not (leaves f g ws n))) e)
+        where
+          weaker : (a b : Bool) → not a ≡ true → not (a && b) ≡ true
+          weaker true b e = clash e refl
+          weaker false b e = refl
+
+      others-fetched : lists n v ≡ true → all (λ w. isFetched w || not (lists n w)) vs ≡ true
+      others-fetched l = all-mono (λ w. isFetched w || not (any (λ e. lists e w) (v .items))) (λ w. isFetched w || not (lists n w)) (λ w e. or-map (isFetched w) _ _ (contra w) e) vs
+          (unfold olderFetchedBy in and-l (olderFetchedBy v vs) (each olderFetchedBy vs) o)
+        where
+          contra : (w : Request) → not (any (λ e. lists e w) (v .items)) ≡ true → not (lists n w) ≡ true
+          contra w e = ap not (false-of (lists n w) (λ m. clash (any-of-member (λ e. lists e w) (v .items) n (unfold lists in and-r (some n) (member n (v .items)) l) m) (not-t _ e)))
+
+      pick : (listedIn f vs n ≡ true → awaitsFetch (remaining f g vs) n ≡ false) → (a b : Bool) → listedIn f vs n ≡ b → (a && lists n v) || b ≡ true
+          → awaitsFetch (cond a (remaining f g vs) (trimmed f g vs v ∷ remaining f g vs)) n ≡ false
+      pick ih true true q h = ih q
+      pick ih true false q h = awaits-none (remaining f g vs) (all-remaining f g (λ w. isFetched w || not (lists n w)) (λ w. isFetched w || not (lists n w)) fewer vs (others-fetched (⊎-elim (λ l. l) (λ z. clash z refl) (or-cases (lists n v) false h))))
+      pick ih false true q h = skips (trimmed f g vs v) (remaining f g vs) (trimmed-lists f g vs v n ∙ ap (λ b. lists n v && not b) (or-r (member n g) (listedIn f vs n) q) ∙ none (lists n v)) ∙ ih q
+      pick ih false false q h = clash h refl
+
+-- ---- the c-list of a listed process
+-- it is neither a node nor the system, and its owner is the process
+record Clist (ps : List Process) (place : ℕ) : Type 0 where
+  pub no-node : isNode place ≡ false
+  pub no-system : isSystem place ≡ false
+  pub owned : isClist place && isListed ps (ownerOf place) ≡ true
+
+clist : (ps : List Process) → length ps ≡ 64 → (p : ℕ) → isListed ps p ≡ true → Clist ps (inClist p)
+unfolding isNode isSystem isClist inClist ownerOf withSystem between processes nodes
+clist ps l p h =
+    let (lo, hi) = listed-range ps p h in
+    let owner : 100 + p - 100 ≡ p = omega arith in
+    record {
+      no-node = false-of _ (λ t. clash (and-r (leb 1 (100 + p)) (leb (100 + p) 32) t) (lt-leb (100 + p) 32 (omega arith)));
+      no-system = ne-eqb (100 + p) 200 (λ z. omega arith);
+      owned = and-i _ _ (and-i _ _ (le-leb 101 (100 + p) (omega arith)) (le-leb (100 + p) 164 (omega arith))) (ap (isListed ps) owner ∙ h);
+    }
+
+module _ (g : List ℕ) (f : Request → Bool) (st : State) (s : Sound st) (c : Closed g f st) where
+  requests-positive : all (λ v. some (v .number)) (st .requests) ≡ true
+  unfolding requestsRise
+  requests-positive = all-of-first (λ v. v .number) noRequest (λ v. some (v .number)) (st .requests) (s .requests-rise) at-request
+    where
+      at-request : (q : ℕ) → IsOpen st q → some (firstWith (λ v. v .number) noRequest (st .requests) q .number) ≡ true
+      at-request q t = ap some (first-key (λ v. v .number) noRequest (st .requests) q t) ∙ pos-some q (rises-range (λ v. v .number) (st .requests) (s .requests-rise) q t .0)
+
+  -- ---- only ends are returned
+  pub listed-end : (n : ℕ) → Stands st n → member n g ≡ false → listedIn f (st .requests) n ≡ true → isEnd (rowOf (st .rows) n .kind) ≡ true
+  unfolding requestsRise listedIn mayBeListed
+  listed-end n t k h =
+      let (q, o, p) = any-first (λ v. v .number) noRequest (λ w. f w && lists n w) (st .requests) (s .requests-rise) h in
+      pick q o (unfold requestOf in p)
+    where
+      r : Row
+      r = rowOf (st .rows) n
+
+      pick : (q : ℕ) → IsOpen st q → f (requestOf (st .requests) q) && lists n (requestOf (st .requests) q) ≡ true → isEnd (r .kind) ≡ true
+      pick q o p =
+          let v : Request = requestOf (st .requests) q in
+          let closes : f v ≡ true = and-l (f v) (lists n v) p in
+          let right : mayBeListed v r ≡ true = listed-right st s q o n (and-r (f v) (lists n v) p) in
+          ⊎-elim (λ e. and-l (isEnd (r .kind)) (ltb (r .number) (v .number)) e)
+          (λ e. let sm : some (r .request) ≡ true = and-l (some (r .request)) (eqb (r .request) (v .number)) e in
+          let z : r .request ≡ q = eqb-true _ _ (and-r (some (r .request)) (eqb (r .request) (v .number)) e) ∙ request-number st q o in
+          clash (ap (λ m. f (requestOf (st .requests) m)) z ∙ closes) (c .request-stays n t k sm))
+          (or-cases (isEnd (r .kind) && ltb (r .number) (v .number)) (some (r .request) && eqb (r .request) (v .number)) right)
+
+  -- what no closing request lists is as it was
+  unlisted-same : (n : ℕ) → Stands st n → listedIn f (st .requests) n ≡ false → returned f (st .requests) (rowOf (st .rows) n) ≡ rowOf (st .rows) n
+  unlisted-same n t h = returned-same f (st .requests) (rowOf (st .rows) n) (ap (listedIn f (st .requests)) (row-number st n t) ∙ h)
+
+  pub no-end-same : (n : ℕ) → Stands st n → member n g ≡ false → isEnd (rowOf (st .rows) n .kind) ≡ false → returned f (st .requests) (rowOf (st .rows) n) ≡ rowOf (st .rows) n
+  no-end-same n t k e = unlisted-same n t (false-of _ (λ h. clash (listed-end n t k h) e))
+
+  -- what one lists is in the c-list of a listed process
+  listed-clist : (n : ℕ) → Stands st n → listedIn f (st .requests) n ≡ true → Clist (st .processes) (returned f (st .requests) (rowOf (st .rows) n) .place)
+  unfolding requestersListed recordsFit processes
+  listed-clist n t h =
+      let l : listedIn f (st .requests) (rowOf (st .rows) n .number) ≡ true = ap (listedIn f (st .requests)) (row-number st n t) ∙ h in
+      let asker : isListed (st .processes) (oldestListing f (rowOf (st .rows) n .number) (st .requests) .asker) ≡ true =
+      oldest-all f (rowOf (st .rows) n .number) (λ v. isListed (st .processes) (v .asker)) (st .requests) requests-positive (s .requesters-listed) l in
+      subst (Clist (st .processes)) (sym (returned-place f (st .requests) (rowOf (st .rows) n) requests-positive l))
+      (clist (st .processes) (eqb-true (length (st .processes)) 64 (s .records-fit)) (oldestListing f (rowOf (st .rows) n .number) (st .requests) .asker) asker)
+
+  -- a row is in a node if it was
+  pub node-kept : (n : ℕ) → member n g ≡ false → isNode (returned f (st .requests) (rowOf (st .rows) n) .place) ≡ isNode (rowOf (st .rows) n .place)
+  unfolding rowOf
+  node-kept n k = ⊎-elim stands (λ e. ap (λ r. isNode (r .place)) (absent e)) (true-or-false (member n (map (λ r. r .number) (st .rows))))
+    where
+      absent : member n (map (λ r. r .number) (st .rows)) ≡ false → returned f (st .requests) (rowOf (st .rows) n) ≡ rowOf (st .rows) n
+      absent e =
+          let z : rowOf (st .rows) n ≡ noRow = first-none (λ r. r .number) noRow (st .rows) n e in
+          ap (returned f (st .requests)) z ∙ nothing-returned f (st .requests) ∙ sym z
+
+      stands : Stands st n → isNode (returned f (st .requests) (rowOf (st .rows) n) .place) ≡ isNode (rowOf (st .rows) n .place)
+      stands t =
+          ⊎-elim (λ h. listed-clist n t h .no-node ∙ sym (end-at st s n t (listed-end n t k h) .no-node)) (λ h. ap (λ r. isNode (r .place)) (unlisted-same n t h))
+          (true-or-false (listedIn f (st .requests) n))
+
+  -- ---- the clauses
+  pub places-in-range-kept : placesInRange (settled g f st) ≡ true
+  unfolding placesInRange
+  places-in-range-kept = unfold settled in all-left g f st (placeInRange (st .processes)) (placeInRange (map (homed g) (st .processes))) (s .rows-rise) at-row (s .places-in-range)
+    where
+      in-range : (r : Row) → placeInRange (st .processes) r ≡ true → placeInRange (map (homed g) (st .processes)) r ≡ true
+      in-range r e = unfold placeInRange in rw (listed-kept g (st .processes) (ownerOf (r .place))) e
+
+      at-row : (n : ℕ) → Stands st n → member n g ≡ false → placeInRange (st .processes) (rowOf (st .rows) n) ≡ true → placeInRange (map (homed g) (st .processes)) (returned f (st .requests) (rowOf (st .rows) n)) ≡ true
+      at-row n t k e =
+          ⊎-elim (λ h. in-range (returned f (st .requests) (rowOf (st .rows) n)) (moved n (listed-clist n t h))) (λ h. in-range _ (ap (placeInRange (st .processes)) (unlisted-same n t h) ∙ e)) (true-or-false (listedIn f (st .requests) n))
+        where
+          moved : (n : ℕ) → Clist (st .processes) (returned f (st .requests) (rowOf (st .rows) n) .place) → placeInRange (st .processes) (returned f (st .requests) (rowOf (st .rows) n)) ≡ true
+          moved n x = unfold placeInRange in rw (x .no-node, x .owned) refl
+
+  pub system-holds-kept : systemHolds (settled g f st) ≡ true
+  unfolding systemHolds olderFetched
+  system-holds-kept =
+      unfold settled in all-left g f st (λ r. same (isSystem (r .place)) (awaitsFetch (st .requests) (r .number))) (λ r. same (isSystem (r .place)) (awaitsFetch (remaining f g (st .requests)) (r .number))) (s .rows-rise) at-row (s .system-holds)
+    where
+      R : ℕ → Row
+      R n = returned f (st .requests) (rowOf (st .rows) n)
+
+      number : (n : ℕ) → Stands st n → R n .number ≡ n
+      number n t = returned-keeps (λ r. r .number) (unfold placedIn in λ p r. refl) f (st .requests) (rowOf (st .rows) n) ∙ row-number st n t
+
+      at-row : (n : ℕ) → Stands st n → member n g ≡ false → same (isSystem (rowOf (st .rows) n .place)) (awaitsFetch (st .requests) (rowOf (st .rows) n .number)) ≡ true
+          → same (isSystem (R n .place)) (awaitsFetch (remaining f g (st .requests)) (R n .number)) ≡ true
+      at-row n t k e =
+          ⊎-elim
+          (λ h. let a : isSystem (R n .place) ≡ false = listed-clist n t h .no-system in
+          let b : awaitsFetch (remaining f g (st .requests)) (R n .number) ≡ false = ap (awaitsFetch (remaining f g (st .requests))) (number n t) ∙ awaits-returned f g n (st .requests) (s .older-fetched) h in
+          ap (λ x. same x (awaitsFetch (remaining f g (st .requests)) (R n .number))) a ∙ ap (same false) b ∙ (unfold same in refl))
+          (λ h. let a : R n ≡ rowOf (st .rows) n = unlisted-same n t h in
+          let b : awaitsFetch (remaining f g (st .requests)) (R n .number) ≡ awaitsFetch (st .requests) (rowOf (st .rows) n .number) =
+          ap (awaitsFetch (remaining f g (st .requests))) (number n t) ∙ awaits-same f g n k (st .requests) h ∙ ap (awaitsFetch (st .requests)) (sym (row-number st n t)) in
+          ap (same (isSystem (R n .place))) b ∙ ap (λ r. same (isSystem (r .place)) (awaitsFetch (st .requests) (rowOf (st .rows) n .number))) a ∙ e)
+          (true-or-false (listedIn f (st .requests) n))
+
+  pub processes-placed-kept : processesPlaced (settled g f st) ≡ true
+  unfolding processesPlaced
+  processes-placed-kept = unfold settled in placed-kept g (st .rows) (settled g f st .rows) unmoved 1 (st .processes) (s .processes-placed)
+    where
+      no-end : (k : ℕ) → isSubdirectory k ≡ true → isEnd k ≡ false
+      no-end k e = let z : k ≡ 2 = eqb-true k 2 (unfold isSubdirectory subdirectory in e) in ap isEnd z ∙ (unfold isEnd isClient isServer clientEnd serverEnd in refl)
+
+      unmoved : (n : ℕ) → member n g ≡ false → isSubdirectory (rowOf (st .rows) n .kind) ≡ true → rowOf (settled g f st .rows) n ≡ rowOf (st .rows) n
+      unmoved n k e =
+          row-after g f st n k ∙ no-end-same n (kind-stands st isSubdirectory (unfold isSubdirectory subdirectory in refl) n e) k (no-end (rowOf (st .rows) n .kind) e)
