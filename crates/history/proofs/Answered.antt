@@ -11,6 +11,8 @@ use Rattle.rows.specs.Limits.{greatestNumber}
 use Rattle.calls.specs.declared.Answer.{Answer}
 use Rattle.calls.specs.declared.Call.{Call}
 use Rattle.calls.specs.Answers.{refusalOf, valuesOf}
+use Rattle.calls.specs.Rules.{Out}
+use Rattle.rows.specs.Tables.{State}
 use Rattle.text.specs.declared.Reading.the-variants.{Asks, Crowded, Refused as BadLine}
 use Rattle.text.specs.CallLines.{readingOf}
 use Rattle.text.specs.Answers.{okText, noText, printed}
@@ -47,10 +49,13 @@ unfolding accepts answerRead greatestNumber
 read-ok0 = read-ok 0 [] (omega arith) .good
 
 -- ---- what is noted of a line and its printed answer
-pub note-asked : (h : History) (line : List ℕ) (c : Call) (a : Answer) → readingOf line ≡ Asks c → Spoken a → noteLine h line (printed a) ≡ noteAnswer h c a
+pub note-asked : (h : History) (line : List ℕ) (c : Call) (st : State) (o : Out) → readingOf line ≡ Asks c → Spoken st o → noteLine h line (printed (o .answer)) ≡ noteAnswer h c (o .answer)
 unfolding noteLine noteAnswer noteReading accepts
-note-asked h line c a e s = pick (eqb (refusalOf a) 0) refl
+note-asked h line c st o e s = pick (eqb (refusalOf (o .answer)) 0) refl
   where
+    a : Answer
+    a = o .answer
+
     pick : (b : Bool) → eqb (refusalOf a) 0 ≡ b
         → cond (answerRead (printed a) .good) (noteReading (readingOf line) (answerRead (printed a) .c) h) h ≡ cond b (settled (noteCall c (firstValue (valuesOf a)) h)) h
     pick true q =

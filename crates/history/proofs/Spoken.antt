@@ -1,4 +1,4 @@
--- Every answer to a call line on sound tables can be read back: an accepted one has a value, of at most 1,000,000, and a refusal has a number.
+-- Every answer to a call line on sound tables: an accepted one has a value of at most 1,000,000; a refusal has a number, which is not 1, and leaves the state.
 use Prim.Native.Nat.{ℕ, suc, _+_, _<_, _≤_}
 use native.Mathlib.Omega.{arith}
 use mathlib.Core.Bool.{Bool, true, false, not, cond}
@@ -32,93 +32,105 @@ use Rattle.text.proofs.OpeningForms.{between-range}
 use Rattle.text.proofs.Readings.{reading-refused}
 use Rattle.history.proofs.Inv.{firstValue}
 
-pub record Spoken (a : Answer) : Type 0 where
-  pub has-value : refusalOf a ≡ 0 → 0 < length (valuesOf a)
-  pub in-range : refusalOf a ≡ 0 → firstValue (valuesOf a) ≤ greatestNumber
+pub record Spoken (st : State) (o : Out) : Type 0 where
+  pub has-value : refusalOf (o .answer) ≡ 0 → 0 < length (valuesOf (o .answer))
+  pub in-range : refusalOf (o .answer) ≡ 0 → firstValue (valuesOf (o .answer)) ≤ greatestNumber
+  pub not-one : refusalOf (o .answer) ≡ 1 → ⊥
+  pub untouched : 0 < refusalOf (o .answer) → o .after ≡ st
 
 -- ---- each answer
-refused-spoken : (k : ℕ) → 0 < k → Spoken (Refused k)
+refused-spoken : (st : State) (k : ℕ) → 1 < k → Spoken st (record { answer = Refused k; after = st })
 unfolding refusalOf
-refused-spoken k h = record { has-value = λ e. let z : k ≡ 0 = e in absurd (omega arith); in-range = λ e. let z : k ≡ 0 = e in absurd (omega arith) }
+refused-spoken st k h =
+    record {
+      has-value = λ e. let z : k ≡ 0 = e in absurd (omega arith);
+      in-range = λ e. let z : k ≡ 0 = e in absurd (omega arith);
+      not-one = λ e. let z : k ≡ 1 = e in omega arith;
+      untouched = λ e. refl;
+    }
 
-done-spoken : Spoken Done
-unfolding valuesOf firstValue
-done-spoken = record { has-value = λ e. omega arith; in-range = λ e. omega arith }
+-- an accepted answer with a value in range
+accepted-spoken : (st : State) (o : Out) → refusalOf (o .answer) ≡ 0 → 0 < length (valuesOf (o .answer)) → firstValue (valuesOf (o .answer)) ≤ greatestNumber → Spoken st o
+accepted-spoken st o e l h = record { has-value = λ _. l; in-range = λ _. h; not-one = λ z. omega arith; untouched = λ z. absurd (omega arith) }
 
-made-spoken : (n : ℕ) → n ≤ greatestNumber → Spoken (Made n)
-unfolding valuesOf firstValue
-made-spoken n h = record { has-value = λ e. omega arith; in-range = λ e. h }
+done-spoken : (st a : State) → Spoken st (done a)
+unfolding done refusalOf valuesOf firstValue
+done-spoken st a = accepted-spoken st _ refl (omega arith) (omega arith)
 
-fetched-spoken : (v a b c d : ℕ) → v ≤ greatestNumber → Spoken (Fetched v a b c d)
-unfolding valuesOf firstValue
-fetched-spoken v a b c d h = record { has-value = λ e. omega arith; in-range = λ e. h }
+made-spoken : (st : State) (n : ℕ) (a : State) → n ≤ greatestNumber → Spoken st (made n a)
+unfolding made refusalOf valuesOf firstValue
+made-spoken st n a h = accepted-spoken st _ refl (omega arith) h
 
-told-spoken : (t : Bool) → Spoken (Told t)
-unfolding valuesOf firstValue greatestNumber
-told-spoken true = record { has-value = λ e. omega arith; in-range = λ e. omega arith }
-told-spoken false = record { has-value = λ e. omega arith; in-range = λ e. omega arith }
+fetched-spoken : (st : State) (v a b c d : ℕ) (after : State) → v ≤ greatestNumber → Spoken st (record { answer = Fetched v a b c d; after = after })
+unfolding refusalOf valuesOf firstValue
+fetched-spoken st v a b c d after h = accepted-spoken st _ refl (omega arith) h
+
+told-spoken : (st : State) (t : Bool) (after : State) → Spoken st (record { answer = Told t; after = after })
+unfolding refusalOf valuesOf firstValue greatestNumber
+told-spoken st true after = accepted-spoken st _ refl (omega arith) (omega arith)
+told-spoken st false after = accepted-spoken st _ refl (omega arith) (omega arith)
 
 -- ---- refusals in order
-unless : (st : State) (test : Bool) (k : ℕ) (other : Out) → 0 < k → (test ≡ false → Spoken (other .answer)) → Spoken (refusedIf st test k other .answer)
+unless : (st : State) (test : Bool) (k : ℕ) (other : Out) → 1 < k → (test ≡ false → Spoken st other) → Spoken st (refusedIf st test k other)
 unfolding refusedIf
-unless st true k other h s = refused-spoken k h
+unless st true k other h s = refused-spoken st k h
 unless st false k other h s = s refl
 
 -- a number is left, so the next one is in range
-next-spoken : (st : State) (k : ℕ) (after : State) → 0 < k → numbersSpent st k ≡ false → Spoken (made (st .next) after .answer)
-unfolding made numbersSpent
-next-spoken st k after h e = let l = ltb-false (suc greatestNumber) (st .next + k) e in made-spoken (st .next) (omega arith)
+next-spoken : (st : State) (k : ℕ) (after : State) → 0 < k → numbersSpent st k ≡ false → Spoken st (made (st .next) after)
+unfolding numbersSpent
+next-spoken st k after h e = let l = ltb-false (suc greatestNumber) (st .next + k) e in made-spoken st (st .next) after (omega arith)
 
 -- ---- the calls
-go-spoken : (st : State) (p e : ℕ) → Spoken (doGo st p e .answer)
-unfolding doGo done
-go-spoken st p e = pick (eqb e 0) _ (unless st _ 7 _ (omega arith) λ _. unless st _ 8 _ (omega arith) λ _. done-spoken)
+go-spoken : (st : State) (p e : ℕ) → Spoken st (doGo st p e)
+unfolding doGo
+go-spoken st p e = pick (eqb e 0) _ (unless st _ 7 _ (omega arith) λ _. unless st _ 8 _ (omega arith) λ _. done-spoken st _)
   where
-    pick : (b : Bool) (o : Out) → Spoken (o .answer) → Spoken (cond b (done (goHome st p)) o .answer)
-    pick true o s = done-spoken
+    pick : (b : Bool) (o : Out) → Spoken st o → Spoken st (cond b (done (goHome st p)) o)
+    pick true o s = done-spoken st _
     pick false o s = s
 
-hold-spoken : (st : State) (p s : ℕ) → Spoken (doHold st p s .answer)
+hold-spoken : (st : State) (p s : ℕ) → Spoken st (doHold st p s)
 unfolding doHold
 hold-spoken st p s = unless st _ 7 _ (omega arith) λ _. unless st _ 9 _ (omega arith) λ _. unless st _ 12 _ (omega arith) λ _. unless st _ 15 _ (omega arith) λ _. unless st _ 16 _ (omega arith) λ _. unless st (numbersSpent st 1) 18 _ (omega arith) λ e. next-spoken st 1 _ (omega arith) e
 
-register-spoken : (st : State) (p s : ℕ) → Spoken (doRegister st p s .answer)
+register-spoken : (st : State) (p s : ℕ) → Spoken st (doRegister st p s)
 unfolding doRegister
 register-spoken st p s = unless st _ 7 _ (omega arith) λ _. unless st _ 8 _ (omega arith) λ _. unless st _ 9 _ (omega arith) λ _. unless st _ 12 _ (omega arith) λ _. unless st _ 15 _ (omega arith) λ _. unless st _ 16 _ (omega arith) λ _. unless st (numbersSpent st 1) 18 _ (omega arith) λ e. next-spoken st 1 _ (omega arith) e
 
-drop-spoken : (st : State) (p e : ℕ) → Spoken (doDrop st p e .answer)
-unfolding doDrop done
-drop-spoken st p e = unless st _ 7 _ (omega arith) λ _. unless st _ 8 _ (omega arith) λ _. unless st _ 13 _ (omega arith) λ _. done-spoken
+drop-spoken : (st : State) (p e : ℕ) → Spoken st (doDrop st p e)
+unfolding doDrop
+drop-spoken st p e = unless st _ 7 _ (omega arith) λ _. unless st _ 8 _ (omega arith) λ _. unless st _ 13 _ (omega arith) λ _. done-spoken st _
 
-port-spoken : (st : State) (p s : ℕ) → Spoken (doPort st p s .answer)
+port-spoken : (st : State) (p s : ℕ) → Spoken st (doPort st p s)
 unfolding doPort
 port-spoken st p s = unless st _ 7 _ (omega arith) λ _. unless st _ 8 _ (omega arith) λ _. unless st _ 15 _ (omega arith) λ _. unless st _ 16 _ (omega arith) λ _. unless st (numbersSpent st 2) 18 _ (omega arith) λ e. next-spoken st 2 _ (omega arith) e
 
-close-spoken : (st : State) (p e : ℕ) → Spoken (doClose st p e .answer)
-unfolding doClose done
-close-spoken st p e = unless st _ 7 _ (omega arith) λ _. unless st _ 8 _ (omega arith) λ _. unless st _ 12 _ (omega arith) λ _. done-spoken
+close-spoken : (st : State) (p e : ℕ) → Spoken st (doClose st p e)
+unfolding doClose
+close-spoken st p e = unless st _ 7 _ (omega arith) λ _. unless st _ 8 _ (omega arith) λ _. unless st _ 12 _ (omega arith) λ _. done-spoken st _
 
-ask-spoken : (st : State) (p c : ℕ) (is : List Item) → Spoken (doAsk st p c is .answer)
+ask-spoken : (st : State) (p c : ℕ) (is : List Item) → Spoken st (doAsk st p c is)
 unfolding doAsk
 ask-spoken st p c is =
     unless st _ 7 _ (omega arith) λ _. unless st _ 8 _ (omega arith) λ _. unless st _ 9 _ (omega arith) λ _. unless st _ 10 _ (omega arith) λ _. unless st _ 15 _ (omega arith) λ _. unless st _ 16 _ (omega arith) λ _. unless st _ 17 _ (omega arith) λ _.
     unless st (numbersSpent st (suc (length (copies st is)))) 18 _ (omega arith) λ e. next-spoken st (suc (length (copies st is))) _ (omega arith) e
 
-reply-spoken : (st : State) (p e : ℕ) → Spoken (doReply st p e .answer)
-unfolding doReply done
-reply-spoken st p e = unless st _ 7 _ (omega arith) λ _. unless st _ 8 _ (omega arith) λ _. unless st _ 10 _ (omega arith) λ _. unless st _ 11 _ (omega arith) λ _. unless st _ 14 _ (omega arith) λ _. done-spoken
+reply-spoken : (st : State) (p e : ℕ) → Spoken st (doReply st p e)
+unfolding doReply
+reply-spoken st p e = unless st _ 7 _ (omega arith) λ _. unless st _ 8 _ (omega arith) λ _. unless st _ 10 _ (omega arith) λ _. unless st _ 11 _ (omega arith) λ _. unless st _ 14 _ (omega arith) λ _. done-spoken st _
 
-refuse-spoken : (st : State) (p e : ℕ) → Spoken (doRefuse st p e .answer)
-unfolding doRefuse done
-refuse-spoken st p e = unless st _ 7 _ (omega arith) λ _. unless st _ 8 _ (omega arith) λ _. unless st _ 11 _ (omega arith) λ _. done-spoken
+refuse-spoken : (st : State) (p e : ℕ) → Spoken st (doRefuse st p e)
+unfolding doRefuse
+refuse-spoken st p e = unless st _ 7 _ (omega arith) λ _. unless st _ 8 _ (omega arith) λ _. unless st _ 11 _ (omega arith) λ _. done-spoken st _
 
-revoke-spoken : (st : State) (p e : ℕ) → Spoken (doRevoke st p e .answer)
-unfolding doRevoke done
-revoke-spoken st p e = unless st _ 7 _ (omega arith) λ _. done-spoken
+revoke-spoken : (st : State) (p e : ℕ) → Spoken st (doRevoke st p e)
+unfolding doRevoke
+revoke-spoken st p e = unless st _ 7 _ (omega arith) λ _. done-spoken st _
 
-comes-spoken : (st : State) (e q : ℕ) → Spoken (doComes st e q .answer)
+comes-spoken : (st : State) (e q : ℕ) → Spoken st (doComes st e q)
 unfolding doComes
-comes-spoken st e q = unless st _ 7 _ (omega arith) λ _. told-spoken _
+comes-spoken st e q = unless st _ 7 _ (omega arith) λ _. told-spoken st _ _
 
 -- ---- fetch: the request's number is one of the tables
 rises-all : (m : ℕ) (vs : List Request) → rises (λ v. v .number) vs ≡ true → topOf (λ v. v .number) vs ≤ m → all (λ v. leb (v .number) m) vs ≡ true
@@ -145,14 +157,14 @@ open-ranged m (v ∷ vs) c e = pick (open-ranged m vs c (and-r (leb (v .number) 
     pick ih true = and-l (leb (v .number) m) (all (λ v. leb (v .number) m) vs) e
     pick ih false = ih
 
-fetch-spoken : (st : State) → Sound st → (p e : ℕ) → Spoken (doFetch st p e .answer)
+fetch-spoken : (st : State) → Sound st → (p e : ℕ) → Spoken st (doFetch st p e)
 unfolding doFetch fetchedAnswer
 fetch-spoken st s p e =
     let c = rowOf (st .rows) e .object in
     let h = leb-true (openOn (st .requests) c .number) greatestNumber (open-ranged greatestNumber (st .requests) c (request-ranged st s)) in
-    unless st _ 7 _ (omega arith) λ _. unless st _ 8 _ (omega arith) λ _. unless st _ 11 _ (omega arith) λ _. fetched-spoken (openOn (st .requests) c .number) _ _ _ _ h
+    unless st _ 7 _ (omega arith) λ _. unless st _ 8 _ (omega arith) λ _. unless st _ 11 _ (omega arith) λ _. fetched-spoken st (openOn (st .requests) c .number) _ _ _ _ _ h
 
-pub perform-spoken : (st : State) → Sound st → (c : Call) → Spoken (perform st c .answer)
+pub perform-spoken : (st : State) → Sound st → (c : Call) → Spoken st (perform st c)
 unfolding perform
 perform-spoken st s (Go p e) = go-spoken st p e
 perform-spoken st s (Hold p e) = hold-spoken st p e
@@ -168,11 +180,11 @@ perform-spoken st s (Revoke p q) = revoke-spoken st p q
 perform-spoken st s (Comes e q) = comes-spoken st e q
 
 -- ---- a line
-pub call-spoken : (st : State) → Sound st → (line : List ℕ) → Spoken (callOn st line .answer)
+pub call-spoken : (st : State) → Sound st → (line : List ℕ) → Spoken st (callOn st line)
 unfolding callOn answered refused
 call-spoken st s line = pick (readingOf line) refl
   where
-    pick : (x : Reading) → readingOf line ≡ x → Spoken (answered st x .answer)
+    pick : (x : Reading) → readingOf line ≡ x → Spoken st (answered st x)
     pick (Asks c) e = unless st (callerUnlisted st c) 5 (perform st c) (omega arith) λ _. perform-spoken st s c
-    pick (Crowded p) e = unless st (not (isListed (st .processes) p)) 5 (refused st 6) (omega arith) λ _. refused-spoken 6 (omega arith)
-    pick (BadLine k) e = refused-spoken k (reading-refused line k e)
+    pick (Crowded p) e = unless st (not (isListed (st .processes) p)) 5 (refused st 6) (omega arith) λ _. refused-spoken st 6 (omega arith)
+    pick (BadLine k) e = refused-spoken st k (reading-refused line k e)

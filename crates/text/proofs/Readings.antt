@@ -61,7 +61,7 @@ Good (Comes e q) = GoodComes e q
 unfoldable Reads : Reading → Type 0
 Reads (Asks c) = Good c
 Reads (Crowded p) = isProcess p ≡ true
-Reads (Refused k) = 0 < k
+Reads (Refused k) = 1 < k
 
 -- ---- by the definitions of CallLines, one after the other
 if-reads : (b : Bool) (x y : Reading) → Reads x → Reads y → Reads (cond b x y)
@@ -183,7 +183,7 @@ pub reading-crowded : (line : List ℕ) (p : ℕ) → readingOf line ≡ Crowded
 unfolding Reads
 reading-crowded line p e = subst Reads e (line-reads line)
 
-pub reading-refused : (line : List ℕ) (k : ℕ) → readingOf line ≡ Refused k → 0 < k
+pub reading-refused : (line : List ℕ) (k : ℕ) → readingOf line ≡ Refused k → 1 < k
 unfolding Reads
 reading-refused line k e = subst Reads e (line-reads line)
 
