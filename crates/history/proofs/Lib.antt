@@ -3,3 +3,7 @@
 pub mod Fit
 -- what holds of the tables and the history after each call
 pub mod Inv
+-- the tables as the history notes them: look-up, tests and marks go through the view
+pub mod View
+-- the invariant after an answer: refused and accepted calls
+pub mod Keeps
