@@ -7,3 +7,7 @@ pub mod Inv
 pub mod View
 -- the invariant after an answer: refused and accepted calls
 pub mod Keeps
+-- what a sweep of the notes leaves
+pub mod Sweep
+-- one more row, in the tables and in the history
+pub mod Added
