@@ -11,3 +11,5 @@ pub mod Keeps
 pub mod Sweep
 -- one more row, in the tables and in the history
 pub mod Added
+-- rows and records found in sound tables, and as the history has them
+pub mod Find
