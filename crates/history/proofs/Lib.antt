@@ -13,3 +13,5 @@ pub mod Sweep
 pub mod Added
 -- rows and records found in sound tables, and as the history has them
 pub mod Find
+-- hold, register and port keep the invariant
+pub mod StepAdd
