@@ -3,15 +3,23 @@
 pub mod Fit
 -- what holds of the tables and the history after each call
 pub mod Inv
+-- what a sweep of the notes leaves
+pub mod Sweep
+-- what is dropped or closed takes with it every row whose chain uses it
+pub mod Gone
+-- what the history computes is what its words mean: to stand is to have no chain that uses anything dropped or closed
+pub mod Standing
+-- comes from, computed in one pass over the notes, is what the word means
+pub mod Comes
 -- the tables as the history notes them: look-up, tests and marks go through the view
 pub mod View
 -- the invariant after an answer: refused and accepted calls
 pub mod Keeps
--- what a sweep of the notes leaves
-pub mod Sweep
 -- one more row, in the tables and in the history
 pub mod Added
 -- rows and records found in sound tables, and as the history has them
 pub mod Find
 -- hold, register and port keep the invariant
 pub mod StepAdd
+-- closing, in the tables and in the history
+pub mod Closed
