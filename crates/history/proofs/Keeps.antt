@@ -2,41 +2,42 @@
 use Prim.Native.Nat.{ℕ, zero, suc, _<_}
 use mathlib.Core.Bool.{Bool, true, false}
 use mathlib.Core.List.{List, [], _∷_, map}
-use mathlib.Core.Path.{_≡_, refl, sym, ap, _∙_}
+use mathlib.Core.Path.{_≡_, refl, sym, ap, ap₂, _∙_}
 use lib.Dec.{eqb}
-use Rattle.rows.specs.Tables.{State, processAt, isListed}
+use Rattle.rows.specs.Lists.{all, member}
+use Rattle.rows.specs.Tables.{State}
 use Rattle.calls.specs.declared.Call.{Call}
 use Rattle.calls.specs.declared.Answer.{Answer}
 use Rattle.calls.specs.declared.Answer.the-variants.{Refused}
 use Rattle.calls.specs.Answers.{refusalOf, valuesOf}
 use Rattle.calls.specs.Rules.{Out, refusedIf}
 use Rattle.calls.specs.Calls.{done, made}
-use Rattle.history.specs.Notes.{History, spoiled, standing, stands, isClosed, openLoans, withLoans, settled}
+use Rattle.history.specs.Notes.{History, noted, notedOf, spoiled, standing, stands, isClosed, openLoans, withLoans, settled}
 use Rattle.history.specs.Reading.{noteCall}
 use Rattle.history.proofs.Fit.{Fit}
 use Rattle.history.proofs.Inv.{Inv, view, ofRequest, ofLoan, throughNow, firstValue, noteAnswer}
 
--- ---- neither Fit nor Inv looks at the ends on loan
-pub settled-fit : (h : History) → Fit h → Fit (settled h)
-unfolding settled withLoans
-settled-fit h f =
+-- ---- Fit looks at the text, the rows, the requests and what was dropped
+pub fit-same : (h h′ : History) → h′ .text ≡ h .text → h′ .rows ≡ h .rows → h′ .requests ≡ h .requests → all (λ n. eqb (notedOf (h .rows) n .port) 0) (h′ .dropped) ≡ true → Fit h → Fit h′
+fit-same h h′ t r v kept f =
     record {
-      rows-rise = f .rows-rise;
-      requests-rise = f .requests-rise;
-      sources-older = f .sources-older;
-      rows-rooted = f .rows-rooted;
-      rows-bear = f .rows-bear;
-      rows-end = f .rows-end;
-      ports-noted = f .ports-noted;
-      ends-kept = f .ends-kept;
-      text-noted = f .text-noted;
+      rows-rise = rw r (f .rows-rise);
+      requests-rise = rw v (f .requests-rise);
+      sources-older = rw r (f .sources-older);
+      rows-rooted = rw (t, r) (f .rows-rooted);
+      rows-bear = rw (v, r) (f .rows-bear);
+      rows-end = rw r (f .rows-end);
+      ports-noted = rw (r, v) (f .ports-noted);
+      ends-kept = ap (λ rs. all (λ n. eqb (notedOf rs n .port) 0) (h′ .dropped)) r ∙ kept;
+      text-noted = ap₂ (λ rs ns. all (λ n. member n (noted rs)) ns) r t ∙ f .text-noted;
     }
 
+-- ---- neither Fit nor Inv looks at the ends on loan
 pub settled-inv : (h : History) (st : State) → Inv h st → Inv (settled h) st
 unfolding settled withLoans standing spoiled openLoans isClosed stands throughNow
 settled-inv h st i =
     record {
-      fit = settled-fit h (i .fit);
+      fit = fit-same h (settled h) refl refl refl (i .fit .ends-kept) (i .fit);
       rows = i .rows;
       requests = i .requests;
       through = i .through;

@@ -23,3 +23,5 @@ pub mod Find
 pub mod StepAdd
 -- closing, in the tables and in the history
 pub mod Closed
+-- drop, close, revoke, reply and refuse keep the invariant
+pub mod StepClose
