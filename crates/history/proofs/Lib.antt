@@ -25,3 +25,5 @@ pub mod StepAdd
 pub mod Closed
 -- drop, close, revoke, reply and refuse keep the invariant
 pub mod StepClose
+-- go, fetch and comes keep the invariant
+pub mod StepGo
