@@ -27,3 +27,5 @@ pub mod Closed
 pub mod StepClose
 -- go, fetch and comes keep the invariant
 pub mod StepGo
+-- ask keeps the invariant
+pub mod StepAsk
