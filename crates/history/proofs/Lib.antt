@@ -29,3 +29,5 @@ pub mod StepClose
 pub mod StepGo
 -- ask keeps the invariant
 pub mod StepAsk
+-- every call, accepted or refused, keeps the invariant
+pub mod StepsInv
