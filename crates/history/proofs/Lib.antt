@@ -17,3 +17,23 @@ pub mod Answered
 pub mod Begun
 -- every answer to a call line on sound tables is one that the history can read
 pub mod Spoken
+-- the tables as the history notes them: look-up, tests and marks go through the view
+pub mod View
+-- the invariant after an answer: refused and accepted calls
+pub mod Keeps
+-- one more row, in the tables and in the history
+pub mod Added
+-- rows and records found in sound tables, and as the history has them
+pub mod Find
+-- hold, register and port keep the invariant
+pub mod StepAdd
+-- closing, in the tables and in the history
+pub mod Closed
+-- drop, close, revoke, reply and refuse keep the invariant
+pub mod StepClose
+-- go, fetch and comes keep the invariant
+pub mod StepGo
+-- ask keeps the invariant
+pub mod StepAsk
+-- every call, accepted or refused, keeps the invariant
+pub mod StepsInv
