@@ -15,6 +15,8 @@ pub mod Comes
 pub mod Answered
 -- the rows of the text, as the history begins with them
 pub mod Begun
+-- an accepted opening begins history and tables alike
+pub mod Start
 -- every answer to a call line on sound tables is one that the history can read
 pub mod Spoken
 -- the tables as the history notes them: look-up, tests and marks go through the view
