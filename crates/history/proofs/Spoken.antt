@@ -1,4 +1,4 @@
--- Every answer to a call line on sound tables: an accepted one has a value of at most 1,000,000; a refusal has a number, which is not 1, and leaves the state.
+-- Every answer to a call line on sound tables: an accepted one has a value of at most 1,000,000; a refusal has a number from 2 to 18 and leaves the state.
 use Prim.Native.Nat.{ℕ, suc, _+_, _<_, _≤_}
 use native.Mathlib.Omega.{arith}
 use mathlib.Core.Bool.{Bool, true, false, not, cond}
@@ -29,29 +29,29 @@ use Rattle.text.specs.declared.Reading.the-variants.{Asks, Crowded, Refused as 
 use Rattle.text.specs.CallLines.{readingOf}
 use Rattle.text.specs.Entry.{callerUnlisted, answered, callOn, refused}
 use Rattle.text.proofs.OpeningForms.{between-range}
-use Rattle.text.proofs.Readings.{reading-refused}
+use Rattle.text.proofs.Readings.{isRefusal, reading-refused}
 use Rattle.history.proofs.Inv.{firstValue}
 
 pub record Spoken (st : State) (o : Out) : Type 0 where
   pub has-value : refusalOf (o .answer) ≡ 0 → 0 < length (valuesOf (o .answer))
   pub in-range : refusalOf (o .answer) ≡ 0 → firstValue (valuesOf (o .answer)) ≤ greatestNumber
-  pub not-one : refusalOf (o .answer) ≡ 1 → ⊥
+  pub numbered : 0 < refusalOf (o .answer) → isRefusal (refusalOf (o .answer)) ≡ true
   pub untouched : 0 < refusalOf (o .answer) → o .after ≡ st
 
 -- ---- each answer
-refused-spoken : (st : State) (k : ℕ) → 1 < k → Spoken st (record { answer = Refused k; after = st })
+refused-spoken : (st : State) (k : ℕ) → isRefusal k ≡ true → Spoken st (record { answer = Refused k; after = st })
 unfolding refusalOf
 refused-spoken st k h =
     record {
-      has-value = λ e. let z : k ≡ 0 = e in absurd (omega arith);
-      in-range = λ e. let z : k ≡ 0 = e in absurd (omega arith);
-      not-one = λ e. let z : k ≡ 1 = e in omega arith;
+      has-value = λ e. let z : k ≡ 0 = e in let l = leb-true 2 k (and-l (leb 2 k) (leb k 18) h) in absurd (omega arith);
+      in-range = λ e. let z : k ≡ 0 = e in let l = leb-true 2 k (and-l (leb 2 k) (leb k 18) h) in absurd (omega arith);
+      numbered = λ e. h;
       untouched = λ e. refl;
     }
 
 -- an accepted answer with a value in range
 accepted-spoken : (st : State) (o : Out) → refusalOf (o .answer) ≡ 0 → 0 < length (valuesOf (o .answer)) → firstValue (valuesOf (o .answer)) ≤ greatestNumber → Spoken st o
-accepted-spoken st o e l h = record { has-value = λ _. l; in-range = λ _. h; not-one = λ z. omega arith; untouched = λ z. absurd (omega arith) }
+accepted-spoken st o e l h = record { has-value = λ _. l; in-range = λ _. h; numbered = λ z. absurd (omega arith); untouched = λ z. absurd (omega arith) }
 
 done-spoken : (st a : State) → Spoken st (done a)
 unfolding done refusalOf valuesOf firstValue
@@ -71,7 +71,7 @@ told-spoken st true after = accepted-spoken st _ refl (omega arith) (omega arith
 told-spoken st false after = accepted-spoken st _ refl (omega arith) (omega arith)
 
 -- ---- refusals in order
-unless : (st : State) (test : Bool) (k : ℕ) (other : Out) → 1 < k → (test ≡ false → Spoken st other) → Spoken st (refusedIf st test k other)
+unless : (st : State) (test : Bool) (k : ℕ) (other : Out) → isRefusal k ≡ true → (test ≡ false → Spoken st other) → Spoken st (refusedIf st test k other)
 unfolding refusedIf
 unless st true k other h s = refused-spoken st k h
 unless st false k other h s = s refl
@@ -84,7 +84,7 @@ next-spoken st k after h e = let l = ltb-false (suc greatestNumber) (st .next + 
 -- ---- the calls
 go-spoken : (st : State) (p e : ℕ) → Spoken st (doGo st p e)
 unfolding doGo
-go-spoken st p e = pick (eqb e 0) _ (unless st _ 7 _ (omega arith) λ _. unless st _ 8 _ (omega arith) λ _. done-spoken st _)
+go-spoken st p e = pick (eqb e 0) _ (unless st _ 7 _ refl λ _. unless st _ 8 _ refl λ _. done-spoken st _)
   where
     pick : (b : Bool) (o : Out) → Spoken st o → Spoken st (cond b (done (goHome st p)) o)
     pick true o s = done-spoken st _
@@ -92,45 +92,45 @@ go-spoken st p e = pick (eqb e 0) _ (unless st _ 7 _ (omega arith) λ _. unless 
 
 hold-spoken : (st : State) (p s : ℕ) → Spoken st (doHold st p s)
 unfolding doHold
-hold-spoken st p s = unless st _ 7 _ (omega arith) λ _. unless st _ 9 _ (omega arith) λ _. unless st _ 12 _ (omega arith) λ _. unless st _ 15 _ (omega arith) λ _. unless st _ 16 _ (omega arith) λ _. unless st (numbersSpent st 1) 18 _ (omega arith) λ e. next-spoken st 1 _ (omega arith) e
+hold-spoken st p s = unless st _ 7 _ refl λ _. unless st _ 9 _ refl λ _. unless st _ 12 _ refl λ _. unless st _ 15 _ refl λ _. unless st _ 16 _ refl λ _. unless st (numbersSpent st 1) 18 _ refl λ e. next-spoken st 1 _ (omega arith) e
 
 register-spoken : (st : State) (p s : ℕ) → Spoken st (doRegister st p s)
 unfolding doRegister
-register-spoken st p s = unless st _ 7 _ (omega arith) λ _. unless st _ 8 _ (omega arith) λ _. unless st _ 9 _ (omega arith) λ _. unless st _ 12 _ (omega arith) λ _. unless st _ 15 _ (omega arith) λ _. unless st _ 16 _ (omega arith) λ _. unless st (numbersSpent st 1) 18 _ (omega arith) λ e. next-spoken st 1 _ (omega arith) e
+register-spoken st p s = unless st _ 7 _ refl λ _. unless st _ 8 _ refl λ _. unless st _ 9 _ refl λ _. unless st _ 12 _ refl λ _. unless st _ 15 _ refl λ _. unless st _ 16 _ refl λ _. unless st (numbersSpent st 1) 18 _ refl λ e. next-spoken st 1 _ (omega arith) e
 
 drop-spoken : (st : State) (p e : ℕ) → Spoken st (doDrop st p e)
 unfolding doDrop
-drop-spoken st p e = unless st _ 7 _ (omega arith) λ _. unless st _ 8 _ (omega arith) λ _. unless st _ 13 _ (omega arith) λ _. done-spoken st _
+drop-spoken st p e = unless st _ 7 _ refl λ _. unless st _ 8 _ refl λ _. unless st _ 13 _ refl λ _. done-spoken st _
 
 port-spoken : (st : State) (p s : ℕ) → Spoken st (doPort st p s)
 unfolding doPort
-port-spoken st p s = unless st _ 7 _ (omega arith) λ _. unless st _ 8 _ (omega arith) λ _. unless st _ 15 _ (omega arith) λ _. unless st _ 16 _ (omega arith) λ _. unless st (numbersSpent st 2) 18 _ (omega arith) λ e. next-spoken st 2 _ (omega arith) e
+port-spoken st p s = unless st _ 7 _ refl λ _. unless st _ 8 _ refl λ _. unless st _ 15 _ refl λ _. unless st _ 16 _ refl λ _. unless st (numbersSpent st 2) 18 _ refl λ e. next-spoken st 2 _ (omega arith) e
 
 close-spoken : (st : State) (p e : ℕ) → Spoken st (doClose st p e)
 unfolding doClose
-close-spoken st p e = unless st _ 7 _ (omega arith) λ _. unless st _ 8 _ (omega arith) λ _. unless st _ 12 _ (omega arith) λ _. done-spoken st _
+close-spoken st p e = unless st _ 7 _ refl λ _. unless st _ 8 _ refl λ _. unless st _ 12 _ refl λ _. done-spoken st _
 
 ask-spoken : (st : State) (p c : ℕ) (is : List Item) → Spoken st (doAsk st p c is)
 unfolding doAsk
 ask-spoken st p c is =
-    unless st _ 7 _ (omega arith) λ _. unless st _ 8 _ (omega arith) λ _. unless st _ 9 _ (omega arith) λ _. unless st _ 10 _ (omega arith) λ _. unless st _ 15 _ (omega arith) λ _. unless st _ 16 _ (omega arith) λ _. unless st _ 17 _ (omega arith) λ _.
-    unless st (numbersSpent st (suc (length (copies st is)))) 18 _ (omega arith) λ e. next-spoken st (suc (length (copies st is))) _ (omega arith) e
+    unless st _ 7 _ refl λ _. unless st _ 8 _ refl λ _. unless st _ 9 _ refl λ _. unless st _ 10 _ refl λ _. unless st _ 15 _ refl λ _. unless st _ 16 _ refl λ _. unless st _ 17 _ refl λ _.
+    unless st (numbersSpent st (suc (length (copies st is)))) 18 _ refl λ e. next-spoken st (suc (length (copies st is))) _ (omega arith) e
 
 reply-spoken : (st : State) (p e : ℕ) → Spoken st (doReply st p e)
 unfolding doReply
-reply-spoken st p e = unless st _ 7 _ (omega arith) λ _. unless st _ 8 _ (omega arith) λ _. unless st _ 10 _ (omega arith) λ _. unless st _ 11 _ (omega arith) λ _. unless st _ 14 _ (omega arith) λ _. done-spoken st _
+reply-spoken st p e = unless st _ 7 _ refl λ _. unless st _ 8 _ refl λ _. unless st _ 10 _ refl λ _. unless st _ 11 _ refl λ _. unless st _ 14 _ refl λ _. done-spoken st _
 
 refuse-spoken : (st : State) (p e : ℕ) → Spoken st (doRefuse st p e)
 unfolding doRefuse
-refuse-spoken st p e = unless st _ 7 _ (omega arith) λ _. unless st _ 8 _ (omega arith) λ _. unless st _ 11 _ (omega arith) λ _. done-spoken st _
+refuse-spoken st p e = unless st _ 7 _ refl λ _. unless st _ 8 _ refl λ _. unless st _ 11 _ refl λ _. done-spoken st _
 
 revoke-spoken : (st : State) (p e : ℕ) → Spoken st (doRevoke st p e)
 unfolding doRevoke
-revoke-spoken st p e = unless st _ 7 _ (omega arith) λ _. done-spoken st _
+revoke-spoken st p e = unless st _ 7 _ refl λ _. done-spoken st _
 
 comes-spoken : (st : State) (e q : ℕ) → Spoken st (doComes st e q)
 unfolding doComes
-comes-spoken st e q = unless st _ 7 _ (omega arith) λ _. told-spoken st _ _
+comes-spoken st e q = unless st _ 7 _ refl λ _. told-spoken st _ _
 
 -- ---- fetch: the request's number is one of the tables
 rises-all : (m : ℕ) (vs : List Request) → rises (λ v. v .number) vs ≡ true → topOf (λ v. v .number) vs ≤ m → all (λ v. leb (v .number) m) vs ≡ true
@@ -162,7 +162,7 @@ unfolding doFetch fetchedAnswer
 fetch-spoken st s p e =
     let c = rowOf (st .rows) e .object in
     let h = leb-true (openOn (st .requests) c .number) greatestNumber (open-ranged greatestNumber (st .requests) c (request-ranged st s)) in
-    unless st _ 7 _ (omega arith) λ _. unless st _ 8 _ (omega arith) λ _. unless st _ 11 _ (omega arith) λ _. fetched-spoken st (openOn (st .requests) c .number) _ _ _ _ _ h
+    unless st _ 7 _ refl λ _. unless st _ 8 _ refl λ _. unless st _ 11 _ refl λ _. fetched-spoken st (openOn (st .requests) c .number) _ _ _ _ _ h
 
 pub perform-spoken : (st : State) → Sound st → (c : Call) → Spoken st (perform st c)
 unfolding perform
@@ -185,6 +185,6 @@ unfolding callOn answered refused
 call-spoken st s line = pick (readingOf line) refl
   where
     pick : (x : Reading) → readingOf line ≡ x → Spoken st (answered st x)
-    pick (Asks c) e = unless st (callerUnlisted st c) 5 (perform st c) (omega arith) λ _. perform-spoken st s c
-    pick (Crowded p) e = unless st (not (isListed (st .processes) p)) 5 (refused st 6) (omega arith) λ _. refused-spoken st 6 (omega arith)
+    pick (Asks c) e = unless st (callerUnlisted st c) 5 (perform st c) refl λ _. perform-spoken st s c
+    pick (Crowded p) e = unless st (not (isListed (st .processes) p)) 5 (refused st 6) refl λ _. refused-spoken st 6 refl
     pick (BadLine k) e = refused-spoken st k (reading-refused line k e)

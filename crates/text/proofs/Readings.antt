@@ -57,11 +57,15 @@ Good (Refuse p v) = GoodNumber p v
 Good (Revoke p q) = GoodNumber p q
 Good (Comes e q) = GoodComes e q
 
--- a call that is read is good; a refusal has a number
+-- a refusal for the line or the state: 2 to 18
+abbrev pub isRefusal : ℕ → Bool
+isRefusal k = leb 2 k && leb k 18
+
+-- a call that is read is good; a refusal has such a number
 unfoldable Reads : Reading → Type 0
 Reads (Asks c) = Good c
 Reads (Crowded p) = isProcess p ≡ true
-Reads (Refused k) = 1 < k
+Reads (Refused k) = isRefusal k ≡ true
 
 -- ---- by the definitions of CallLines, one after the other
 if-reads : (b : Bool) (x y : Reading) → Reads x → Reads y → Reads (cond b x y)
@@ -71,7 +75,7 @@ if-reads false x y p q = q
 ranged-reads : (b : Bool) (c : Call) → (b ≡ true → Good c) → Reads (ranged b c)
 unfolding ranged Reads
 ranged-reads true c h = h refl
-ranged-reads false c h = omega arith
+ranged-reads false c h = refl
 
 number-reads : (p e : ℕ) (f : ℕ → ℕ → Call) → (GoodNumber p e → Good (f p e)) → Reads (ranged (isProcess p && isNumber e) (f p e))
 number-reads p e f h =
@@ -90,11 +94,11 @@ simple-reads w p e =
     (if-reads (eqb w (wordOf "fetch")) _ _ (number-reads p e Fetch (λ g. g))
     (if-reads (eqb w (wordOf "reply")) _ _ (number-reads p e Reply (λ g. g))
     (if-reads (eqb w (wordOf "refuse")) _ _ (number-reads p e Refuse (λ g. g))
-    (if-reads (eqb w (wordOf "revoke")) _ _ (number-reads p e Revoke (λ g. g)) (omega arith))))))))))
+    (if-reads (eqb w (wordOf "revoke")) _ _ (number-reads p e Revoke (λ g. g)) refl)))))))))
 
 simple-form-reads : (s : List ℕ) → Reads (simpleForm s)
 unfolding simpleForm Reads
-simple-form-reads s = let f = form s 0 "(# @ #)\n" in if-reads (whole s f) (simple (f .word) (f .b) (f .c)) (Refused 2) (simple-reads (f .word) (f .b) (f .c)) (omega arith)
+simple-form-reads s = let f = form s 0 "(# @ #)\n" in if-reads (whole s f) (simple (f .word) (f .b) (f .c)) (Refused 2) (simple-reads (f .word) (f .b) (f .c)) refl
 
 comes-form-reads : (s : List ℕ) (other : Reading) → Reads other → Reads (comesForm s other)
 unfolding comesForm Good
@@ -143,8 +147,8 @@ judged-reads p c is =
   where
     pick : (a : Bool) → isProcess p && (isNumber c && all itemRanged is) ≡ a → (b : Bool) → distinct (map (λ i. i .row) is) ≡ b → (l : Bool) → ltb mostItems (length is) ≡ l
         → Reads (cond (not a) (Refused 3) (cond (not b) (Refused 4) (cond l (Crowded p) (Asks (Ask p c (packed is))))))
-    pick false ea b eb l el = omega arith
-    pick true ea false eb l el = omega arith
+    pick false ea b eb l el = refl
+    pick true ea false eb l el = refl
     pick true ea true eb true el = and-l (isProcess p) (isNumber c && all itemRanged is) ea
     pick true ea true eb false el =
         let r = and-r (isProcess p) (isNumber c && all itemRanged is) ea in
@@ -171,7 +175,7 @@ ask-form-reads s other h =
 line-reads : (s : List ℕ) → Reads (readingOf s)
 unfolding readingOf Reads
 line-reads s =
-    if-reads (ltb (suc mostBytes) (length s)) (Refused 2) (askForm s (comesForm s (simpleForm s))) (omega arith)
+    if-reads (ltb (suc mostBytes) (length s)) (Refused 2) (askForm s (comesForm s (simpleForm s))) refl
     (ask-form-reads s (comesForm s (simpleForm s)) (comes-form-reads s (simpleForm s) (simple-form-reads s)))
 
 -- ---- what other files use
@@ -183,7 +187,7 @@ pub reading-crowded : (line : List ℕ) (p : ℕ) → readingOf line ≡ Crowded
 unfolding Reads
 reading-crowded line p e = subst Reads e (line-reads line)
 
-pub reading-refused : (line : List ℕ) (k : ℕ) → readingOf line ≡ Refused k → 1 < k
+pub reading-refused : (line : List ℕ) (k : ℕ) → readingOf line ≡ Refused k → isRefusal k ≡ true
 unfolding Reads
 reading-refused line k e = subst Reads e (line-reads line)
 
