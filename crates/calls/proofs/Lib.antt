@@ -1,0 +1,5 @@
+-- Each call keeps the tables sound. One line a file:
+-- laws of mapped lists and of look-up that the files on ask and fetch share
+pub mod KeptLists
+-- rows of which some change their place and nothing else: the clauses that this keeps
+pub mod KeptMoved
