@@ -3,3 +3,5 @@
 pub mod KeptLists
 -- rows of which some change their place and nothing else: the clauses that this keeps
 pub mod KeptMoved
+-- what awaits fetch and who is where, read off sound tables
+pub mod KeptLoans
