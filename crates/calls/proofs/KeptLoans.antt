@@ -14,11 +14,13 @@ use Rattle.rows.specs.declared.Process.{Process}
 use Rattle.rows.specs.Lists.{if_then_else_, filter, any, all, each, firstWith, rises, member, between, some, nonzero}
 use Rattle.rows.specs.Limits.{processes, nodes}
 use Rattle.rows.specs.Codes.{isSubdirectory, isEnd, inClist, withSystem, isNode, isClist, isSystem, ownerOf}
-use Rattle.rows.specs.Tables.{State, noRow, noRequest, noProcess, rowOf, requestOf, processAt, isListed, lists}
-use Rattle.rows.specs.Sound.{placeInRange, mayBeListed, itemsLent, isFetched, olderFetchedBy, awaitsFetch, processPlaced, placedFrom}
+use Rattle.rows.specs.Tables.{State, noRow, noRequest, noProcess, rowOf, requestOf, processAt, isListed, numbers, lists}
+use Rattle.rows.specs.Sound.{placeInRange, mayBeListed, itemsLent, isFetched, olderFetchedBy, awaitsFetch, same, systemHolds, rowsRise, processPlaced, placedFrom}
 use Rattle.rows.proofs.Bools.{false-of, true-of, clash, and-l, and-r, and-i, or-cases, or-map, or-l, or-r, not-t, not-f, eqb-self, eqb-sym-f, all-mono, all-at, some-pos}
-use Rattle.rows.proofs.Keyed.{all-first, first-map, first-none, rises-rest, rises-fresh}
+use Rattle.rows.proofs.Keyed.{all-first, first-key, first-map, first-none, rises-rest, rises-fresh}
+use Rattle.rows.proofs.Sound.{Sound}
 use Rattle.calls.specs.Loans.{nowFetched}
+use Rattle.calls.proofs.KeptLists.{all-found}
 
 -- ---- lists of numbers
 pub any-at : (f : ℕ → Bool) (ns : List ℕ) (n : ℕ) → member n ns ≡ true → f n ≡ true → any f ns ≡ true
@@ -211,3 +213,33 @@ placed-kept rs rs′ h p (x ∷ xs) b e =
     placed q =
         unfold processPlaced in
         or-map (eqb (x .through) 0 && eqb (x .active) (x .prime)) (rest (rowOf rs (x .through))) (rest (rowOf rs′ (x .through))) stays q
+
+-- ---- rows of sound tables
+module _ (st : State) (s : Sound st) where
+  -- what holds of each row that can be looked up holds of all
+  pub of-rows : (P : Row → Bool) → ((n : ℕ) → member n (numbers (st .rows)) ≡ true → P (rowOf (st .rows) n) ≡ true) → all P (st .rows) ≡ true
+  of-rows P h = unfold numbers rowOf in all-found (λ r. r .number) noRow P (st .rows) (unfold rowsRise in s .rows-rise) h
+
+  pub row-number : (n : ℕ) → member n (numbers (st .rows)) ≡ true → rowOf (st .rows) n .number ≡ n
+  unfolding numbers rowOf
+  row-number n m = first-key (λ r. r .number) noRow (st .rows) n m
+
+  pub held-so : (n : ℕ) → member n (numbers (st .rows)) ≡ true → same (isSystem (rowOf (st .rows) n .place)) (awaitsFetch (st .requests) n) ≡ true
+  held-so n m =
+      subst (λ k. same (isSystem (rowOf (st .rows) n .place)) (awaitsFetch (st .requests) k) ≡ true) (row-number n m)
+      (unfold numbers rowOf in all-first (λ r. r .number) noRow (λ r. same (isSystem (r .place)) (awaitsFetch (st .requests) (r .number))) (st .rows) n (unfold systemHolds in s .system-holds) m)
+
+pub same-right : (a b : Bool) → same a b ≡ true → b ≡ true → a ≡ true
+unfolding same
+same-right true b e q = refl
+same-right false b e q = clash q (not-t b e)
+
+pub same-left : (a b : Bool) → same a b ≡ true → a ≡ false → b ≡ false
+unfolding same
+same-left true b e q = clash refl q
+same-left false b e q = not-t b e
+
+pub same-eq : (a b : Bool) → a ≡ b → same a b ≡ true
+unfolding same
+same-eq true b e = rw (← e) refl
+same-eq false b e = rw (← e) refl

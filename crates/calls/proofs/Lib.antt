@@ -5,3 +5,5 @@ pub mod KeptLists
 pub mod KeptMoved
 -- what awaits fetch and who is where, read off sound tables
 pub mod KeptLoans
+-- fetch keeps the tables sound
+pub mod KeptFetch

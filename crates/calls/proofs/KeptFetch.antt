@@ -1,0 +1,225 @@
+-- fetch keeps the tables sound: the rows that the request lists go to the caller's c-list, the request is fetched.
+use Prim.Native.Nat.{ℕ, zero, suc, _+_, _<_, _≤_}
+use mathlib.Core.Bool.{Bool, true, false, not, cond, _&&_, _||_}
+use mathlib.Core.List.{List, [], _∷_, map}
+use mathlib.Core.Path.{_≡_, refl, sym, ap, _∙_, subst}
+use mathlib.Core.Logic.{_⊎_, inl, inr}
+use lib.Dec.{leb, ltb, eqb}
+use lib.ListN.{length, length-map}
+use borrow.Author.Tests.{eqb-true, eqb-false, eq-eqb, ne-eqb, leb-true, le-leb}
+use native.Mathlib.Omega.{arith}
+use Rattle.rows.specs.declared.Row.{Row}
+use Rattle.rows.specs.declared.Request.{Request}
+use Rattle.rows.specs.declared.Process.{Process}
+use Rattle.rows.specs.Lists.{if_then_else_, filter, any, all, each, firstWith, topOf, rises, member, distinct, some, nonzero}
+use Rattle.rows.specs.Limits.{processes, mostItems}
+use Rattle.rows.specs.Codes.{isSubdirectory, isEnd, inClist, withSystem, isNode, isClist, isSystem, ownerOf, isServer}
+use Rattle.rows.specs.Tables.{State, noRow, noRequest, rowOf, requestOf, openOn, isListed, numbers, lists}
+use Rattle.rows.specs.Sound.{rowsRise, requestsRise, numbersApart, belowNext, nextInRange, rowsFit, requestsFit, recordsFit, objectsInRange, rightsInRange, placeInRange, placesInRange, fetchedInRange, sourcesRight, depthsRight, copiesMatch, recordsInRange, endPaired, endsPaired, portStands, portsStand, requestersListed, itemsFew, itemsApart, itemsLent, mayBeListed, onePerPort, copyListed, copiesListed, isFetched, olderFetchedBy, olderFetched, awaitsFetch, same, systemHolds, processesPlaced}
+use Rattle.rows.proofs.Bools.{false-of, true-of, clash, and-l, and-r, and-i, or-cases, or-map, or-l, or-r, or-fl, or-fr, not-t, not-f, eqb-self, all-mono, all-eq, all-at, some-pos}
+use Rattle.rows.proofs.Keyed.{all-first, first-key, rises-map, rises-range, keys-map}
+use Rattle.rows.proofs.Sound.{Sound}
+use Rattle.closing.specs.Closing.{placedIn}
+use Rattle.calls.specs.Rules.{Out, refusedIf, notHeld}
+use Rattle.calls.specs.Loans.{handedTo, nowFetched, withFetched}
+use Rattle.calls.specs.Calls.{fetchedAnswer, doFetch}
+use Rattle.calls.proofs.KeptLists.{Kept, unless, all-map, each-map, top-map, all-found, other-there, other-same}
+use Rattle.calls.proofs.KeptMoved.{moved, mayMove, moved-same, moved-number, row-moved, depths-moved, copies-moved, objects-moved, rights-moved, paired-moved, ports-moved, listed-moved, sources-moved}
+use Rattle.calls.proofs.KeptLoans.{of-rows, row-number, held-so, same-right, same-left, same-eq, member-filter, not-awaited, now-same, now-number, now-lists, still-fetched, request-now, fetched-now, awaits-same, listed-range, clist-range, clist-owner, clist-no-node, clist-no-system, system-no-node, placed-kept}
+
+-- v is an open request of sound tables, not fetched, and p a listed process
+module _ (st : State) (s : Sound st) (p : ℕ) (v : Request) (found : requestOf (st .requests) (v .number) ≡ v) (there : member (v .number) (map (λ v. v .number) (st .requests)) ≡ true)
+    (unfetched : isFetched v ≡ false) (listed : isListed (st .processes) p ≡ true) where
+  abbrev goes : ℕ → Bool
+  goes e = lists e v
+
+  abbrev rows′ : List Row
+  rows′ = map (moved goes (inClist p)) (st .rows)
+
+  abbrev requests′ : List Request
+  requests′ = map (nowFetched (v .number)) (st .requests)
+
+  abbrev after : State
+  after = record { rows = rows′; requests = requests′; processes = st .processes; next = st .next }
+
+  none-goes : goes 0 ≡ false
+  unfolding lists some
+  none-goes = refl
+
+  -- ---- what the tables say of v and of its rows
+  of-request : (P : Request → Bool) → all P (st .requests) ≡ true → P v ≡ true
+  of-request P e = subst (λ w. P w ≡ true) found (unfold requestOf in all-first (λ v. v .number) noRequest P (st .requests) (v .number) e there)
+
+  awaited : (e : ℕ) → goes e ≡ true → awaitsFetch (st .requests) e ≡ true
+  awaited e g =
+      true-of (awaitsFetch (st .requests) e) λ a.
+      clash (of-request (λ w. isFetched w || not (lists e w)) (not-awaited e (st .requests) (unfold olderFetched in s .older-fetched) a)) (rw (unfetched, g) refl)
+
+  may-be : (e : ℕ) → goes e ≡ true → mayBeListed v (rowOf (st .rows) e) ≡ true
+  may-be e g =
+      all-at (λ e. mayBeListed v (rowOf (st .rows) e)) (nonzero (v .items))
+      (of-request (λ v. all (λ e. mayBeListed v (rowOf (st .rows) e)) (nonzero (v .items))) (unfold itemsLent in s .items-lent)) e (there-too (unfold lists in g))
+    where
+      there-too : some e && member e (v .items) ≡ true → member e (nonzero (v .items)) ≡ true
+      there-too q = unfold nonzero in member-filter some (v .items) e (and-l (some e) (member e (v .items)) q) (and-r (some e) (member e (v .items)) q)
+
+  -- what goes is with the system
+  system-had : (n : ℕ) → member n (numbers (st .rows)) ≡ true → goes n ≡ true → rowOf (st .rows) n .place ≡ withSystem
+  system-had n m g =
+      unfold isSystem in eqb-true (rowOf (st .rows) n .place) withSystem
+      (same-right (isSystem (rowOf (st .rows) n .place)) (awaitsFetch (st .requests) n) (held-so st s n m) (awaited n g))
+
+  may-move : all (mayMove goes) (st .rows) ≡ true
+  unfolding mayMove mayBeListed
+  may-move = of-rows st s (mayMove goes) (λ n m. pick n m (goes n) refl)
+    where
+      ended : (a b c d : Bool) → (a && b) || (c && d) ≡ true → a || c ≡ true
+      ended true b c d e = refl
+      ended false b c d e = and-l c d e
+
+      pick : (n : ℕ) → member n (numbers (st .rows)) ≡ true → (b : Bool) → goes n ≡ b
+          → not (goes (rowOf (st .rows) n .number)) || (not (isNode (rowOf (st .rows) n .place)) && (isEnd (rowOf (st .rows) n .kind) || some (rowOf (st .rows) n .request))) ≡ true
+      pick n m true g =
+          rw (row-number st s n m, g, system-had n m g, system-no-node)
+          (ended (isEnd (rowOf (st .rows) n .kind)) (ltb (rowOf (st .rows) n .number) (v .number)) (some (rowOf (st .rows) n .request)) (eqb (rowOf (st .rows) n .request) (v .number)) (may-be n g))
+      pick n m false g = rw (row-number st s n m, g) refl
+
+  positive : 0 < v .number
+  positive = rises-range (λ v. v .number) (st .requests) (unfold requestsRise in s .requests-rise) (v .number) there .0
+
+  range : (1 ≤ p) × (p ≤ 64)
+  range = listed-range (st .processes) p (unfold recordsFit processes in eqb-true (length (st .processes)) 64 (s .records-fit)) listed
+
+  -- ---- the clauses
+  rows-rise : rowsRise after ≡ true
+  unfolding rowsRise
+  rows-rise = rises-map (λ r. r .number) (moved goes (inClist p)) (moved-number goes (inClist p)) (st .rows) ∙ s .rows-rise
+
+  requests-rise : requestsRise after ≡ true
+  unfolding requestsRise
+  requests-rise = rises-map (λ v. v .number) (nowFetched (v .number)) (now-number (v .number)) (st .requests) ∙ s .requests-rise
+
+  numbers-same : numbers rows′ ≡ numbers (st .rows)
+  unfolding numbers
+  numbers-same = keys-map (λ r. r .number) (moved goes (inClist p)) (moved-number goes (inClist p)) (st .rows)
+
+  -- a test of requests that does not look at whether they are fetched
+  requests-all : (P : Request → Bool)
+      → ((n c a k : ℕ) (is : List ℕ) → P (record { number = n; port = c; asker = a; fetched = 1; items = is }) ≡ P (record { number = n; port = c; asker = a; fetched = k; items = is }))
+      → all P (st .requests) ≡ true → all P requests′ ≡ true
+  requests-all P h e = all-map P (nowFetched (v .number)) (st .requests) ∙ all-eq (λ w. P (nowFetched (v .number) w)) P (now-same (v .number) P h) (st .requests) ∙ e
+
+  numbers-apart : numbersApart after ≡ true
+  unfolding numbersApart
+  numbers-apart = requests-all (λ v. not (member (v .number) (numbers rows′))) (λ n c a k is. refl) (rw numbers-same (s .numbers-apart))
+
+  below-next : belowNext after ≡ true
+  unfolding belowNext
+  below-next =
+      rw (top-map (λ r. r .number) noRow (moved goes (inClist p)) (moved-number goes (inClist p)) (st .rows), top-map (λ v. v .number) noRequest (nowFetched (v .number)) (now-number (v .number)) (st .requests))
+      (s .below-next)
+
+  rows-fit : rowsFit after ≡ true
+  unfolding rowsFit
+  rows-fit = rw (length-map (st .rows) (moved goes (inClist p))) (s .rows-fit)
+
+  requests-fit : requestsFit after ≡ true
+  unfolding requestsFit
+  requests-fit = rw (length-map (st .requests) (nowFetched (v .number))) (s .requests-fit)
+
+  objects-in-range : objectsInRange after ≡ true
+  unfolding objectsInRange
+  objects-in-range = objects-moved goes (inClist p) none-goes (st .processes) (st .rows) ∙ s .objects-in-range
+
+  rights-in-range : rightsInRange after ≡ true
+  unfolding rightsInRange
+  rights-in-range = rights-moved goes (inClist p) none-goes (st .rows) ∙ s .rights-in-range
+
+  places-in-range : placesInRange after ≡ true
+  unfolding placesInRange
+  places-in-range =
+      all-map (placeInRange (st .processes)) (moved goes (inClist p)) (st .rows)
+      ∙ all-mono (placeInRange (st .processes)) (λ r. placeInRange (st .processes) (moved goes (inClist p) r)) (λ r e. unfold moved in pick r (goes (r .number)) e) (st .rows) (s .places-in-range)
+    where
+      there-now : (r : Row) → placeInRange (st .processes) (placedIn (inClist p) r) ≡ true
+      there-now r =
+          unfold placeInRange placedIn in
+          rw (clist-no-node p, clist-range p (range .0) (range .1), clist-owner p, listed) refl
+
+      pick : (r : Row) (b : Bool) → placeInRange (st .processes) r ≡ true → placeInRange (st .processes) (cond b (placedIn (inClist p) r) r) ≡ true
+      pick r true e = there-now r
+      pick r false e = e
+
+  fetched-in-range : fetchedInRange after ≡ true
+  unfolding fetchedInRange
+  fetched-in-range =
+      all-map (λ v. leb (v .fetched) 1) (nowFetched (v .number)) (st .requests)
+      ∙ all-mono (λ v. leb (v .fetched) 1) (λ w. leb (nowFetched (v .number) w .fetched) 1) (λ w e. unfold nowFetched in pick w (eqb (w .number) (v .number)) e) (st .requests) (s .fetched-in-range)
+    where
+      pick : (w : Request) (b : Bool) → leb (w .fetched) 1 ≡ true → leb ((cond b (record { number = w .number; port = w .port; asker = w .asker; fetched = 1; items = w .items }) w) .fetched) 1 ≡ true
+      pick w true e = refl
+      pick w false e = e
+
+  sources-right : sourcesRight after ≡ true
+  unfolding sourcesRight
+  sources-right =
+      sources-moved goes (inClist p) none-goes (clist-no-node p) (st .requests) requests′ (st .rows) may-move
+      (λ r _. ap (λ w. w .port) (request-now (v .number) (st .requests) (r .request) positive) ∙ now-same (v .number) (λ w. w .port) (λ n c a k is. refl) (requestOf (st .requests) (r .request)))
+      (unfold copiesListed in s .copies-listed) (s .sources-right)
+
+  depths-right : depthsRight after ≡ true
+  unfolding depthsRight
+  depths-right = depths-moved goes (inClist p) none-goes (st .rows) ∙ s .depths-right
+
+  copies-match : copiesMatch after ≡ true
+  unfolding copiesMatch
+  copies-match = copies-moved goes (inClist p) none-goes (st .rows) ∙ s .copies-match
+
+  ends-paired : endsPaired after ≡ true
+  unfolding endsPaired
+  ends-paired =
+      all-map (endPaired rows′) (moved goes (inClist p)) (st .rows)
+      ∙ all-eq (λ r. endPaired rows′ (moved goes (inClist p) r)) (endPaired (st .rows)) (paired-moved goes (inClist p) none-goes (st .rows)) (st .rows)
+      ∙ s .ends-paired
+
+  ports-stand : portsStand after ≡ true
+  unfolding portsStand
+  ports-stand =
+      requests-all (portStands rows′) (λ n c a k is. unfold portStands in refl)
+      (all-eq (portStands rows′) (portStands (st .rows)) (ports-moved goes (inClist p) none-goes (st .rows)) (st .requests) ∙ s .ports-stand)
+
+  requesters-listed : requestersListed after ≡ true
+  unfolding requestersListed
+  requesters-listed = requests-all (λ v. isListed (st .processes) (v .asker)) (λ n c a k is. refl) (s .requesters-listed)
+
+  items-few : itemsFew after ≡ true
+  unfolding itemsFew
+  items-few = requests-all (λ v. eqb (length (v .items)) mostItems) (λ n c a k is. refl) (s .items-few)
+
+  items-apart : itemsApart after ≡ true
+  unfolding itemsApart
+  items-apart = requests-all (λ v. distinct (nonzero (v .items))) (λ n c a k is. refl) (s .items-apart)
+
+  items-lent : itemsLent after ≡ true
+  unfolding itemsLent
+  items-lent =
+      requests-all (λ v. all (λ e. mayBeListed v (rowOf rows′ e)) (nonzero (v .items))) (λ n c a k is. unfold mayBeListed in refl)
+      (all-eq (λ v. all (λ e. mayBeListed v (rowOf rows′ e)) (nonzero (v .items))) (λ v. all (λ e. mayBeListed v (rowOf (st .rows) e)) (nonzero (v .items)))
+      (λ w. all-eq (λ e. mayBeListed w (rowOf rows′ e)) (λ e. mayBeListed w (rowOf (st .rows) e)) (listed-moved goes (inClist p) none-goes (st .rows) w) (nonzero (w .items))) (st .requests)
+      ∙ s .items-lent)
+
+  one-per-port : onePerPort after ≡ true
+  unfolding onePerPort
+  one-per-port = ap distinct (keys-map (λ v. v .port) (nowFetched (v .number)) (now-same (v .number) (λ w. w .port) (λ n c a k is. refl)) (st .requests)) ∙ s .one-per-port
+
+  copies-listed : copiesListed after ≡ true
+  unfolding copiesListed
+  copies-listed =
+      all-map (copyListed requests′) (moved goes (inClist p)) (st .rows)
+      ∙ all-eq (λ r. copyListed requests′ (moved goes (inClist p) r)) (copyListed (st .requests)) step (st .rows)
+      ∙ s .copies-listed
+    where
+      step : (r : Row) → copyListed requests′ (moved goes (inClist p) r) ≡ copyListed (st .requests) r
+      step r =
+          moved-same goes (inClist p) (copyListed requests′) (λ r. unfold copyListed placedIn in refl) r
+          ∙ (unfold copyListed in rw (request-now (v .number) (st .requests) (r .request) positive, now-lists (v .number) (r .number) (requestOf (st .requests) (r .request))) refl)
