@@ -13,18 +13,18 @@ use Rattle.rows.specs.declared.Request.{Request}
 use Rattle.rows.specs.declared.Process.{Process}
 use Rattle.rows.specs.Lists.{if_then_else_, filter, any, all, each, firstWith, topOf, rises, member, distinct, some, nonzero}
 use Rattle.rows.specs.Limits.{processes, mostItems}
-use Rattle.rows.specs.Codes.{isSubdirectory, isEnd, inClist, withSystem, isNode, isClist, isSystem, ownerOf, isServer}
+use Rattle.rows.specs.Codes.{subdirectory, isSubdirectory, isEnd, inClist, withSystem, isNode, isClist, isSystem, ownerOf, isServer}
 use Rattle.rows.specs.Tables.{State, noRow, noRequest, rowOf, requestOf, openOn, isListed, numbers, lists}
 use Rattle.rows.specs.Sound.{rowsRise, requestsRise, numbersApart, belowNext, nextInRange, rowsFit, requestsFit, recordsFit, objectsInRange, rightsInRange, placeInRange, placesInRange, fetchedInRange, sourcesRight, depthsRight, copiesMatch, recordsInRange, endPaired, endsPaired, portStands, portsStand, requestersListed, itemsFew, itemsApart, itemsLent, mayBeListed, onePerPort, copyListed, copiesListed, isFetched, olderFetchedBy, olderFetched, awaitsFetch, same, systemHolds, processesPlaced}
-use Rattle.rows.proofs.Bools.{false-of, true-of, clash, and-l, and-r, and-i, or-cases, or-map, or-l, or-r, or-fl, or-fr, not-t, not-f, eqb-self, all-mono, all-eq, all-at, some-pos}
-use Rattle.rows.proofs.Keyed.{all-first, first-key, rises-map, rises-range, keys-map}
+use Rattle.rows.proofs.Bools.{false-of, true-of, clash, and-l, and-r, and-i, or-cases, or-map, or-l, or-r, or-fl, or-fr, not-t, not-f, eqb-self, any-eq, all-mono, all-eq, all-at, pos-some}
+use Rattle.rows.proofs.Keyed.{all-first, first-key, first-there, rises-map, rises-range, keys-map}
 use Rattle.rows.proofs.Sound.{Sound}
 use Rattle.closing.specs.Closing.{placedIn}
 use Rattle.calls.specs.Rules.{Out, refusedIf, notHeld}
 use Rattle.calls.specs.Loans.{handedTo, nowFetched, withFetched}
 use Rattle.calls.specs.Calls.{fetchedAnswer, doFetch}
 use Rattle.calls.proofs.KeptLists.{Kept, unless, all-map, each-map, top-map, all-found, other-there, other-same}
-use Rattle.calls.proofs.KeptMoved.{moved, mayMove, moved-same, moved-number, row-moved, depths-moved, copies-moved, objects-moved, rights-moved, paired-moved, ports-moved, listed-moved, sources-moved}
+use Rattle.calls.proofs.KeptMoved.{moved, mayMove, moved-same, moved-stays, moved-goes, moved-number, row-moved, depths-moved, copies-moved, objects-moved, rights-moved, paired-moved, ports-moved, listed-moved, sources-moved}
 use Rattle.calls.proofs.KeptLoans.{of-rows, row-number, held-so, same-right, same-left, same-eq, member-filter, not-awaited, now-same, now-number, now-lists, still-fetched, request-now, fetched-now, awaits-same, listed-range, clist-range, clist-owner, clist-no-node, clist-no-system, system-no-node, placed-kept}
 
 -- v is an open request of sound tables, not fetched, and p a listed process
@@ -223,3 +223,123 @@ module _ (st : State) (s : Sound st) (p : ℕ) (v : Request) (found : requestOf 
       step r =
           moved-same goes (inClist p) (copyListed requests′) (λ r. unfold copyListed placedIn in refl) r
           ∙ (unfold copyListed in rw (request-now (v .number) (st .requests) (r .request) positive, now-lists (v .number) (r .number) (requestOf (st .requests) (r .request))) refl)
+
+  older-fetched : olderFetched after ≡ true
+  unfolding olderFetched
+  older-fetched = each-map (λ w. true) olderFetchedBy olderFetchedBy (nowFetched (v .number)) (λ w ws _ _ e. step w ws e) (st .requests) (every (st .requests)) (s .older-fetched)
+    where
+      every : (ws : List Request) → all (λ w. true) ws ≡ true
+      every ws = unfold all in elim ws [ [] ↦ refl | (w ∷ (ws → ih)) ↦ ih ]
+
+      items-same : (w : Request) → nowFetched (v .number) w .items ≡ w .items
+      items-same w = now-same (v .number) (λ w. w .items) (λ n c a k is. refl) w
+
+      shares : (w u : Request) → any (λ e. lists e (nowFetched (v .number) u)) (nowFetched (v .number) w .items) ≡ any (λ e. lists e u) (w .items)
+      shares w u =
+          ap (any (λ e. lists e (nowFetched (v .number) u))) (items-same w)
+          ∙ any-eq (λ e. lists e (nowFetched (v .number) u)) (λ e. lists e u) (λ e. now-lists (v .number) e u) (w .items)
+
+      still : (u : Request) (b : Bool) → isFetched u || b ≡ true → isFetched (nowFetched (v .number) u) || b ≡ true
+      still u true e = or-r (isFetched (nowFetched (v .number) u)) true refl
+      still u false e = or-l (isFetched (nowFetched (v .number) u)) false (still-fetched (v .number) u (only (isFetched u) e))
+        where
+          only : (a : Bool) → a || false ≡ true → a ≡ true
+          only true e = refl
+          only false e = e
+
+      step : (w : Request) (ws : List Request) → olderFetchedBy w ws ≡ true → olderFetchedBy (nowFetched (v .number) w) (map (nowFetched (v .number)) ws) ≡ true
+      step w ws e =
+          unfold olderFetchedBy in
+          all-map (λ u. isFetched u || not (any (λ e. lists e u) (nowFetched (v .number) w .items))) (nowFetched (v .number)) ws
+          ∙ all-mono (λ u. isFetched u || not (any (λ e. lists e u) (w .items)))
+          (λ u. isFetched (nowFetched (v .number) u) || not (any (λ e. lists e (nowFetched (v .number) u)) (nowFetched (v .number) w .items)))
+          (λ u q. rw (shares w u) (still u (not (any (λ e. lists e u) (w .items))) q)) ws e
+
+  system-holds : systemHolds after ≡ true
+  unfolding systemHolds
+  system-holds =
+      all-map (λ r. same (isSystem (r .place)) (awaitsFetch requests′ (r .number))) (moved goes (inClist p)) (st .rows)
+      ∙ of-rows st s (λ r. same (isSystem (moved goes (inClist p) r .place)) (awaitsFetch requests′ (moved goes (inClist p) r .number))) (λ n m. pick n m (goes n) refl)
+    where
+      pick : (n : ℕ) → member n (numbers (st .rows)) ≡ true → (b : Bool) → goes n ≡ b
+          → same (isSystem (moved goes (inClist p) (rowOf (st .rows) n) .place)) (awaitsFetch requests′ (moved goes (inClist p) (rowOf (st .rows) n) .number)) ≡ true
+      pick n m true g =
+          same-eq (isSystem (moved goes (inClist p) (rowOf (st .rows) n) .place)) (awaitsFetch requests′ (moved goes (inClist p) (rowOf (st .rows) n) .number))
+          (ap isSystem (moved-goes goes (inClist p) (rowOf (st .rows) n) (ap goes (row-number st s n m) ∙ g))
+          ∙ clist-no-system p (range .1)
+          ∙ sym
+          (ap (awaitsFetch requests′) (moved-number goes (inClist p) (rowOf (st .rows) n) ∙ row-number st s n m)
+          ∙ fetched-now (v .number) n (st .requests) (unfold olderFetched in s .older-fetched) there (rw found unfetched) (rw found g)))
+      pick n m false g =
+          rw (moved-stays goes (inClist p) (rowOf (st .rows) n) (ap goes (row-number st s n m) ∙ g))
+          (rw (row-number st s n m, awaits-same (v .number) n (st .requests) (unfold requestsRise in s .requests-rise) (rw found g)) (held-so st s n m))
+
+  processes-placed : processesPlaced after ≡ true
+  unfolding processesPlaced
+  processes-placed =
+      placed-kept (st .rows) rows′ (λ e k hi sub at. row-moved goes (inClist p) none-goes (st .rows) e ∙ stays e k hi sub at) 1 (st .processes)
+      (let l : length (st .processes) ≡ 64 = unfold recordsFit processes in eqb-true (length (st .processes)) 64 (s .records-fit) in omega arith) (s .processes-placed)
+    where
+      stays : (e k : ℕ) → k ≤ 64 → isSubdirectory (rowOf (st .rows) e .kind) ≡ true → rowOf (st .rows) e .place ≡ inClist k → moved goes (inClist p) (rowOf (st .rows) e) ≡ rowOf (st .rows) e
+      stays e k hi sub at =
+          let m : member e (numbers (st .rows)) ≡ true = unfold numbers rowOf in first-there (λ r. r .number) noRow (λ r. isSubdirectory (r .kind)) (unfold noRow isSubdirectory subdirectory in refl) (st .rows) e sub in
+          let in-clist : isSystem (rowOf (st .rows) e .place) ≡ false = ap isSystem at ∙ clist-no-system k hi in
+          let g : goes e ≡ false = false-of (goes e) (λ g. clash (same-right (isSystem (rowOf (st .rows) e .place)) (awaitsFetch (st .requests) e) (held-so st s e m) (awaited e g)) in-clist) in
+          moved-stays goes (inClist p) (rowOf (st .rows) e) (ap goes (row-number st s e m) ∙ g)
+
+  fetched-sound : Sound after
+  fetched-sound =
+      record {
+        rows-rise = rows-rise;
+        requests-rise = requests-rise;
+        numbers-apart = numbers-apart;
+        below-next = below-next;
+        next-in-range = unfold nextInRange in s .next-in-range;
+        rows-fit = rows-fit;
+        requests-fit = requests-fit;
+        records-fit = unfold recordsFit in s .records-fit;
+        objects-in-range = objects-in-range;
+        rights-in-range = rights-in-range;
+        places-in-range = places-in-range;
+        fetched-in-range = fetched-in-range;
+        sources-right = sources-right;
+        depths-right = depths-right;
+        copies-match = copies-match;
+        records-in-range = unfold recordsInRange in s .records-in-range;
+        ends-paired = ends-paired;
+        ports-stand = ports-stand;
+        requesters-listed = requesters-listed;
+        items-few = items-few;
+        items-apart = items-apart;
+        items-lent = items-lent;
+        one-per-port = one-per-port;
+        copies-listed = copies-listed;
+        older-fetched = older-fetched;
+        system-holds = system-holds;
+        processes-placed = processes-placed;
+      }
+
+-- the request open on a port is found by its number
+open-found : (vs : List Request) (c : ℕ) → rises (λ v. v .number) vs ≡ true → some (openOn vs c .number) ≡ true → requestOf vs (openOn vs c .number) ≡ openOn vs c
+unfolding openOn requestOf
+open-found vs c r t = other-same (λ v. v .number) noRequest (λ v. v .port) (unfold noRequest in refl) vs r c t
+
+open-there : (vs : List Request) (c : ℕ) → some (openOn vs c .number) ≡ true → member (openOn vs c .number) (map (λ v. v .number) vs) ≡ true
+unfolding openOn
+open-there vs c t = other-there (λ v. v .number) noRequest (λ v. v .port) (unfold noRequest in refl) vs c t
+
+pub fetch-kept : (st : State) → Sound st → (p e : ℕ) → isListed (st .processes) p ≡ true → Sound (doFetch st p e .after)
+unfolding doFetch withFetched handedTo moved requestsRise
+fetch-kept st s p e listed =
+    (unless _ 7 s λ _. unless _ 8 s λ _. unless _ 11 s λ e11. record { sound = taken (or-fl (eqb (v .number) 0) (isFetched v) e11) (or-fr (eqb (v .number) 0) (isFetched v) e11) }) .sound
+  where
+    c : ℕ
+    c = rowOf (st .rows) e .object
+
+    v : Request
+    v = openOn (st .requests) c
+
+    taken : eqb (v .number) 0 ≡ false → isFetched v ≡ false → Sound (withFetched p v st)
+    taken z f =
+        let t : some (v .number) ≡ true = pos-some (v .number) (let ne = eqb-false (v .number) 0 z in omega arith) in
+        fetched-sound st s p v (open-found (st .requests) c (s .requests-rise) t) (open-there (st .requests) c t) f listed

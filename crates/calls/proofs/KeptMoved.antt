@@ -90,6 +90,14 @@ moved-same {A} t x f h r = pick (t (r .number))
 pub moved-number : (t : ℕ → Bool) (x : ℕ) (r : Row) → moved t x r .number ≡ r .number
 moved-number t x r = moved-same t x (λ r. r .number) (λ r. unfold placedIn in refl) r
 
+pub moved-stays : (t : ℕ → Bool) (x : ℕ) (r : Row) → t (r .number) ≡ false → moved t x r ≡ r
+unfolding moved
+moved-stays t x r e = rw e refl
+
+pub moved-goes : (t : ℕ → Bool) (x : ℕ) (r : Row) → t (r .number) ≡ true → moved t x r .place ≡ x
+unfolding moved placedIn
+moved-goes t x r e = rw e refl
+
 module _ (t : ℕ → Bool) (x : ℕ) (z : t 0 ≡ false) where
   pub row-moved : (rs : List Row) (n : ℕ) → rowOf (map (moved t x) rs) n ≡ moved t x (rowOf rs n)
   unfolding rowOf
