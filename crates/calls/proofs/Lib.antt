@@ -7,3 +7,7 @@ pub mod KeptMoved
 pub mod KeptLoans
 -- fetch keeps the tables sound
 pub mod KeptFetch
+-- new rows before the old ones; a refusal
+pub mod AddRow
+-- what an ask lends, in closed form: the copies on top, the ends named, the list
+pub mod KeptAskItems
