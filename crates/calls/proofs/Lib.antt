@@ -11,3 +11,5 @@ pub mod KeptFetch
 pub mod AddRow
 -- what an ask lends, in closed form: the copies on top, the ends named, the list
 pub mod KeptAskItems
+-- what a new request lists: the ends named and the copies, each once
+pub mod KeptAskList
