@@ -13,3 +13,5 @@ pub mod AddRow
 pub mod KeptAskItems
 -- what a new request lists: the ends named and the copies, each once
 pub mod KeptAskList
+-- copies stacked on rows: numbers, look-up, and what holds of all of them
+pub mod KeptAskStack
