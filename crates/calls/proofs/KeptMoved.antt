@@ -71,7 +71,7 @@ may-be vs rs r m e = first (or-cases (isOpening r) (isRegistered rs r || (isHeld
     first (inl q) = opening q
     first (inr q) = second (or-cases (isRegistered rs r) (isHeld rs r || (isPortEnd rs r || isLentCopy vs rs r)) q)
 
-end-right : (vs : List Request) (rs : List Row) (r : Row) → isPortEnd rs r || isLentCopy vs rs r ≡ true → sourceRight vs r rs ≡ true
+pub end-right : (vs : List Request) (rs : List Row) (r : Row) → isPortEnd rs r || isLentCopy vs rs r ≡ true → sourceRight vs r rs ≡ true
 unfolding sourceRight
 end-right vs rs r e =
     or-r (isOpening r) (isRegistered rs r || (isHeld rs r || (isPortEnd rs r || isLentCopy vs rs r)))
@@ -106,7 +106,7 @@ module _ (t : ℕ → Bool) (x : ℕ) (z : t 0 ≡ false) where
   pub row-same : {A : Type 0} (f : Row → A) → ((r : Row) → f (placedIn x r) ≡ f r) → (rs : List Row) (n : ℕ) → f (rowOf (map (moved t x) rs) n) ≡ f (rowOf rs n)
   row-same f h rs n = ap f (row-moved rs n) ∙ moved-same t x f h (rowOf rs n)
 
-  depth-same : (rs : List Row) (n : ℕ) → rowOf (map (moved t x) rs) n .depth ≡ rowOf rs n .depth
+  pub depth-same : (rs : List Row) (n : ℕ) → rowOf (map (moved t x) rs) n .depth ≡ rowOf rs n .depth
   depth-same rs n = row-same (λ r. r .depth) (λ r. unfold placedIn in refl) rs n
 
   pub kind-same : (rs : List Row) (n : ℕ) → rowOf (map (moved t x) rs) n .kind ≡ rowOf rs n .kind

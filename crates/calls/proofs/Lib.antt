@@ -15,3 +15,5 @@ pub mod KeptAskItems
 pub mod KeptAskList
 -- copies stacked on rows: numbers, look-up, and what holds of all of them
 pub mod KeptAskStack
+-- a lent copy fits on top of the rows
+pub mod KeptAskCopy
