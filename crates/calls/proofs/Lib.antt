@@ -17,3 +17,7 @@ pub mod KeptAskList
 pub mod KeptAskStack
 -- a lent copy fits on top of the rows
 pub mod KeptAskCopy
+-- an ask that is not refused, and what it does to old rows and requests
+pub mod KeptAskFacts
+-- ask: the clauses of rows and processes
+pub mod KeptAskRows

@@ -1,0 +1,1 @@
+-- ask: the clauses of rows and processes.
