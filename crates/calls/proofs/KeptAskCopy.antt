@@ -10,9 +10,9 @@ use native.Mathlib.Omega.{arith}
 use Rattle.rows.specs.declared.Row.{Row}
 use Rattle.rows.specs.declared.Request.{Request}
 use Rattle.rows.specs.declared.Process.{Process}
-use Rattle.rows.specs.Lists.{if_then_else_, all, each, firstWith, member, between, some}
-use Rattle.rows.specs.Limits.{processes, allRights, greatestDepth}
-use Rattle.rows.specs.Codes.{clientEnd, isOperation, isSubdirectory, isClient, isServer, isEnd, isCopied, inClist, withSystem, isNode, isClist, isSystem, mayTransfer, within}
+use Rattle.rows.specs.Lists.{if_then_else_, all, each, firstWith, member, some}
+use Rattle.rows.specs.Limits.{allRights, greatestDepth}
+use Rattle.rows.specs.Codes.{clientEnd, isOperation, isSubdirectory, isClient, isServer, isEnd, isCopied, inClist, withSystem, isSystem, mayTransfer, within}
 use Rattle.rows.specs.Tables.{State, noRow, rowOf, requestOf, depthOver, numbers, lists}
 use Rattle.rows.specs.Sound.{objectInRange, objectsInRange, rightInRange, placeInRange, isPortEnd, isLentCopy, sourceRight, depthRight, copyMatches, endPaired, copyListed, isFetched, awaitsFetch, same}
 use Rattle.rows.proofs.Bools.{clash, and-l, and-r, and-i, or-cases, or-l, or-r, or-fl, or-fr, not-t, not-f, eqb-self, pos-some}
@@ -25,7 +25,7 @@ use Rattle.calls.specs.Loans.{itemRow, moves, copyDepth, copyLent, newRe
 use Rattle.calls.specs.Calls.{lacksRight}
 use Rattle.calls.proofs.AddRow.{row-there, row-below, next-some}
 use Rattle.calls.proofs.KeptMoved.{moved, row-same, kind-same, depth-same, end-right}
-use Rattle.calls.proofs.KeptLoans.{system-no-node, same-eq}
+use Rattle.calls.proofs.KeptLoans.{system-no-node, system-in-range, same-eq}
 
 -- what the refusals and the text leave of an item that is copied
 unfoldable pub lendable : State → ℕ → ℕ → Item → Bool
@@ -109,8 +109,7 @@ module _ (st : State) (s : Sound st) (p c : ℕ) (client : isClient (rowOf (st .
     copy-right = rw no-end (let l : leb (i .rights) allRights ≡ true = search (and-l, and-r) in l)
 
     pub copy-place : placeInRange (st .processes) (copyLent st c (st .next) n i) ≡ true
-    unfolding placeInRange copyLent copyOf isClist isSystem withSystem inClist between processes
-    copy-place = rw system-no-node refl
+    copy-place = system-in-range (st .processes) (copyLent st c (st .next) n i) (unfold copyLent copyOf in refl)
 
     pub copy-paired : (rs : List Row) → endPaired rs (copyLent st c (st .next) n i) ≡ true
     unfolding endPaired

@@ -191,6 +191,10 @@ pub system-no-node : isNode withSystem ≡ false
 unfolding isNode withSystem between nodes
 system-no-node = refl
 
+pub system-in-range : (ps : List Process) (r : Row) → r .place ≡ withSystem → placeInRange ps r ≡ true
+unfolding placeInRange isClist isSystem withSystem between inClist processes
+system-in-range ps r e = rw (e, system-no-node) refl
+
 -- every process stays placed, if the subdirectory rows in c-lists stay
 pub placed-kept : (rs rs′ : List Row) → ((e p : ℕ) → p ≤ 64 → isSubdirectory (rowOf rs e .kind) ≡ true → rowOf rs e .place ≡ inClist p → rowOf rs′ e ≡ rowOf rs e)
     → (p : ℕ) (ps : List Process) → p + length ps ≤ 65 → placedFrom rs p ps ≡ true → placedFrom rs′ p ps ≡ true
