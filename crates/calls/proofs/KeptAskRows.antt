@@ -148,3 +148,70 @@ module _ (st : State) (s : Sound st) (p c : ℕ) (is : List Item) (a : Asked st 
 
       step : (r : Row) → endPaired (lentRows st is) r ≡ true → endPaired (askedRows st c is) r ≡ true
       step r e = unfold endPaired in or-map (not (isEnd (r .kind))) (isPairedWith r (rowOf (lentRows st is) (otherEnd r))) (isPairedWith r (rowOf (askedRows st c is) (otherEnd r))) (other r) e
+
+  -- ---- loans
+  pub copies-listed : copiesListed (askedState st p c is) ≡ true
+  unfolding copiesListed
+  copies-listed =
+      rows-all (copyListed (asked st p c is ∷ st .requests))
+      (λ n i g l h. copy-listed st s p c (a .client) (named st is) (none-named st s p c is a) (listed st is (suc (st .next))) n i g (omega arith) (lists-copy st s p c is a n l h))
+      (all-map (copyListed (asked st p c is ∷ st .requests)) (moved (named st is) withSystem) (st .rows)
+      ∙ all-mono (copyListed (st .requests)) (λ r. copyListed (asked st p c is ∷ st .requests) (moved (named st is) withSystem r)) step (st .rows) (s .copies-listed))
+    where
+      step : (r : Row) → copyListed (st .requests) r ≡ true → copyListed (asked st p c is ∷ st .requests) (moved (named st is) withSystem r) ≡ true
+      step r e =
+          moved-same (named st is) withSystem (copyListed (asked st p c is ∷ st .requests)) (λ r. unfold copyListed placedIn in refl) r
+          ∙ (unfold copyListed in rw (request-old st s p c is a r e) e)
+
+  pub system-holds : systemHolds (askedState st p c is) ≡ true
+  unfolding systemHolds
+  system-holds =
+      rows-all holds
+      (λ n i g l h. copy-held st s p c (a .client) (named st is) (none-named st s p c is a) (listed st is (suc (st .next))) n i g (omega arith) (lists-copy st s p c is a n l h))
+      (all-map holds (moved (named st is) withSystem) (st .rows) ∙ of-rows st s (λ r. holds (moved (named st is) withSystem r)) (λ n m. pick n m (named st is n) refl))
+    where
+      holds : Row → Bool
+      holds r = same (isSystem (r .place)) (awaitsFetch (asked st p c is ∷ st .requests) (r .number))
+
+      at-system : isSystem withSystem ≡ true
+      at-system = unfold isSystem withSystem in refl
+
+      awaited : (n : ℕ) → named st is n ≡ true → awaitsFetch (asked st p c is ∷ st .requests) n ≡ true
+      awaited n g = unfold awaitsFetch in rw (lists-named st s p c is a n g) (unfold isFetched newRequest in refl)
+
+      unlisted : (n : ℕ) → n < st .next → named st is n ≡ false → lists n (asked st p c is) ≡ false
+      unlisted n h g = false-of (lists n (asked st p c is)) (λ t. neither (lists-cases st s p c is a n t))
+        where
+          neither : (named st is n ≡ true) ⊎ ((suc (st .next) ≤ n) × (n < suc (st .next) + length (copies st is))) → ⊥
+          neither (inl q) = clash q g
+          neither (inr (l, u)) = omega arith
+
+      as-before : (n : ℕ) → n < st .next → named st is n ≡ false → awaitsFetch (asked st p c is ∷ st .requests) n ≡ awaitsFetch (st .requests) n
+      as-before n h g = unfold awaitsFetch in rw (unlisted n h g) refl
+
+      pick : (n : ℕ) → member n (numbers (st .rows)) ≡ true → (b : Bool) → named st is n ≡ b → holds (moved (named st is) withSystem (rowOf (st .rows) n)) ≡ true
+      pick n m true g =
+          same-eq (isSystem (moved (named st is) withSystem (rowOf (st .rows) n) .place)) (awaitsFetch (asked st p c is ∷ st .requests) (moved (named st is) withSystem (rowOf (st .rows) n) .number))
+          (ap isSystem (moved-goes (named st is) withSystem (rowOf (st .rows) n) (ap (named st is) (row-number st s n m) ∙ g))
+          ∙ at-system
+          ∙ sym (ap (awaitsFetch (asked st p c is ∷ st .requests)) (moved-number (named st is) withSystem (rowOf (st .rows) n) ∙ row-number st s n m) ∙ awaited n g))
+      pick n m false g =
+          rw (moved-stays (named st is) withSystem (rowOf (st .rows) n) (ap (named st is) (row-number st s n m) ∙ g))
+          (rw (row-number st s n m, as-before n (row-below st s n m .1) g) (held-so st s n m))
+
+  -- ---- processes
+  pub processes-placed : processesPlaced (askedState st p c is) ≡ true
+  unfolding processesPlaced
+  processes-placed =
+      placed-kept (st .rows) (askedRows st c is) stays 1 (st .processes)
+      (let l : length (st .processes) ≡ 64 = unfold recordsFit processes in eqb-true (length (st .processes)) 64 (s .records-fit) in omega arith) (s .processes-placed)
+    where
+      no-end : (k : ℕ) → isSubdirectory k ≡ true → isEnd k ≡ false
+      no-end k e = copied-no-end k (unfold isCopied in or-r (isOperation k) (isSubdirectory k) e)
+
+      stays : (e k : ℕ) → k ≤ 64 → isSubdirectory (rowOf (st .rows) e .kind) ≡ true → rowOf (st .rows) e .place ≡ inClist k → rowOf (askedRows st c is) e ≡ rowOf (st .rows) e
+      stays e k u sub at =
+          let m : member e (numbers (st .rows)) ≡ true = row-there (λ r. isSubdirectory (r .kind)) (unfold noRow isSubdirectory subdirectory in refl) (st .rows) e sub in
+          let below : e < st .next = row-below st s e m .1 in
+          let g : named st is e ≡ false = false-of (named st is e) (λ g. clash (named-end st is e g) (no-end (rowOf (st .rows) e .kind) sub)) in
+          old-found st s p c is a e (omega arith) ∙ moved-stays (named st is) withSystem (rowOf (st .rows) e) (ap (named st is) (row-number st s e m) ∙ g)
