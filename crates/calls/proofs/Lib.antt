@@ -21,3 +21,7 @@ pub mod KeptAskCopy
 pub mod KeptAskFacts
 -- ask: the clauses of rows and processes
 pub mod KeptAskRows
+-- ask: the clauses of requests and numbers
+pub mod KeptAskRequests
+-- ask keeps the tables sound
+pub mod KeptAsk

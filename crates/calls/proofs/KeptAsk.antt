@@ -1,0 +1,1 @@
+-- ask keeps the tables sound.
