@@ -24,6 +24,7 @@ use Rattle.calls.specs.Rules.{notHeld, tooDeep, copyOf}
 use Rattle.calls.specs.Loans.{itemRow, moves, copyDepth, copyLent, newRequest}
 use Rattle.calls.specs.Calls.{lacksRight}
 use Rattle.calls.proofs.AddRow.{row-there, row-below, next-some}
+use Rattle.calls.proofs.Stand.{clist-no-row, row-object}
 use Rattle.calls.proofs.KeptMoved.{moved, row-same, kind-same, depth-same, end-right}
 use Rattle.calls.proofs.KeptLoans.{system-no-node, system-in-range, same-eq}
 
@@ -34,7 +35,7 @@ lendable st p c i =
 
 pub held-there : (st : State) (p e : ℕ) → notHeld st p e ≡ false → member e (numbers (st .rows)) ≡ true
 unfolding notHeld
-held-there st p e h = row-there (λ r. eqb (r .place) (inClist p)) (unfold noRow inClist in ne-eqb 0 (100 + p) (λ z. omega arith)) (st .rows) e (not-f (eqb (rowOf (st .rows) e .place) (inClist p)) h)
+held-there st p e h = row-there (λ r. eqb (r .place) (inClist p)) (clist-no-row p) (st .rows) e (not-f (eqb (rowOf (st .rows) e .place) (inClist p)) h)
 
 pub client-there : (st : State) (c : ℕ) → isClient (rowOf (st .rows) c .kind) ≡ true → member c (numbers (st .rows)) ≡ true
 client-there st c h = row-there (λ r. isClient (r .kind)) (unfold noRow isClient clientEnd in refl) (st .rows) c h
@@ -87,8 +88,7 @@ module _ (st : State) (s : Sound st) (p c : ℕ) (client : isClient (rowOf (st .
         le-leb (copyDepth st c i) greatestDepth (ltb-false greatestDepth (copyDepth st c i) (not-t (ltb greatestDepth (copyDepth st c i)) d))
 
     object-of : objectInRange (st .processes) (rowOf (st .rows) (i .row)) ≡ true
-    unfolding rowOf numbers objectsInRange
-    object-of = all-first (λ r. r .number) noRow (objectInRange (st .processes)) (st .rows) (i .row) (s .objects-in-range) there
+    object-of = row-object st s (i .row) there
 
     pub copy-no-end : isEnd (copyLent st c (st .next) n i .kind) ≡ false
     unfolding copyLent copyOf itemRow

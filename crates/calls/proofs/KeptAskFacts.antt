@@ -24,6 +24,7 @@ use Rattle.calls.specs.Rules.{notHeld, hasOpen}
 use Rattle.calls.specs.Loans.{copies, newRequest}
 use Rattle.calls.proofs.AddRow.{row-below, row-there, rows-top, requests-top, next-some}
 use Rattle.calls.proofs.KeptMoved.{moved, moved-number, row-moved, row-same}
+use Rattle.calls.proofs.KeptLoans.{no-request-lists}
 use Rattle.calls.proofs.KeptAskItems.{named, listed, stacked}
 use Rattle.calls.proofs.KeptAskList.{member-pad, named-at, named-listed, copy-listed, listed-cases}
 use Rattle.calls.proofs.KeptAskStack.{row-stacked, numbers-stacked}
@@ -56,14 +57,6 @@ asked st p c is = newRequest (st .next) c p (listed st is (suc (st .next)))
 abbrev pub askedState : State → ℕ → ℕ → List Item → State
 askedState st p c is =
     record { rows = askedRows st c is; requests = asked st p c is ∷ st .requests; processes = st .processes; next = suc (st .next) + length (copies st is) }
-
-none-lists : (e : ℕ) → lists e noRequest ≡ false
-unfolding lists noRequest member
-none-lists e = pick (some e)
-  where
-    pick : (b : Bool) → b && false ≡ false
-    pick true = refl
-    pick false = refl
 
 module _ (st : State) (s : Sound st) (p c : ℕ) (is : List Item) (a : Asked st p c is) where
   -- ---- the ends named
@@ -128,7 +121,7 @@ module _ (st : State) (s : Sound st) (p c : ℕ) (is : List Item) (a : Asked st 
       unborne q (inr l) =
           let b : st .next ≡ r .request = eqb-true (st .next) (r .request) q in
           let none : firstWith (λ v. v .number) noRequest (st .requests) (r .request) ≡ noRequest = first-none (λ v. v .number) noRequest (st .requests) (r .request) (rw (← b) next-unused) in
-          clash (and-r (ltb (r .request) (r .number)) (lists (r .number) (firstWith (λ v. v .number) noRequest (st .requests) (r .request))) l) (ap (lists (r .number)) none ∙ none-lists (r .number))
+          clash (and-r (ltb (r .request) (r .number)) (lists (r .number) (firstWith (λ v. v .number) noRequest (st .requests) (r .request))) l) (ap (lists (r .number)) none ∙ no-request-lists (r .number))
 
       pick : (b : Bool) → eqb (st .next) (r .request) ≡ b
           → cond b (asked st p c is) (firstWith (λ v. v .number) noRequest (st .requests) (r .request)) ≡ firstWith (λ v. v .number) noRequest (st .requests) (r .request)

@@ -23,9 +23,10 @@ use Rattle.calls.specs.declared.Item.{Item}
 use Rattle.calls.specs.Rules.{notHeld, hasOpen}
 use Rattle.calls.specs.Loans.{copies, newRequest}
 use Rattle.calls.proofs.AddRow.{row-there, row-below, requests-top, requests-below, next-some, none-lists}
+use Rattle.calls.proofs.Stand.{clist-not-system}
 use Rattle.calls.proofs.KeptLists.{all-found}
 use Rattle.calls.proofs.KeptMoved.{moved, moved-same, moved-number}
-use Rattle.calls.proofs.KeptLoans.{not-awaited, held-so, same-left, row-number, listed-range, clist-no-system}
+use Rattle.calls.proofs.KeptLoans.{listers-fetched, held-so, same-left, row-number}
 use Rattle.calls.proofs.KeptAskItems.{named, listed, stacked}
 use Rattle.calls.proofs.KeptAskList.{length-pad, nonzero-pad, nonzero-all, named-end, named-at, listed-length, listed-some, listed-apart, listed-cases}
 use Rattle.calls.proofs.KeptAskStack.{bears-stacked}
@@ -209,13 +210,13 @@ module _ (st : State) (s : Sound st) (p c : ℕ) (is : List Item) (a : Asked st 
       in-clist : (e : ℕ) → named st is e ≡ true → isSystem (rowOf (st .rows) e .place) ≡ false
       in-clist e g =
           let held : rowOf (st .rows) e .place ≡ inClist p = unfold notHeld in eqb-true (rowOf (st .rows) e .place) (inClist p) (not-f (eqb (rowOf (st .rows) e .place) (inClist p)) (named-held st s p c is a e g)) in
-          ap isSystem held ∙ clist-no-system p (listed-range (st .processes) p (unfold recordsFit processes in eqb-true (length (st .processes)) 64 (s .records-fit)) (a .process) .1)
+          ap isSystem held ∙ clist-not-system st s p (a .process)
 
       -- what the new request lists no unfetched one lists
       unshared : (w : ℕ) → member w (map (λ v. v .number) (st .requests)) ≡ true → isFetched (requestOf (st .requests) w) ≡ false
           → (e : ℕ) → (named st is e ≡ true) ⊎ ((suc (st .next) ≤ e) × (e < suc (st .next) + length (copies st is))) → lists e (requestOf (st .requests) w) ≡ false
       unshared w t f e (inl g) =
-          let all-fetched = not-awaited e (st .requests) (s .older-fetched) (same-left (isSystem (rowOf (st .rows) e .place)) (awaitsFetch (st .requests) e) (held-so st s e (held-there st p e (named-held st s p c is a e g))) (in-clist e g)) in
+          let all-fetched = listers-fetched e (st .requests) (s .older-fetched) (same-left (isSystem (rowOf (st .rows) e .place)) (awaitsFetch (st .requests) e) (held-so st s e (held-there st p e (named-held st s p c is a e g))) (in-clist e g)) in
           not-t (lists e (requestOf (st .requests) w)) (rw f at (at w t (λ w. isFetched w || not (lists e w)) all-fetched))
       unshared w t f e (inr (lo, hi)) =
           let new : member e (numbers (st .rows)) ≡ false = false-of (member e (numbers (st .rows))) (λ m. let (l, h) = row-below st s e m in omega arith) in

@@ -24,9 +24,10 @@ use Rattle.calls.specs.declared.Item.{Item}
 use Rattle.calls.specs.Rules.{notHeld}
 use Rattle.calls.specs.Loans.{copies, copyLent, newRequest}
 use Rattle.calls.proofs.AddRow.{row-there, row-below, rows-top}
+use Rattle.calls.proofs.Stand.{copied-no-end, clist-not-node}
 use Rattle.calls.proofs.KeptLists.{all-map, top-map}
-use Rattle.calls.proofs.KeptMoved.{moved, mayMove, copied-no-end, moved-same, moved-number, moved-stays, moved-goes, kind-same, depths-moved, copies-moved, objects-moved, rights-moved, paired-moved, sources-moved}
-use Rattle.calls.proofs.KeptLoans.{of-rows, row-number, held-so, same-eq, clist-no-node, system-no-node, system-in-range, placed-kept}
+use Rattle.calls.proofs.KeptMoved.{moved, mayMove, moved-same, moved-number, moved-stays, moved-goes, kind-same, depths-moved, copies-moved, objects-moved, rights-moved, paired-moved, sources-moved}
+use Rattle.calls.proofs.KeptLoans.{of-rows, row-number, held-so, same-eq, system-no-node, system-in-range, placed-still}
 use Rattle.calls.proofs.KeptAskItems.{named, listed, stacked}
 use Rattle.calls.proofs.KeptAskList.{named-end}
 use Rattle.calls.proofs.KeptAskStack.{row-stacked, length-stacked, rises-stacked, top-stacked, all-stacked, each-stacked}
@@ -104,7 +105,7 @@ module _ (st : State) (s : Sound st) (p c : ℕ) (is : List Item) (a : Asked st 
           → not (named st is (rowOf (st .rows) n .number)) || (not (isNode (rowOf (st .rows) n .place)) && (isEnd (rowOf (st .rows) n .kind) || some (rowOf (st .rows) n .request))) ≡ true
       pick n m true g =
           let at : rowOf (st .rows) n .place ≡ inClist p = unfold notHeld in eqb-true (rowOf (st .rows) n .place) (inClist p) (not-f (eqb (rowOf (st .rows) n .place) (inClist p)) (named-held st s p c is a n g)) in
-          rw (row-number st s n m, g, at, clist-no-node p, named-end st is n g) refl
+          rw (row-number st s n m, g, at, clist-not-node p, named-end st is n g) refl
       pick n m false g = rw (row-number st s n m, g) refl
 
   pub sources-right : sourcesRight (askedState st p c is) ≡ true
@@ -203,7 +204,7 @@ module _ (st : State) (s : Sound st) (p c : ℕ) (is : List Item) (a : Asked st 
   pub processes-placed : processesPlaced (askedState st p c is) ≡ true
   unfolding processesPlaced
   processes-placed =
-      placed-kept (st .rows) (askedRows st c is) stays 1 (st .processes)
+      placed-still (st .rows) (askedRows st c is) stays 1 (st .processes)
       (let l : length (st .processes) ≡ 64 = unfold recordsFit processes in eqb-true (length (st .processes)) 64 (s .records-fit) in omega arith) (s .processes-placed)
     where
       no-end : (k : ℕ) → isSubdirectory k ≡ true → isEnd k ≡ false

@@ -23,9 +23,11 @@ use Rattle.closing.specs.Closing.{placedIn}
 use Rattle.calls.specs.Rules.{Out, refusedIf, notHeld}
 use Rattle.calls.specs.Loans.{handedTo, nowFetched, withFetched}
 use Rattle.calls.specs.Calls.{fetchedAnswer, doFetch}
-use Rattle.calls.proofs.KeptLists.{Kept, unless, all-map, each-map, top-map, all-found, other-there, other-same}
+use Rattle.calls.proofs.AddRow.{unless, member-nonzero}
+use Rattle.calls.proofs.Stand.{clist-not-node, clist-not-system, clist-in-range}
+use Rattle.calls.proofs.KeptLists.{all-map, each-map, top-map, all-found, other-there, other-same}
 use Rattle.calls.proofs.KeptMoved.{moved, mayMove, moved-same, moved-stays, moved-goes, moved-number, row-moved, depths-moved, copies-moved, objects-moved, rights-moved, paired-moved, ports-moved, listed-moved, sources-moved}
-use Rattle.calls.proofs.KeptLoans.{of-rows, row-number, held-so, same-right, same-left, same-eq, member-filter, not-awaited, now-same, now-number, now-lists, still-fetched, request-now, fetched-now, awaits-same, listed-range, clist-range, clist-owner, clist-no-node, clist-no-system, system-no-node, placed-kept}
+use Rattle.calls.proofs.KeptLoans.{of-rows, row-number, held-so, same-right, same-left, same-eq, listers-fetched, now-same, now-number, now-lists, still-fetched, request-now, fetched-now, awaits-same, clist-no-system, system-no-node, placed-still}
 
 -- v is an open request of sound tables, not fetched, and p a listed process
 module _ (st : State) (s : Sound st) (p : ℕ) (v : Request) (found : requestOf (st .requests) (v .number) ≡ v) (there : member (v .number) (map (λ v. v .number) (st .requests)) ≡ true)
@@ -53,16 +55,15 @@ module _ (st : State) (s : Sound st) (p : ℕ) (v : Request) (found : requestOf 
   awaited : (e : ℕ) → goes e ≡ true → awaitsFetch (st .requests) e ≡ true
   awaited e g =
       true-of (awaitsFetch (st .requests) e) λ a.
-      clash (of-request (λ w. isFetched w || not (lists e w)) (not-awaited e (st .requests) (unfold olderFetched in s .older-fetched) a)) (rw (unfetched, g) refl)
+      clash (of-request (λ w. isFetched w || not (lists e w)) (listers-fetched e (st .requests) (unfold olderFetched in s .older-fetched) a)) (rw (unfetched, g) refl)
+
+  item : (e : ℕ) → some e && member e (v .items) ≡ true → member e (nonzero (v .items)) ≡ true
+  item e q = member-nonzero e (and-l (some e) (member e (v .items)) q) (v .items) (and-r (some e) (member e (v .items)) q)
 
   may-be : (e : ℕ) → goes e ≡ true → mayBeListed v (rowOf (st .rows) e) ≡ true
   may-be e g =
       all-at (λ e. mayBeListed v (rowOf (st .rows) e)) (nonzero (v .items))
-      (of-request (λ v. all (λ e. mayBeListed v (rowOf (st .rows) e)) (nonzero (v .items))) (unfold itemsLent in s .items-lent)) e (there-too (unfold lists in g))
-    where
-      there-too : some e && member e (v .items) ≡ true → member e (nonzero (v .items)) ≡ true
-      there-too q = unfold nonzero in member-filter some (v .items) e (and-l (some e) (member e (v .items)) q) (and-r (some e) (member e (v .items)) q)
-
+      (of-request (λ v. all (λ e. mayBeListed v (rowOf (st .rows) e)) (nonzero (v .items))) (unfold itemsLent in s .items-lent)) e (item e (unfold lists in g))
   -- what goes is with the system
   system-had : (n : ℕ) → member n (numbers (st .rows)) ≡ true → goes n ≡ true → rowOf (st .rows) n .place ≡ withSystem
   system-had n m g =
@@ -86,9 +87,6 @@ module _ (st : State) (s : Sound st) (p : ℕ) (v : Request) (found : requestOf 
 
   positive : 0 < v .number
   positive = rises-range (λ v. v .number) (st .requests) (unfold requestsRise in s .requests-rise) (v .number) there .0
-
-  range : (1 ≤ p) × (p ≤ 64)
-  range = listed-range (st .processes) p (unfold recordsFit processes in eqb-true (length (st .processes)) 64 (s .records-fit)) listed
 
   -- ---- the clauses
   rows-rise : rowsRise after ≡ true
@@ -141,13 +139,8 @@ module _ (st : State) (s : Sound st) (p : ℕ) (v : Request) (found : requestOf 
       all-map (placeInRange (st .processes)) (moved goes (inClist p)) (st .rows)
       ∙ all-mono (placeInRange (st .processes)) (λ r. placeInRange (st .processes) (moved goes (inClist p) r)) (λ r e. unfold moved in pick r (goes (r .number)) e) (st .rows) (s .places-in-range)
     where
-      there-now : (r : Row) → placeInRange (st .processes) (placedIn (inClist p) r) ≡ true
-      there-now r =
-          unfold placeInRange placedIn in
-          rw (clist-no-node p, clist-range p (range .0) (range .1), clist-owner p, listed) refl
-
       pick : (r : Row) (b : Bool) → placeInRange (st .processes) r ≡ true → placeInRange (st .processes) (cond b (placedIn (inClist p) r) r) ≡ true
-      pick r true e = there-now r
+      pick r true e = clist-in-range st s p listed (placedIn (inClist p) r) (unfold placedIn in refl)
       pick r false e = e
 
   fetched-in-range : fetchedInRange after ≡ true
@@ -163,7 +156,7 @@ module _ (st : State) (s : Sound st) (p : ℕ) (v : Request) (found : requestOf 
   sources-right : sourcesRight after ≡ true
   unfolding sourcesRight
   sources-right =
-      sources-moved goes (inClist p) none-goes (clist-no-node p) (st .requests) requests′ (st .rows) may-move
+      sources-moved goes (inClist p) none-goes (clist-not-node p) (st .requests) requests′ (st .rows) may-move
       (λ r _. ap (λ w. w .port) (request-now (v .number) (st .requests) (r .request) positive) ∙ now-same (v .number) (λ w. w .port) (λ n c a k is. refl) (requestOf (st .requests) (r .request)))
       (unfold copiesListed in s .copies-listed) (s .sources-right)
 
@@ -266,7 +259,7 @@ module _ (st : State) (s : Sound st) (p : ℕ) (v : Request) (found : requestOf 
       pick n m true g =
           same-eq (isSystem (moved goes (inClist p) (rowOf (st .rows) n) .place)) (awaitsFetch requests′ (moved goes (inClist p) (rowOf (st .rows) n) .number))
           (ap isSystem (moved-goes goes (inClist p) (rowOf (st .rows) n) (ap goes (row-number st s n m) ∙ g))
-          ∙ clist-no-system p (range .1)
+          ∙ clist-not-system st s p listed
           ∙ sym
           (ap (awaitsFetch requests′) (moved-number goes (inClist p) (rowOf (st .rows) n) ∙ row-number st s n m)
           ∙ fetched-now (v .number) n (st .requests) (unfold olderFetched in s .older-fetched) there (rw found unfetched) (rw found g)))
@@ -277,7 +270,7 @@ module _ (st : State) (s : Sound st) (p : ℕ) (v : Request) (found : requestOf 
   processes-placed : processesPlaced after ≡ true
   unfolding processesPlaced
   processes-placed =
-      placed-kept (st .rows) rows′ (λ e k hi sub at. row-moved goes (inClist p) none-goes (st .rows) e ∙ stays e k hi sub at) 1 (st .processes)
+      placed-still (st .rows) rows′ (λ e k hi sub at. row-moved goes (inClist p) none-goes (st .rows) e ∙ stays e k hi sub at) 1 (st .processes)
       (let l : length (st .processes) ≡ 64 = unfold recordsFit processes in eqb-true (length (st .processes)) 64 (s .records-fit) in omega arith) (s .processes-placed)
     where
       stays : (e k : ℕ) → k ≤ 64 → isSubdirectory (rowOf (st .rows) e .kind) ≡ true → rowOf (st .rows) e .place ≡ inClist k → moved goes (inClist p) (rowOf (st .rows) e) ≡ rowOf (st .rows) e
@@ -331,7 +324,7 @@ open-there vs c t = other-there (λ v. v .number) noRequest (λ v. v .port) (unf
 pub fetch-kept : (st : State) → Sound st → (p e : ℕ) → isListed (st .processes) p ≡ true → Sound (doFetch st p e .after)
 unfolding doFetch withFetched handedTo moved requestsRise
 fetch-kept st s p e listed =
-    (unless _ 7 s λ _. unless _ 8 s λ _. unless _ 11 s λ e11. record { sound = taken (or-fl (eqb (v .number) 0) (isFetched v) e11) (or-fr (eqb (v .number) 0) (isFetched v) e11) }) .sound
+    unless _ _ 7 s λ _. unless _ _ 8 s λ _. unless _ _ 11 s λ e11. taken (or-fl (eqb (v .number) 0) (isFetched v) e11) (or-fr (eqb (v .number) 0) (isFetched v) e11)
   where
     c : ℕ
     c = rowOf (st .rows) e .object

@@ -1,4 +1,4 @@
--- What the proofs on ask and fetch share: a refused call, mapped lists, look-up by two keys.
+-- Laws of lists that the proofs on ask and fetch share: mapped lists, look-up by two keys.
 use Prim.Native.Nat.{ℕ, zero, suc, _<_, _≤_}
 use mathlib.Core.Bool.{Bool, true, false, not, cond, _&&_, _||_}
 use mathlib.Core.List.{List, [], _∷_, map}
@@ -12,16 +12,6 @@ use Rattle.rows.proofs.Bools.{clash, and-l, and-r, and-i, or-l, or-r, eqb-sym-f
 use Rattle.rows.proofs.Keyed.{first-key, first-none, rises-rest, rises-fresh, rises-older}
 use Rattle.rows.proofs.Sound.{Sound}
 use Rattle.calls.specs.Rules.{Out, refusedIf}
-
--- the tables after a call are sound
-pub record Kept (o : Out) : Type 0 where
-  pub sound : Sound (o .after)
-
--- a refused call keeps the tables: what is left is the case in which the test fails
-pub unless : {st : State} (b : Bool) (k : ℕ) {o : Out} → Sound st → (b ≡ false → Kept o) → Kept (refusedIf st b k o)
-unfolding refusedIf
-unless true k s f = record { sound = s }
-unless false k s f = f refl
 
 module _ {A : Type 0} where
   pub all-map : {B : Type 0} (f : B → Bool) (g : A → B) (xs : List A) → all f (map g xs) ≡ all (λ x. f (g x)) xs

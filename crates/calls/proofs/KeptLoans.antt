@@ -32,24 +32,21 @@ any-at f (k ∷ ns) n m e = pick (any-at f ns n) (eqb n k) refl m
     pick ih true q m = or-l (f k) (any f ns) (ap f (sym (eqb-true n k q)) ∙ e)
     pick ih false q m = or-r (f k) (any f ns) (ih m e)
 
-pub member-filter : (f : ℕ → Bool) (ns : List ℕ) (n : ℕ) → f n ≡ true → member n ns ≡ true → member n (filter f ns) ≡ true
-unfolding member filter
-member-filter f [] n e m = m
-member-filter f (k ∷ ns) n e m = pick (member-filter f ns n e) (eqb n k) refl (f k) refl m
+pub no-request-lists : (e : ℕ) → lists e noRequest ≡ false
+unfolding lists noRequest member
+no-request-lists e = pick (some e)
   where
-    pick : (member n ns ≡ true → member n (filter f ns) ≡ true) → (b : Bool) → eqb n k ≡ b → (c : Bool) → f k ≡ c → b || member n ns ≡ true → member n (cond c (k ∷ filter f ns) (filter f ns)) ≡ true
-    pick ih true q true w m = or-l (eqb n k) (member n (filter f ns)) q
-    pick ih true q false w m = clash (ap f (sym (eqb-true n k q)) ∙ e) w
-    pick ih false q true w m = or-r (eqb n k) (member n (filter f ns)) (ih m)
-    pick ih false q false w m = ih m
+    pick : (b : Bool) → b && false ≡ false
+    pick true = refl
+    pick false = refl
 
 -- ---- what awaits fetch
 module _ (e : ℕ) where
   -- of what no request awaits, every request that lists it is fetched
-  pub not-awaited : (vs : List Request) → each olderFetchedBy vs ≡ true → awaitsFetch vs e ≡ false → all (λ w. isFetched w || not (lists e w)) vs ≡ true
+  pub listers-fetched : (vs : List Request) → each olderFetchedBy vs ≡ true → awaitsFetch vs e ≡ false → all (λ w. isFetched w || not (lists e w)) vs ≡ true
   unfolding each awaitsFetch all
-  not-awaited [] o a = refl
-  not-awaited (v ∷ vs) o a = pick (not-awaited vs (and-r (olderFetchedBy v vs) (each olderFetchedBy vs) o)) (lists e v) refl a
+  listers-fetched [] o a = refl
+  listers-fetched (v ∷ vs) o a = pick (listers-fetched vs (and-r (olderFetchedBy v vs) (each olderFetchedBy vs) o)) (lists e v) refl a
     where
       older : lists e v ≡ true → (w : Request) → isFetched w || not (any (λ x. lists x w) (v .items)) ≡ true → isFetched w || not (lists e w) ≡ true
       older q w = or-map (isFetched w) (not (any (λ x. lists x w) (v .items))) (not (lists e w)) (λ n. unlisted w (not-t (any (λ x. lists x w) (v .items)) n))
@@ -141,11 +138,7 @@ module _ (q e : ℕ) where
       none-after : eqb (w .number) q ≡ true → lists e (firstWith (λ v. v .number) noRequest ws q) ≡ false
       none-after z =
           let f : member q (map (λ v. v .number) ws) ≡ false = ap (λ n. member n (map (λ v. v .number) ws)) (sym (eqb-true (w .number) q z)) ∙ rises-fresh (λ v. v .number) w ws r in
-          rw (first-none (λ v. v .number) noRequest ws q f) (unfold lists noRequest in and-none (some e))
-        where
-          and-none : (b : Bool) → b && member e [] ≡ false
-          and-none true = refl
-          and-none false = refl
+          rw (first-none (λ v. v .number) noRequest ws q f) (no-request-lists e)
 
       pick : (lists e (firstWith (λ v. v .number) noRequest ws q) ≡ false → awaitsFetch (map (nowFetched q) ws) e ≡ awaitsFetch ws e)
           → (b : Bool) → eqb (w .number) q ≡ b → lists e (cond b w (firstWith (λ v. v .number) noRequest ws q)) ≡ false
@@ -153,36 +146,7 @@ module _ (q e : ℕ) where
       pick ih true z l = rw (now-lists q e w, l) (ih (none-after z))
       pick ih false z l = rw (now-other q w z) (rw (ih l) refl)
 
--- ---- processes and their places
--- a listed process is one of the records
-pub listed-range : (ps : List Process) (p : ℕ) → length ps ≡ 64 → isListed ps p ≡ true → (1 ≤ p) × (p ≤ 64)
-unfolding isListed processAt
-listed-range ps zero l t = clash t (unfold noProcess some in refl)
-listed-range ps (suc i) l t = (omega arith, pick (leb 64 i) refl)
-  where
-    pick : (b : Bool) → leb 64 i ≡ b → suc i ≤ 64
-    pick true q =
-        let ge : 64 ≤ i = leb-true 64 i q in
-        let le : length ps ≤ i = omega arith in
-        clash t (rw (List·getD-eq-default ps noProcess le) (unfold noProcess some in refl))
-    pick false q = let lt : i < 64 = leb-false 64 i q in omega arith
-
-pub clist-range : (p : ℕ) → 1 ≤ p → p ≤ 64 → isClist (inClist p) ≡ true
-unfolding isClist inClist between processes
-clist-range p lo hi = and-i (leb 101 (100 + p)) (leb (100 + p) 164) (le-leb 101 (100 + p) (omega arith)) (le-leb (100 + p) 164 (omega arith))
-
-pub clist-owner : (p : ℕ) → ownerOf (inClist p) ≡ p
-unfolding ownerOf inClist
-clist-owner p = omega arith
-
-pub clist-no-node : (p : ℕ) → isNode (inClist p) ≡ false
-unfolding isNode inClist between nodes
-clist-no-node p = pick (leb 1 (100 + p)) (lt-leb (100 + p) 32 (omega arith))
-  where
-    pick : (a : Bool) → leb (100 + p) 32 ≡ false → a && leb (100 + p) 32 ≡ false
-    pick true q = q
-    pick false q = refl
-
+-- ---- places
 pub clist-no-system : (p : ℕ) → p ≤ 64 → isSystem (inClist p) ≡ false
 unfolding isSystem inClist withSystem
 clist-no-system p hi = ne-eqb (100 + p) 200 (λ z. omega arith)
@@ -196,13 +160,13 @@ unfolding placeInRange isClist isSystem withSystem between inClist processes
 system-in-range ps r e = rw (e, system-no-node) refl
 
 -- every process stays placed, if the subdirectory rows in c-lists stay
-pub placed-kept : (rs rs′ : List Row) → ((e p : ℕ) → p ≤ 64 → isSubdirectory (rowOf rs e .kind) ≡ true → rowOf rs e .place ≡ inClist p → rowOf rs′ e ≡ rowOf rs e)
+pub placed-still : (rs rs′ : List Row) → ((e p : ℕ) → p ≤ 64 → isSubdirectory (rowOf rs e .kind) ≡ true → rowOf rs e .place ≡ inClist p → rowOf rs′ e ≡ rowOf rs e)
     → (p : ℕ) (ps : List Process) → p + length ps ≤ 65 → placedFrom rs p ps ≡ true → placedFrom rs′ p ps ≡ true
 unfolding placedFrom
-placed-kept rs rs′ h p [] b e = refl
-placed-kept rs rs′ h p (x ∷ xs) b e =
+placed-still rs rs′ h p [] b e = refl
+placed-still rs rs′ h p (x ∷ xs) b e =
     and-i (processPlaced rs′ p x) (placedFrom rs′ (suc p) xs) (placed (and-l (processPlaced rs p x) (placedFrom rs (suc p) xs) e))
-    (placed-kept rs rs′ h (suc p) xs (omega arith) (and-r (processPlaced rs p x) (placedFrom rs (suc p) xs) e))
+    (placed-still rs rs′ h (suc p) xs (omega arith) (and-r (processPlaced rs p x) (placedFrom rs (suc p) xs) e))
   where
     rest : Row → Bool
     rest r = some (x .through) && (isSubdirectory (r .kind) && (eqb (r .place) (inClist p) && eqb (r .object) (x .active)))

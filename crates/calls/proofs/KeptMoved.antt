@@ -17,6 +17,7 @@ use Rattle.rows.specs.Sound.{objectInRange, rightInRange, isOpening, isRegister
 use Rattle.closing.specs.Closing.{placedIn}
 use Rattle.rows.proofs.Bools.{clash, and-l, and-r, and-i, or-l, or-r, or-cases, not-t, all-mono, all-eq, all-and}
 use Rattle.rows.proofs.Keyed.{first-map, first-none, all-first}
+use Rattle.calls.proofs.Stand.{copied-no-end}
 use Rattle.calls.proofs.KeptLists.{all-map, each-map, each-map-eq}
 
 -- the rows whose numbers pass the test go to place x
@@ -26,14 +27,6 @@ moved t x r = if t (r .number) then placedIn x r else r
 -- a row that may move: it is in no node, and is an end or bears a request's number
 unfoldable pub mayMove : (ℕ → Bool) → Row → Bool
 mayMove t r = not (t (r .number)) || (not (isNode (r .place)) && (isEnd (r .kind) || some (r .request)))
-
-pub copied-no-end : (k : ℕ) → isCopied k ≡ true → isEnd k ≡ false
-unfolding isCopied isEnd isOperation isSubdirectory isClient isServer operation subdirectory clientEnd serverEnd
-copied-no-end k e = pick (or-cases (eqb k 1) (eqb k 2) e)
-  where
-    pick : (eqb k 1 ≡ true) ⊎ (eqb k 2 ≡ true) → eqb k 3 || eqb k 4 ≡ false
-    pick (inl q) = let z : k ≡ 1 = eqb-true k 1 q in rw z refl
-    pick (inr q) = let z : k ≡ 2 = eqb-true k 2 q in rw z refl
 
 none-borne : (n : ℕ) → eqb n 0 ≡ true → some n ≡ false
 none-borne n e = let z : n ≡ 0 = eqb-true n 0 e in rw z (unfold some in refl)

@@ -1,5 +1,9 @@
--- Each call keeps the tables sound. One line a file:
--- laws of mapped lists and of look-up that the files on ask and fetch share
+-- The calls keep the tables sound. One line a file:
+-- refusals leave the tables, new rows before the old ones keep them sound
+pub mod AddRow
+-- what sound tables say of a row that is found and of a listed process
+pub mod Stand
+-- laws of mapped lists and of look-up by two keys
 pub mod KeptLists
 -- rows of which some change their place and nothing else: the clauses that this keeps
 pub mod KeptMoved
@@ -7,8 +11,6 @@ pub mod KeptMoved
 pub mod KeptLoans
 -- fetch keeps the tables sound
 pub mod KeptFetch
--- new rows before the old ones; a refusal
-pub mod AddRow
 -- what an ask lends, in closed form: the copies on top, the ends named, the list
 pub mod KeptAskItems
 -- what a new request lists: the ends named and the copies, each once
