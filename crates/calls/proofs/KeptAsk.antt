@@ -1,13 +1,12 @@
 -- ask keeps the tables sound.
-use Prim.Native.Nat.{ℕ, zero, suc, _+_, _<_, _≤_}
-use mathlib.Core.Bool.{Bool, true, false, not, cond, _&&_, _||_}
+use Prim.Native.Nat.{ℕ, suc, _<_, _≤_}
+use mathlib.Core.Bool.{Bool, true, false, not, cond, _&&_}
 use mathlib.Core.List.{List, [], _∷_, map}
-use mathlib.Core.Path.{_≡_, refl, sym, ap, _∙_, subst}
-use lib.Dec.{leb, ltb, eqb}
+use mathlib.Core.Path.{_≡_, refl, sym, subst}
+use lib.Dec.{leb}
 use lib.ListN.{length}
 use borrow.Author.Tests.{leb-false}
-use native.Mathlib.Omega.{arith}
-use Rattle.rows.specs.Lists.{if_then_else_, filter, any, all, distinct, some}
+use Rattle.rows.specs.Lists.{filter, any, all, distinct, some}
 use Rattle.rows.specs.Limits.{allRights, requestSlots, mostItems}
 use Rattle.rows.specs.Codes.{isClient}
 use Rattle.rows.specs.Tables.{State, rowOf, isListed}
@@ -15,7 +14,7 @@ use Rattle.rows.specs.Sound.{recordsFit, recordsInRange}
 use Rattle.rows.proofs.Bools.{and-i, not-f, or-fl, or-fr, all-and, all-filter}
 use Rattle.rows.proofs.Sound.{Sound}
 use Rattle.calls.specs.declared.Item.{Item}
-use Rattle.calls.specs.Rules.{Out, notHeld, hasOpen, tooDeep, rowsFull, requestsFull, numbersSpent}
+use Rattle.calls.specs.Rules.{notHeld, hasOpen, tooDeep, requestsFull}
 use Rattle.calls.specs.Loans.{moves, copies, copyDepth, Lending, lent, newRequest, withRequest}
 use Rattle.calls.specs.Calls.{made, lacksRight, isBusy, doAsk}
 use Rattle.calls.proofs.AddRow.{unless, rows-room, numbers-room}

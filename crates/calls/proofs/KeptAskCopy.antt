@@ -1,22 +1,20 @@
 -- A lent copy fits on top of the rows: each clause of it, where the ask is not refused.
-use Prim.Native.Nat.{ℕ, zero, suc, _+_, _<_, _≤_}
-use mathlib.Core.Bool.{Bool, true, false, not, cond, _&&_, _||_}
-use mathlib.Core.List.{List, [], _∷_, map}
-use mathlib.Core.Path.{_≡_, refl, sym, ap, _∙_, subst}
-use mathlib.Core.Logic.{_⊎_, inl, inr}
+use Prim.Native.Nat.{ℕ, suc, _<_}
+use mathlib.Core.Bool.{Bool, true, false, not, _&&_, _||_}
+use mathlib.Core.List.{List, _∷_, map}
+use mathlib.Core.Path.{_≡_, refl, ap, _∙_}
 use lib.Dec.{leb, ltb, eqb}
-use borrow.Author.Tests.{eqb-true, ne-eqb, ltb-false, lt-ltb, le-leb}
+use borrow.Author.Tests.{ltb-false, lt-ltb, le-leb}
 use native.Mathlib.Omega.{arith}
 use Rattle.rows.specs.declared.Row.{Row}
 use Rattle.rows.specs.declared.Request.{Request}
 use Rattle.rows.specs.declared.Process.{Process}
-use Rattle.rows.specs.Lists.{if_then_else_, all, each, firstWith, member, some}
+use Rattle.rows.specs.Lists.{firstWith, member}
 use Rattle.rows.specs.Limits.{allRights, greatestDepth}
 use Rattle.rows.specs.Codes.{clientEnd, isOperation, isSubdirectory, isClient, isServer, isEnd, isCopied, inClist, withSystem, isSystem, mayTransfer, within}
 use Rattle.rows.specs.Tables.{State, noRow, rowOf, requestOf, depthOver, numbers, lists}
-use Rattle.rows.specs.Sound.{objectInRange, objectsInRange, rightInRange, placeInRange, isPortEnd, isLentCopy, sourceRight, depthRight, copyMatches, endPaired, copyListed, isFetched, awaitsFetch, same}
-use Rattle.rows.proofs.Bools.{clash, and-l, and-r, and-i, or-cases, or-l, or-r, or-fl, or-fr, not-t, not-f, eqb-self, pos-some}
-use Rattle.rows.proofs.Keyed.{all-first}
+use Rattle.rows.specs.Sound.{objectInRange, rightInRange, placeInRange, isPortEnd, isLentCopy, sourceRight, depthRight, copyMatches, endPaired, copyListed, isFetched, awaitsFetch, same}
+use Rattle.rows.proofs.Bools.{clash, and-l, and-r, and-i, or-r, or-fl, or-fr, not-t, not-f, eqb-self, pos-some}
 use Rattle.rows.proofs.Sound.{Sound}
 use Rattle.closing.specs.Closing.{placedIn}
 use Rattle.calls.specs.declared.Item.{Item}
@@ -25,8 +23,8 @@ use Rattle.calls.specs.Loans.{itemRow, moves, copyDepth, copyLent, newRe
 use Rattle.calls.specs.Calls.{lacksRight}
 use Rattle.calls.proofs.AddRow.{row-there, row-below, next-some}
 use Rattle.calls.proofs.Stand.{clist-no-row, row-object}
-use Rattle.calls.proofs.KeptMoved.{moved, row-same, kind-same, depth-same, end-right}
-use Rattle.calls.proofs.KeptLoans.{system-no-node, system-in-range, same-eq}
+use Rattle.calls.proofs.KeptMoved.{moved, row-same, end-right}
+use Rattle.calls.proofs.KeptLoans.{system-no-node, system-in-range}
 
 -- what the refusals and the text leave of an item that is copied
 unfoldable pub lendable : State → ℕ → ℕ → Item → Bool
@@ -90,7 +88,7 @@ module _ (st : State) (s : Sound st) (p c : ℕ) (client : isClient (rowOf (st .
     object-of : objectInRange (st .processes) (rowOf (st .rows) (i .row)) ≡ true
     object-of = row-object st s (i .row) there
 
-    pub copy-no-end : isEnd (copyLent st c (st .next) n i .kind) ≡ false
+    copy-no-end : isEnd (copyLent st c (st .next) n i .kind) ≡ false
     unfolding copyLent copyOf itemRow
     copy-no-end = no-end
 

@@ -1,28 +1,28 @@
 -- An ask that is not refused, the tables after it, and how old rows and requests are found in them.
-use Prim.Native.Nat.{ℕ, zero, suc, _+_, _<_, _≤_}
-use mathlib.Core.Bool.{Bool, true, false, not, cond, _&&_, _||_}
-use mathlib.Core.List.{List, [], _∷_, map}
-use mathlib.Core.Path.{_≡_, refl, sym, ap, _∙_, subst}
+use Prim.Native.Nat.{ℕ, suc, _+_, _<_, _≤_}
+use mathlib.Core.Bool.{Bool, true, false, not, cond, _&&_}
+use mathlib.Core.List.{List, _∷_, map}
+use mathlib.Core.Path.{_≡_, refl, sym, ap, _∙_}
 use mathlib.Core.Logic.{_⊎_, inl, inr}
-use lib.Dec.{leb, ltb, eqb}
+use lib.Dec.{ltb, eqb}
 use lib.ListN.{length}
-use borrow.Author.Tests.{eqb-true, ne-eqb}
+use borrow.Author.Tests.{eqb-true}
 use native.Mathlib.Omega.{arith}
 use Rattle.rows.specs.declared.Row.{Row}
 use Rattle.rows.specs.declared.Request.{Request}
-use Rattle.rows.specs.Lists.{if_then_else_, all, firstWith, topOf, member, distinct, some}
+use Rattle.rows.specs.Lists.{all, firstWith, member, distinct, some}
 use Rattle.rows.specs.Limits.{greatestNumber, rowSlots, requestSlots, mostItems}
-use Rattle.rows.specs.Codes.{isClient, isEnd, inClist, withSystem}
+use Rattle.rows.specs.Codes.{isClient, withSystem}
 use Rattle.rows.specs.Tables.{State, noRow, noRequest, rowOf, requestOf, isListed, numbers, lists}
 use Rattle.rows.specs.Sound.{requestsRise, copyListed}
-use Rattle.rows.proofs.Bools.{false-of, clash, and-l, and-r, and-i, or-cases, not-t, not-f, all-at, pos-some}
+use Rattle.rows.proofs.Bools.{false-of, clash, and-l, and-r, or-cases, not-t, pos-some}
 use Rattle.rows.proofs.Keyed.{first-none, rises-range, keys-map}
 use Rattle.rows.proofs.Sound.{Sound}
 use Rattle.closing.specs.Closing.{placedIn}
 use Rattle.calls.specs.declared.Item.{Item}
 use Rattle.calls.specs.Rules.{notHeld, hasOpen}
 use Rattle.calls.specs.Loans.{copies, newRequest}
-use Rattle.calls.proofs.AddRow.{row-below, row-there, rows-top, requests-top, next-some}
+use Rattle.calls.proofs.AddRow.{row-below, row-there, requests-top, next-some}
 use Rattle.calls.proofs.KeptMoved.{moved, moved-number, row-moved, row-same}
 use Rattle.calls.proofs.KeptLoans.{no-request-lists}
 use Rattle.calls.proofs.KeptAskItems.{named, listed, stacked}
@@ -100,7 +100,7 @@ module _ (st : State) (s : Sound st) (p c : ℕ) (is : List Item) (a : Asked st 
       ap P (row-stacked st c (st .next) (copies st is) (suc (st .next)) (lentRows st is) m (omega arith)) ∙ row-same (named st is) withSystem none-named P h (st .rows) m ∙ e
 
   -- ---- old requests
-  pub next-unused : member (st .next) (map (λ v. v .number) (st .requests)) ≡ false
+  next-unused : member (st .next) (map (λ v. v .number) (st .requests)) ≡ false
   next-unused =
       false-of (member (st .next) (map (λ v. v .number) (st .requests))) λ t.
       let (lo, hi) = rises-range (λ v. v .number) (st .requests) (unfold requestsRise in s .requests-rise) (st .next) t in

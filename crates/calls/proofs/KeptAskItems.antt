@@ -1,22 +1,20 @@
 -- What an ask lends, in closed form: the copies stacked on the rows, the ends that move, the request's list.
-use Prim.Native.Nat.{ℕ, zero, suc, _+_, _<_, _≤_}
+use Prim.Native.Nat.{ℕ, suc, _+_}
 use mathlib.Core.Bool.{Bool, true, false, not, cond, _&&_, _||_}
 use mathlib.Core.List.{List, [], _∷_, _++_, map, append-assoc, map-map}
-use mathlib.Core.Path.{_≡_, refl, sym, ap, _∙_, subst}
-use mathlib.Core.Logic.{_⊎_, inl, inr}
-use lib.Dec.{leb, ltb, eqb}
+use mathlib.Core.Path.{_≡_, refl, sym, ap, _∙_}
+use lib.Dec.{eqb}
 use lib.ListN.{length}
-use borrow.Author.Tests.{eqb-true, eqb-false, eq-eqb, ne-eqb, ltb-true}
 use native.Mathlib.Omega.{arith}
 use Rattle.rows.specs.declared.Row.{Row}
-use Rattle.rows.specs.Lists.{if_then_else_, filter, any, all, member, distinct, some, nonzero, pad}
-use Rattle.rows.specs.Codes.{isEnd, withSystem}
-use Rattle.rows.specs.Tables.{State, rowOf}
+use Rattle.rows.specs.Lists.{if_then_else_, filter, any}
+use Rattle.rows.specs.Codes.{withSystem}
+use Rattle.rows.specs.Tables.{State}
 use Rattle.closing.specs.Closing.{placedIn}
-use Rattle.rows.proofs.Bools.{false-of, clash, and-l, and-r, and-i, or-cases, or-l, or-r, eqb-self, eqb-sym}
+use Rattle.rows.proofs.Bools.{eqb-sym}
 use Rattle.calls.specs.declared.Item.{Item}
 use Rattle.calls.specs.Rules.{copyOf}
-use Rattle.calls.specs.Loans.{itemRow, moves, copies, copyLent, Lending, toSystem, lendEnd, lendCopy, lendItem, lendItems}
+use Rattle.calls.specs.Loans.{moves, copies, copyLent, Lending, toSystem, lendEnd, lendCopy, lendItem, lendItems}
 use Rattle.calls.proofs.KeptMoved.{moved}
 
 -- e is an end that the items name

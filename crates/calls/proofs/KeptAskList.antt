@@ -4,11 +4,11 @@ use mathlib.Core.Bool.{Bool, true, false, not, cond, _&&_, _||_}
 use mathlib.Core.List.{List, [], _∷_, map}
 use mathlib.Core.Path.{_≡_, refl, sym, ap, _∙_, subst}
 use mathlib.Core.Logic.{_⊎_, inl, inr}
-use lib.Dec.{leb, ltb, eqb}
+use lib.Dec.{ltb, eqb}
 use lib.ListN.{length}
 use borrow.Author.Tests.{eqb-true, eqb-false, ne-eqb, ltb-true, lt-ltb}
 use native.Mathlib.Omega.{arith}
-use Rattle.rows.specs.Lists.{if_then_else_, filter, any, all, member, distinct, some, nonzero, pad}
+use Rattle.rows.specs.Lists.{filter, any, all, member, distinct, some, nonzero, pad}
 use Rattle.rows.specs.Codes.{isEnd}
 use Rattle.rows.specs.Tables.{State, rowOf}
 use Rattle.rows.proofs.Bools.{false-of, clash, and-l, and-r, and-i, or-cases, or-l, or-r, not-t, eqb-sym, pos-some, all-mono}

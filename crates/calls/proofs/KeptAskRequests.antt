@@ -1,8 +1,8 @@
 -- ask: the clauses of requests and numbers.
-use Prim.Native.Nat.{ℕ, zero, suc, _+_, _<_, _≤_}
-use mathlib.Core.Bool.{Bool, true, false, not, cond, _&&_, _||_}
+use Prim.Native.Nat.{ℕ, suc, _+_, _<_, _≤_}
+use mathlib.Core.Bool.{Bool, true, false, not, _&&_, _||_}
 use mathlib.Core.List.{List, [], _∷_, map}
-use mathlib.Core.Path.{_≡_, refl, sym, ap, _∙_, subst}
+use mathlib.Core.Path.{_≡_, refl, ap, _∙_, subst}
 use mathlib.Core.Logic.{_⊎_, inl, inr}
 use lib.Dec.{leb, ltb, eqb}
 use lib.ListN.{length}
@@ -10,12 +10,12 @@ use borrow.Author.Tests.{eqb-true, eq-eqb, ltb-true, le-leb, lt-ltb}
 use native.Mathlib.Omega.{arith}
 use Rattle.rows.specs.declared.Row.{Row}
 use Rattle.rows.specs.declared.Request.{Request}
-use Rattle.rows.specs.Lists.{if_then_else_, any, all, each, firstWith, topOf, rises, member, distinct, between, some, nonzero}
-use Rattle.rows.specs.Limits.{processes, greatestNumber, requestSlots, mostItems}
-use Rattle.rows.specs.Codes.{clientEnd, serverEnd, isClient, isServer, isEnd, inClist, withSystem, isSystem}
+use Rattle.rows.specs.Lists.{any, all, each, topOf, member, distinct, between, some, nonzero}
+use Rattle.rows.specs.Limits.{greatestNumber, requestSlots, mostItems}
+use Rattle.rows.specs.Codes.{clientEnd, serverEnd, isClient, isServer, isEnd, inClist, isSystem}
 use Rattle.rows.specs.Tables.{State, noRow, noRequest, rowOf, requestOf, openOn, isListed, numbers, lists}
-use Rattle.rows.specs.Sound.{requestsRise, numbersApart, belowNext, nextInRange, requestsFit, recordsFit, fetchedInRange, isPairedWith, otherEnd, endPaired, endsPaired, portStands, portsStand, requestersListed, itemsFew, itemsApart, mayBeListed, itemsLent, onePerPort, isFetched, olderFetchedBy, olderFetched, awaitsFetch, same}
-use Rattle.rows.proofs.Bools.{false-of, clash, and-l, and-r, and-i, or-cases, or-l, or-r, not-t, not-f, eqb-self, pos-some, all-mono, all-and, member-here, member-there}
+use Rattle.rows.specs.Sound.{requestsRise, numbersApart, belowNext, nextInRange, requestsFit, fetchedInRange, isPairedWith, otherEnd, endPaired, endsPaired, portStands, portsStand, requestersListed, itemsFew, itemsApart, mayBeListed, itemsLent, onePerPort, isFetched, olderFetchedBy, olderFetched, awaitsFetch}
+use Rattle.rows.proofs.Bools.{false-of, clash, and-l, and-r, and-i, or-l, or-r, not-t, not-f, eqb-self, pos-some, all-mono, all-and, member-here, member-there}
 use Rattle.rows.proofs.Keyed.{all-first, first-key, rises-cons, rises-range}
 use Rattle.rows.proofs.Sound.{Sound}
 use Rattle.closing.specs.Closing.{placedIn}
@@ -25,13 +25,12 @@ use Rattle.calls.specs.Loans.{copies, newRequest}
 use Rattle.calls.proofs.AddRow.{row-there, row-below, requests-top, requests-below, next-some, none-lists}
 use Rattle.calls.proofs.Stand.{clist-not-system}
 use Rattle.calls.proofs.KeptLists.{all-found}
-use Rattle.calls.proofs.KeptMoved.{moved, moved-same, moved-number}
 use Rattle.calls.proofs.KeptLoans.{listers-fetched, held-so, same-left, row-number}
-use Rattle.calls.proofs.KeptAskItems.{named, listed, stacked}
-use Rattle.calls.proofs.KeptAskList.{length-pad, nonzero-pad, nonzero-all, named-end, named-at, listed-length, listed-some, listed-apart, listed-cases}
+use Rattle.calls.proofs.KeptAskItems.{named, listed}
+use Rattle.calls.proofs.KeptAskList.{length-pad, nonzero-pad, nonzero-all, named-end, listed-length, listed-some, listed-apart, listed-cases}
 use Rattle.calls.proofs.KeptAskStack.{bears-stacked}
 use Rattle.calls.proofs.KeptAskCopy.{held-there, client-there}
-use Rattle.calls.proofs.KeptAskFacts.{Asked, lentRows, askedRows, asked, askedState, named-held, named-old, lists-cases, old-found, old-number, old-passes}
+use Rattle.calls.proofs.KeptAskFacts.{Asked, lentRows, askedRows, asked, askedState, named-held, named-old, lists-cases, old-number, old-passes}
 use Rattle.calls.proofs.KeptAskRows.{rows-top′}
 
 -- what holds of each member holds of all

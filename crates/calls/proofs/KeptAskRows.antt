@@ -1,22 +1,20 @@
 -- ask: the clauses of rows and processes.
-use Prim.Native.Nat.{ℕ, zero, suc, _+_, _<_, _≤_}
+use Prim.Native.Nat.{ℕ, suc, _+_, _<_, _≤_}
 use mathlib.Core.Bool.{Bool, true, false, not, cond, _&&_, _||_}
-use mathlib.Core.List.{List, [], _∷_, map}
-use mathlib.Core.Path.{_≡_, refl, sym, ap, _∙_, subst}
+use mathlib.Core.List.{List, [], _∷_}
+use mathlib.Core.Path.{_≡_, refl, sym, ap, _∙_}
 use mathlib.Core.Logic.{_⊎_, inl, inr}
-use lib.Dec.{leb, ltb, eqb}
+use lib.Dec.{eqb}
 use lib.ListN.{length, length-map}
-use borrow.Author.Tests.{eqb-true, le-leb, lt-ltb}
+use borrow.Author.Tests.{eqb-true, le-leb}
 use native.Mathlib.Omega.{arith}
 use Rattle.rows.specs.declared.Row.{Row}
-use Rattle.rows.specs.declared.Request.{Request}
-use Rattle.rows.specs.declared.Process.{Process}
-use Rattle.rows.specs.Lists.{if_then_else_, all, each, firstWith, topOf, rises, member, some}
+use Rattle.rows.specs.Lists.{all, each, topOf, member, some}
 use Rattle.rows.specs.Limits.{processes, rowSlots}
 use Rattle.rows.specs.Codes.{subdirectory, clientEnd, serverEnd, isSubdirectory, isOperation, isClient, isServer, isEnd, isCopied, inClist, withSystem, isNode, isSystem}
-use Rattle.rows.specs.Tables.{State, noRow, rowOf, requestOf, numbers, lists}
+use Rattle.rows.specs.Tables.{State, noRow, rowOf, numbers, lists}
 use Rattle.rows.specs.Sound.{rowsRise, rowsFit, recordsFit, objectInRange, objectsInRange, rightInRange, rightsInRange, placeInRange, placesInRange, sourceRight, sourcesRight, depthRight, depthsRight, copyMatches, copiesMatch, isPairedWith, otherEnd, endPaired, endsPaired, copyListed, copiesListed, isFetched, awaitsFetch, same, systemHolds, processesPlaced}
-use Rattle.rows.proofs.Bools.{false-of, clash, and-l, and-r, and-i, or-cases, or-map, or-l, or-r, not-t, not-f, all-mono, all-eq, all-and}
+use Rattle.rows.proofs.Bools.{false-of, clash, and-l, or-map, or-r, not-f, all-mono, all-eq}
 use Rattle.rows.proofs.Keyed.{rises-map}
 use Rattle.rows.proofs.Sound.{Sound}
 use Rattle.closing.specs.Closing.{placedIn}
@@ -28,7 +26,7 @@ use Rattle.calls.proofs.Stand.{copied-no-end, clist-not-node}
 use Rattle.calls.proofs.KeptLists.{all-map, top-map}
 use Rattle.calls.proofs.KeptMoved.{moved, mayMove, moved-same, moved-number, moved-stays, moved-goes, kind-same, depths-moved, copies-moved, objects-moved, rights-moved, paired-moved, sources-moved}
 use Rattle.calls.proofs.KeptLoans.{of-rows, row-number, held-so, same-eq, system-no-node, system-in-range, placed-still}
-use Rattle.calls.proofs.KeptAskItems.{named, listed, stacked}
+use Rattle.calls.proofs.KeptAskItems.{named, listed}
 use Rattle.calls.proofs.KeptAskList.{named-end}
 use Rattle.calls.proofs.KeptAskStack.{row-stacked, length-stacked, rises-stacked, top-stacked, all-stacked, each-stacked}
 use Rattle.calls.proofs.KeptAskCopy.{lendable, copy-object, copy-right, copy-place, copy-paired, copy-source, copy-depth, copy-matches, copy-listed, copy-held}

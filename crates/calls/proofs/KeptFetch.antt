@@ -1,33 +1,30 @@
 -- fetch keeps the tables sound: the rows that the request lists go to the caller's c-list, the request is fetched.
-use Prim.Native.Nat.{ℕ, zero, suc, _+_, _<_, _≤_}
+use Prim.Native.Nat.{ℕ, _<_, _≤_}
 use mathlib.Core.Bool.{Bool, true, false, not, cond, _&&_, _||_}
 use mathlib.Core.List.{List, [], _∷_, map}
 use mathlib.Core.Path.{_≡_, refl, sym, ap, _∙_, subst}
-use mathlib.Core.Logic.{_⊎_, inl, inr}
 use lib.Dec.{leb, ltb, eqb}
 use lib.ListN.{length, length-map}
-use borrow.Author.Tests.{eqb-true, eqb-false, eq-eqb, ne-eqb, leb-true, le-leb}
+use borrow.Author.Tests.{eqb-true, eqb-false}
 use native.Mathlib.Omega.{arith}
 use Rattle.rows.specs.declared.Row.{Row}
 use Rattle.rows.specs.declared.Request.{Request}
-use Rattle.rows.specs.declared.Process.{Process}
-use Rattle.rows.specs.Lists.{if_then_else_, filter, any, all, each, firstWith, topOf, rises, member, distinct, some, nonzero}
+use Rattle.rows.specs.Lists.{any, all, rises, member, distinct, some, nonzero}
 use Rattle.rows.specs.Limits.{processes, mostItems}
-use Rattle.rows.specs.Codes.{subdirectory, isSubdirectory, isEnd, inClist, withSystem, isNode, isClist, isSystem, ownerOf, isServer}
+use Rattle.rows.specs.Codes.{subdirectory, isSubdirectory, isEnd, inClist, withSystem, isNode, isSystem}
 use Rattle.rows.specs.Tables.{State, noRow, noRequest, rowOf, requestOf, openOn, isListed, numbers, lists}
 use Rattle.rows.specs.Sound.{rowsRise, requestsRise, numbersApart, belowNext, nextInRange, rowsFit, requestsFit, recordsFit, objectsInRange, rightsInRange, placeInRange, placesInRange, fetchedInRange, sourcesRight, depthsRight, copiesMatch, recordsInRange, endPaired, endsPaired, portStands, portsStand, requestersListed, itemsFew, itemsApart, itemsLent, mayBeListed, onePerPort, copyListed, copiesListed, isFetched, olderFetchedBy, olderFetched, awaitsFetch, same, systemHolds, processesPlaced}
-use Rattle.rows.proofs.Bools.{false-of, true-of, clash, and-l, and-r, and-i, or-cases, or-map, or-l, or-r, or-fl, or-fr, not-t, not-f, eqb-self, any-eq, all-mono, all-eq, all-at, pos-some}
-use Rattle.rows.proofs.Keyed.{all-first, first-key, first-there, rises-map, rises-range, keys-map}
+use Rattle.rows.proofs.Bools.{false-of, true-of, clash, and-l, and-r, or-l, or-r, or-fl, or-fr, any-eq, all-mono, all-eq, all-at, pos-some}
+use Rattle.rows.proofs.Keyed.{all-first, first-there, rises-map, rises-range, keys-map}
 use Rattle.rows.proofs.Sound.{Sound}
 use Rattle.closing.specs.Closing.{placedIn}
-use Rattle.calls.specs.Rules.{Out, refusedIf, notHeld}
 use Rattle.calls.specs.Loans.{handedTo, nowFetched, withFetched}
-use Rattle.calls.specs.Calls.{fetchedAnswer, doFetch}
+use Rattle.calls.specs.Calls.{doFetch}
 use Rattle.calls.proofs.AddRow.{unless, member-nonzero}
 use Rattle.calls.proofs.Stand.{clist-not-node, clist-not-system, clist-in-range}
-use Rattle.calls.proofs.KeptLists.{all-map, each-map, top-map, all-found, other-there, other-same}
+use Rattle.calls.proofs.KeptLists.{all-map, each-map, top-map, other-there, other-same}
 use Rattle.calls.proofs.KeptMoved.{moved, mayMove, moved-same, moved-stays, moved-goes, moved-number, row-moved, depths-moved, copies-moved, objects-moved, rights-moved, paired-moved, ports-moved, listed-moved, sources-moved}
-use Rattle.calls.proofs.KeptLoans.{of-rows, row-number, held-so, same-right, same-left, same-eq, listers-fetched, now-same, now-number, now-lists, still-fetched, request-now, fetched-now, awaits-same, clist-no-system, system-no-node, placed-still}
+use Rattle.calls.proofs.KeptLoans.{of-rows, row-number, held-so, same-right, same-eq, listers-fetched, now-same, now-number, now-lists, still-fetched, request-now, fetched-now, awaits-same, clist-no-system, system-no-node, placed-still}
 
 -- v is an open request of sound tables, not fetched, and p a listed process
 module _ (st : State) (s : Sound st) (p : ℕ) (v : Request) (found : requestOf (st .requests) (v .number) ≡ v) (there : member (v .number) (map (λ v. v .number) (st .requests)) ≡ true)

@@ -1,17 +1,14 @@
 -- Laws of lists that the proofs on ask and fetch share: mapped lists, look-up by two keys.
-use Prim.Native.Nat.{ℕ, zero, suc, _<_, _≤_}
-use mathlib.Core.Bool.{Bool, true, false, not, cond, _&&_, _||_}
+use Prim.Native.Nat.{ℕ, _<_}
+use mathlib.Core.Bool.{Bool, true, false, cond, _&&_, _||_}
 use mathlib.Core.List.{List, [], _∷_, map}
-use mathlib.Core.Path.{_≡_, refl, sym, ap, _∙_, subst}
-use lib.Dec.{leb, ltb, eqb}
-use borrow.Author.Tests.{eqb-true, eqb-false, eq-eqb, ne-eqb}
+use mathlib.Core.Path.{_≡_, refl, ap, _∙_}
+use lib.Dec.{eqb}
+use borrow.Author.Tests.{ne-eqb}
 use native.Mathlib.Omega.{arith}
-use Rattle.rows.specs.Lists.{any, all, each, firstWith, topOf, rises, member, some}
-use Rattle.rows.specs.Tables.{State}
-use Rattle.rows.proofs.Bools.{clash, and-l, and-r, and-i, or-l, or-r, eqb-sym-f, eqb-self}
-use Rattle.rows.proofs.Keyed.{first-key, first-none, rises-rest, rises-fresh, rises-older}
-use Rattle.rows.proofs.Sound.{Sound}
-use Rattle.calls.specs.Rules.{Out, refusedIf}
+use Rattle.rows.specs.Lists.{all, each, firstWith, topOf, rises, member, some}
+use Rattle.rows.proofs.Bools.{clash, and-l, and-r, and-i, or-l, or-r, eqb-self}
+use Rattle.rows.proofs.Keyed.{rises-rest, rises-older}
 
 module _ {A : Type 0} where
   pub all-map : {B : Type 0} (f : B → Bool) (g : A → B) (xs : List A) → all f (map g xs) ≡ all (λ x. f (g x)) xs

@@ -1,29 +1,28 @@
 -- What sound tables say of items, of what awaits fetch, of places and of the rows gone through.
-use Prim.Native.Nat.{ℕ, zero, suc, _+_, _<_, _≤_}
+use Prim.Native.Nat.{ℕ, suc, _+_, _<_, _≤_}
 use mathlib.Core.Bool.{Bool, true, false, not, cond, _&&_, _||_}
 use mathlib.Core.List.{List, [], _∷_, map}
 use mathlib.Core.Path.{_≡_, refl, sym, ap, _∙_, subst}
-use mathlib.Core.Logic.{_⊎_, inl, inr}
-use lib.Dec.{leb, ltb, eqb}
-use lib.ListN.{length, List·getD-eq-default}
-use borrow.Author.Tests.{eqb-true, eqb-false, eq-eqb, ne-eqb, leb-true, leb-false, le-leb, lt-leb}
+use lib.Dec.{eqb}
+use lib.ListN.{length}
+use borrow.Author.Tests.{eqb-true, ne-eqb}
 use native.Mathlib.Omega.{arith}
 use Rattle.rows.specs.declared.Row.{Row}
 use Rattle.rows.specs.declared.Request.{Request}
 use Rattle.rows.specs.declared.Process.{Process}
-use Rattle.rows.specs.Lists.{if_then_else_, filter, any, all, each, firstWith, rises, member, between, some, nonzero}
+use Rattle.rows.specs.Lists.{any, all, each, firstWith, rises, member, between, some}
 use Rattle.rows.specs.Limits.{processes, nodes}
-use Rattle.rows.specs.Codes.{isSubdirectory, isEnd, inClist, withSystem, isNode, isClist, isSystem, ownerOf}
-use Rattle.rows.specs.Tables.{State, noRow, noRequest, noProcess, rowOf, requestOf, processAt, isListed, numbers, lists}
-use Rattle.rows.specs.Sound.{placeInRange, mayBeListed, itemsLent, isFetched, olderFetchedBy, awaitsFetch, same, systemHolds, rowsRise, processPlaced, placedFrom}
-use Rattle.rows.proofs.Bools.{false-of, true-of, clash, and-l, and-r, and-i, or-cases, or-map, or-l, or-r, not-t, not-f, eqb-self, eqb-sym-f, all-mono, all-at, some-pos}
+use Rattle.rows.specs.Codes.{isSubdirectory, inClist, withSystem, isNode, isClist, isSystem}
+use Rattle.rows.specs.Tables.{State, noRow, noRequest, rowOf, requestOf, numbers, lists}
+use Rattle.rows.specs.Sound.{placeInRange, isFetched, olderFetchedBy, awaitsFetch, same, systemHolds, rowsRise, processPlaced, placedFrom}
+use Rattle.rows.proofs.Bools.{false-of, clash, and-l, and-r, and-i, or-map, or-l, or-r, not-t, not-f, eqb-sym-f, all-mono}
 use Rattle.rows.proofs.Keyed.{all-first, first-key, first-map, first-none, rises-rest, rises-fresh}
 use Rattle.rows.proofs.Sound.{Sound}
 use Rattle.calls.specs.Loans.{nowFetched}
 use Rattle.calls.proofs.KeptLists.{all-found}
 
 -- ---- lists of numbers
-pub any-at : (f : ℕ → Bool) (ns : List ℕ) (n : ℕ) → member n ns ≡ true → f n ≡ true → any f ns ≡ true
+any-at : (f : ℕ → Bool) (ns : List ℕ) (n : ℕ) → member n ns ≡ true → f n ≡ true → any f ns ≡ true
 unfolding any member
 any-at f [] n m e = clash m refl
 any-at f (k ∷ ns) n m e = pick (any-at f ns n) (eqb n k) refl m

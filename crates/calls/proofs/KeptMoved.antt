@@ -1,21 +1,20 @@
 -- Rows of which some change their place and nothing else: the clauses that this keeps.
-use Prim.Native.Nat.{ℕ, zero, suc, _<_, _≤_}
+use Prim.Native.Nat.{ℕ}
 use mathlib.Core.Bool.{Bool, true, false, not, cond, _&&_, _||_}
-use mathlib.Core.List.{List, [], _∷_, map}
-use mathlib.Core.Path.{_≡_, refl, sym, ap, _∙_, subst}
+use mathlib.Core.List.{List, map}
+use mathlib.Core.Path.{_≡_, refl, sym, ap, _∙_}
 use mathlib.Core.Logic.{_⊎_, inl, inr}
-use lib.Dec.{leb, ltb, eqb}
-use borrow.Author.Tests.{eqb-true, eqb-false, eq-eqb, ne-eqb}
-use native.Mathlib.Omega.{arith}
+use lib.Dec.{eqb}
+use borrow.Author.Tests.{eqb-true}
 use Rattle.rows.specs.declared.Row.{Row}
 use Rattle.rows.specs.declared.Request.{Request}
 use Rattle.rows.specs.declared.Process.{Process}
-use Rattle.rows.specs.Lists.{if_then_else_, any, all, each, firstWith, member, some}
-use Rattle.rows.specs.Codes.{operation, subdirectory, clientEnd, serverEnd, isOperation, isSubdirectory, isClient, isServer, isEnd, isCopied, isNode, within}
+use Rattle.rows.specs.Lists.{if_then_else_, all, each, member, some}
+use Rattle.rows.specs.Codes.{isEnd, isCopied, isNode, within}
 use Rattle.rows.specs.Tables.{noRow, rowOf, requestOf, depthOver}
 use Rattle.rows.specs.Sound.{objectInRange, rightInRange, isOpening, isRegistered, isHeld, isPortEnd, isLentCopy, sourceRight, depthRight, copyMatches, isPairedWith, otherEnd, endPaired, copyListed, portStands, mayBeListed}
 use Rattle.closing.specs.Closing.{placedIn}
-use Rattle.rows.proofs.Bools.{clash, and-l, and-r, and-i, or-l, or-r, or-cases, not-t, all-mono, all-eq, all-and}
+use Rattle.rows.proofs.Bools.{clash, and-l, and-r, and-i, or-r, or-cases, not-t, all-mono, all-eq, all-and}
 use Rattle.rows.proofs.Keyed.{first-map, first-none, all-first}
 use Rattle.calls.proofs.Stand.{copied-no-end}
 use Rattle.calls.proofs.KeptLists.{all-map, each-map, each-map-eq}
@@ -99,7 +98,7 @@ module _ (t : ℕ → Bool) (x : ℕ) (z : t 0 ≡ false) where
   pub row-same : {A : Type 0} (f : Row → A) → ((r : Row) → f (placedIn x r) ≡ f r) → (rs : List Row) (n : ℕ) → f (rowOf (map (moved t x) rs) n) ≡ f (rowOf rs n)
   row-same f h rs n = ap f (row-moved rs n) ∙ moved-same t x f h (rowOf rs n)
 
-  pub depth-same : (rs : List Row) (n : ℕ) → rowOf (map (moved t x) rs) n .depth ≡ rowOf rs n .depth
+  depth-same : (rs : List Row) (n : ℕ) → rowOf (map (moved t x) rs) n .depth ≡ rowOf rs n .depth
   depth-same rs n = row-same (λ r. r .depth) (λ r. unfold placedIn in refl) rs n
 
   pub kind-same : (rs : List Row) (n : ℕ) → rowOf (map (moved t x) rs) n .kind ≡ rowOf rs n .kind
