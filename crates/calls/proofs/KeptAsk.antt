@@ -62,12 +62,12 @@ unfolding withRequest lent
 closed-form st p c is =
     let l : Lending = record { rows = st .rows; items = []; next = suc (st .next) } in
     λ j.
-        record {
-          rows = lend-rows st c (st .next) is l j;
-          requests = newRequest (st .next) c p (lend-items st c (st .next) is l j) ∷ st .requests;
-          processes = st .processes;
-          next = lend-next st c (st .next) is l j;
-        }
+    record {
+      rows = lend-rows st c (st .next) is l j;
+      requests = newRequest (st .next) c p (lend-items st c (st .next) is l j) ∷ st .requests;
+      processes = st .processes;
+      next = lend-next st c (st .next) is l j;
+    }
 
 -- ---- what the refusals leave
 module _ {A : Type 0} where

@@ -76,7 +76,7 @@ module _ (st : State) (s : Sound st) (p c : ℕ) (client : isClient (rowOf (st .
     unfolding lendable lacksRight itemRow
     rights-within =
         let l : not (lacksRight st i) ≡ true = search (and-l, and-r) in
-        not-f (within (i .rights) (rowOf (st .rows) (i .row) .rights)) 
+        not-f (within (i .rights) (rowOf (st .rows) (i .row) .rights))
         (or-fr (not (moves st i) && not (mayTransfer (rowOf (st .rows) (i .row) .rights))) (not (within (i .rights) (rowOf (st .rows) (i .row) .rights))) (not-t (lacksRight st i) l))
 
     depth-most : leb (copyDepth st c i) greatestDepth ≡ true

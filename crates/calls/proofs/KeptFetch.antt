@@ -61,6 +61,7 @@ module _ (st : State) (s : Sound st) (p : ℕ) (v : Request) (found : requestOf 
   may-be e g =
       all-at (λ e. mayBeListed v (rowOf (st .rows) e)) (nonzero (v .items))
       (of-request (λ v. all (λ e. mayBeListed v (rowOf (st .rows) e)) (nonzero (v .items))) (unfold itemsLent in s .items-lent)) e (item e (unfold lists in g))
+
   -- what goes is with the system
   system-had : (n : ℕ) → member n (numbers (st .rows)) ≡ true → goes n ≡ true → rowOf (st .rows) n .place ≡ withSystem
   system-had n m g =

@@ -120,9 +120,9 @@ module _ (t : ℕ → Bool) (x : ℕ) (z : t 0 ≡ false) where
           moved-same t x (λ r. copyMatches r (map (moved t x) rs)) (λ r. unfold copyMatches placedIn in refl) r
           ∙ (unfold copyMatches in row-same
           (λ s.
-              eqb (r .source) 0
-              || (isEnd (r .kind)
-              || (eqb (r .kind) (s .kind) && (eqb (r .object) (s .object) && (eqb (r .operation) (s .operation) && within (r .rights) (s .rights))))))
+          eqb (r .source) 0
+          || (isEnd (r .kind)
+          || (eqb (r .kind) (s .kind) && (eqb (r .object) (s .object) && (eqb (r .operation) (s .operation) && within (r .rights) (s .rights))))))
           (λ s. unfold placedIn in refl) rs (r .source))
 
   pub objects-moved : (ps : List Process) (rs : List Row) → all (objectInRange ps) (map (moved t x) rs) ≡ all (objectInRange ps) rs
@@ -192,6 +192,6 @@ module _ (t : ℕ → Bool) (x : ℕ) (z : t 0 ≡ false) where
     sources-moved vs vs′ rs m h c e =
         each-map (λ r. mayMove t r && copyListed vs r) (sourceRight vs) (sourceRight vs′) (moved t x)
         (λ r rs p ps q.
-            right-moved vs vs′ r rs (and-l (mayMove t r) (copyListed vs r) p) (all-mono (λ r. mayMove t r && copyListed vs r) (mayMove t) (λ r. and-l (mayMove t r) (copyListed vs r)) rs ps)
-            (h r (and-r (mayMove t r) (copyListed vs r) p)) q)
+        right-moved vs vs′ r rs (and-l (mayMove t r) (copyListed vs r) p) (all-mono (λ r. mayMove t r && copyListed vs r) (mayMove t) (λ r. and-l (mayMove t r) (copyListed vs r)) rs ps)
+        (h r (and-r (mayMove t r) (copyListed vs r) p)) q)
         rs (all-and (mayMove t) (copyListed vs) (λ r. mayMove t r && copyListed vs r) (λ r. and-i (mayMove t r) (copyListed vs r)) rs m c) e
