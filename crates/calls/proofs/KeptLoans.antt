@@ -1,0 +1,212 @@
+-- What sound tables say of items, of what awaits fetch, of places and of the rows gone through.
+use Prim.Native.Nat.{ℕ, suc, _+_, _<_, _≤_}
+use mathlib.Core.Bool.{Bool, true, false, not, cond, _&&_, _||_}
+use mathlib.Core.List.{List, [], _∷_, map}
+use mathlib.Core.Path.{_≡_, refl, sym, ap, _∙_, subst}
+use lib.Dec.{eqb}
+use lib.ListN.{length}
+use borrow.Author.Tests.{eqb-true, ne-eqb}
+use native.Mathlib.Omega.{arith}
+use Rattle.rows.specs.declared.Row.{Row}
+use Rattle.rows.specs.declared.Request.{Request}
+use Rattle.rows.specs.declared.Process.{Process}
+use Rattle.rows.specs.Lists.{any, all, each, firstWith, rises, member, between, some}
+use Rattle.rows.specs.Limits.{processes, nodes}
+use Rattle.rows.specs.Codes.{isSubdirectory, inClist, withSystem, isNode, isClist, isSystem}
+use Rattle.rows.specs.Tables.{State, noRow, noRequest, rowOf, requestOf, numbers, lists}
+use Rattle.rows.specs.Sound.{placeInRange, isFetched, olderFetchedBy, awaitsFetch, same, systemHolds, rowsRise, processPlaced, placedFrom}
+use Rattle.rows.proofs.Bools.{false-of, clash, and-l, and-r, and-i, or-map, or-l, or-r, not-t, not-f, eqb-sym-f, all-mono}
+use Rattle.rows.proofs.Keyed.{all-first, first-key, first-map, first-none, rises-rest, rises-fresh}
+use Rattle.rows.proofs.Sound.{Sound}
+use Rattle.calls.specs.Loans.{nowFetched}
+use Rattle.calls.proofs.KeptLists.{all-found}
+
+-- ---- lists of numbers
+any-at : (f : ℕ → Bool) (ns : List ℕ) (n : ℕ) → member n ns ≡ true → f n ≡ true → any f ns ≡ true
+unfolding any member
+any-at f [] n m e = clash m refl
+any-at f (k ∷ ns) n m e = pick (any-at f ns n) (eqb n k) refl m
+  where
+    pick : (member n ns ≡ true → f n ≡ true → any f ns ≡ true) → (b : Bool) → eqb n k ≡ b → b || member n ns ≡ true → f k || any f ns ≡ true
+    pick ih true q m = or-l (f k) (any f ns) (ap f (sym (eqb-true n k q)) ∙ e)
+    pick ih false q m = or-r (f k) (any f ns) (ih m e)
+
+pub no-request-lists : (e : ℕ) → lists e noRequest ≡ false
+unfolding lists noRequest member
+no-request-lists e = pick (some e)
+  where
+    pick : (b : Bool) → b && false ≡ false
+    pick true = refl
+    pick false = refl
+
+-- ---- what awaits fetch
+module _ (e : ℕ) where
+  -- of what no request awaits, every request that lists it is fetched
+  pub listers-fetched : (vs : List Request) → each olderFetchedBy vs ≡ true → awaitsFetch vs e ≡ false → all (λ w. isFetched w || not (lists e w)) vs ≡ true
+  unfolding each awaitsFetch all
+  listers-fetched [] o a = refl
+  listers-fetched (v ∷ vs) o a = pick (listers-fetched vs (and-r (olderFetchedBy v vs) (each olderFetchedBy vs) o)) (lists e v) refl a
+    where
+      older : lists e v ≡ true → (w : Request) → isFetched w || not (any (λ x. lists x w) (v .items)) ≡ true → isFetched w || not (lists e w) ≡ true
+      older q w = or-map (isFetched w) (not (any (λ x. lists x w) (v .items))) (not (lists e w)) (λ n. unlisted w (not-t (any (λ x. lists x w) (v .items)) n))
+        where
+          unlisted : (w : Request) → any (λ x. lists x w) (v .items) ≡ false → not (lists e w) ≡ true
+          unlisted w n =
+              ap not (false-of (lists e w) (λ h. clash (any-at (λ x. lists x w) (v .items) e (and-r (some e) (member e (v .items)) (unfold lists in q)) h) n))
+
+      pick : (awaitsFetch vs e ≡ false → all (λ w. isFetched w || not (lists e w)) vs ≡ true) → (b : Bool) → lists e v ≡ b
+          → cond b (not (isFetched v)) (awaitsFetch vs e) ≡ false → (isFetched v || not (lists e v)) && all (λ w. isFetched w || not (lists e w)) vs ≡ true
+      pick ih true q a =
+          and-i (isFetched v || not (lists e v)) (all (λ w. isFetched w || not (lists e w)) vs) (or-l (isFetched v) (not (lists e v)) (not-f (isFetched v) a))
+          (all-mono (λ w. isFetched w || not (any (λ x. lists x w) (v .items))) (λ w. isFetched w || not (lists e w)) (older q) vs
+          (unfold olderFetchedBy in and-l (olderFetchedBy v vs) (each olderFetchedBy vs) o))
+      pick ih false q a = and-i (isFetched v || not (lists e v)) (all (λ w. isFetched w || not (lists e w)) vs) (or-r (isFetched v) (not (lists e v)) (ap not q)) (ih a)
+
+-- ---- a request that becomes fetched
+-- a reading that does not look at whether it is fetched
+pub now-same : {A : Type 0} (q : ℕ) (f : Request → A) → ((n c a k : ℕ) (is : List ℕ) → f (record { number = n; port = c; asker = a; fetched = 1; items = is }) ≡ f (record { number = n; port = c; asker = a; fetched = k; items = is }))
+    → (v : Request) → f (nowFetched q v) ≡ f v
+unfolding nowFetched
+now-same {A} q f h v = pick (eqb (v .number) q)
+  where
+    pick : (b : Bool) → f (cond b (record { number = v .number; port = v .port; asker = v .asker; fetched = 1; items = v .items }) v) ≡ f v
+    pick true = h (v .number) (v .port) (v .asker) (v .fetched) (v .items)
+    pick false = refl
+
+pub now-number : (q : ℕ) (v : Request) → nowFetched q v .number ≡ v .number
+now-number q v = now-same q (λ v. v .number) (λ n c a k is. refl) v
+
+pub now-lists : (q e : ℕ) (v : Request) → lists e (nowFetched q v) ≡ lists e v
+now-lists q e v = now-same q (lists e) (λ n c a k is. unfold lists in refl) v
+
+pub still-fetched : (q : ℕ) (v : Request) → isFetched v ≡ true → isFetched (nowFetched q v) ≡ true
+unfolding nowFetched isFetched
+still-fetched q v e = pick (eqb (v .number) q)
+  where
+    pick : (b : Bool) → eqb ((cond b (record { number = v .number; port = v .port; asker = v .asker; fetched = 1; items = v .items }) v) .fetched) 1 ≡ true
+    pick true = refl
+    pick false = e
+
+now-fetched : (q : ℕ) (v : Request) → eqb (v .number) q ≡ true → isFetched (nowFetched q v) ≡ true
+unfolding nowFetched isFetched
+now-fetched q v e = rw e refl
+
+now-other : (q : ℕ) (v : Request) → eqb (v .number) q ≡ false → nowFetched q v ≡ v
+unfolding nowFetched
+now-other q v e = rw e refl
+
+pub request-now : (q : ℕ) (vs : List Request) (n : ℕ) → 0 < q → requestOf (map (nowFetched q) vs) n ≡ nowFetched q (requestOf vs n)
+unfolding requestOf
+request-now q vs n h = first-map (λ v. v .number) noRequest (nowFetched q) (now-number q) (now-other q noRequest (unfold noRequest in ne-eqb 0 q (λ z. omega arith))) vs n
+
+module _ (q e : ℕ) where
+  -- what an unfetched request lists awaits fetch, and no longer when it is fetched
+  pub fetched-now : (vs : List Request) → each olderFetchedBy vs ≡ true → member q (map (λ v. v .number) vs) ≡ true → isFetched (requestOf vs q) ≡ false → lists e (requestOf vs q) ≡ true
+      → awaitsFetch (map (nowFetched q) vs) e ≡ false
+  unfolding each awaitsFetch requestOf firstWith member
+  fetched-now [] o m f l = clash m refl
+  fetched-now (w ∷ ws) o m f l = pick (fetched-now ws (and-r (olderFetchedBy w ws) (each olderFetchedBy ws) o)) (eqb (w .number) q) refl m f l
+    where
+      shared : (u : Request) → isFetched u ≡ false → lists e u ≡ true → lists e w ≡ true → isFetched u || not (any (λ x. lists x u) (w .items)) ≡ false
+      shared u f l h =
+          rw (f, any-at (λ x. lists x u) (w .items) e (and-r (some e) (member e (w .items)) (unfold lists in h)) l) refl
+
+      newer : member q (map (λ v. v .number) ws) ≡ true → isFetched (firstWith (λ v. v .number) noRequest ws q) ≡ false → lists e (firstWith (λ v. v .number) noRequest ws q) ≡ true → lists e w ≡ false
+      newer m f l =
+          false-of (lists e w) λ h.
+          clash
+          (all-first (λ v. v .number) noRequest (λ u. isFetched u || not (any (λ x. lists x u) (w .items))) ws q
+          (unfold olderFetchedBy in and-l (olderFetchedBy w ws) (each olderFetchedBy ws) o) m)
+          (shared (firstWith (λ v. v .number) noRequest ws q) f l h)
+
+      pick : (member q (map (λ v. v .number) ws) ≡ true → isFetched (firstWith (λ v. v .number) noRequest ws q) ≡ false → lists e (firstWith (λ v. v .number) noRequest ws q) ≡ true → awaitsFetch (map (nowFetched q) ws) e ≡ false)
+          → (b : Bool) → eqb (w .number) q ≡ b → eqb q (w .number) || member q (map (λ v. v .number) ws) ≡ true
+          → isFetched (cond b w (firstWith (λ v. v .number) noRequest ws q)) ≡ false → lists e (cond b w (firstWith (λ v. v .number) noRequest ws q)) ≡ true
+          → cond (lists e (nowFetched q w)) (not (isFetched (nowFetched q w))) (awaitsFetch (map (nowFetched q) ws) e) ≡ false
+      pick ih true z m f l = rw (now-lists q e w, l, now-fetched q w z) refl
+      pick ih false z m f l =
+          let u : member q (map (λ v. v .number) ws) ≡ true = rw (eqb-sym-f (w .number) q z) at m in
+          rw (now-lists q e w, newer u f l) (ih u f l)
+
+  -- of what it does not list nothing changes
+  pub awaits-same : (vs : List Request) → rises (λ v. v .number) vs ≡ true → lists e (requestOf vs q) ≡ false → awaitsFetch (map (nowFetched q) vs) e ≡ awaitsFetch vs e
+  unfolding awaitsFetch requestOf firstWith member
+  awaits-same [] r l = refl
+  awaits-same (w ∷ ws) r l = pick (awaits-same ws (rises-rest (λ v. v .number) w ws r)) (eqb (w .number) q) refl l
+    where
+      none-after : eqb (w .number) q ≡ true → lists e (firstWith (λ v. v .number) noRequest ws q) ≡ false
+      none-after z =
+          let f : member q (map (λ v. v .number) ws) ≡ false = ap (λ n. member n (map (λ v. v .number) ws)) (sym (eqb-true (w .number) q z)) ∙ rises-fresh (λ v. v .number) w ws r in
+          rw (first-none (λ v. v .number) noRequest ws q f) (no-request-lists e)
+
+      pick : (lists e (firstWith (λ v. v .number) noRequest ws q) ≡ false → awaitsFetch (map (nowFetched q) ws) e ≡ awaitsFetch ws e)
+          → (b : Bool) → eqb (w .number) q ≡ b → lists e (cond b w (firstWith (λ v. v .number) noRequest ws q)) ≡ false
+          → cond (lists e (nowFetched q w)) (not (isFetched (nowFetched q w))) (awaitsFetch (map (nowFetched q) ws) e) ≡ cond (lists e w) (not (isFetched w)) (awaitsFetch ws e)
+      pick ih true z l = rw (now-lists q e w, l) (ih (none-after z))
+      pick ih false z l = rw (now-other q w z) (rw (ih l) refl)
+
+-- ---- places
+pub clist-no-system : (p : ℕ) → p ≤ 64 → isSystem (inClist p) ≡ false
+unfolding isSystem inClist withSystem
+clist-no-system p hi = ne-eqb (100 + p) 200 (λ z. omega arith)
+
+pub system-no-node : isNode withSystem ≡ false
+unfolding isNode withSystem between nodes
+system-no-node = refl
+
+pub system-in-range : (ps : List Process) (r : Row) → r .place ≡ withSystem → placeInRange ps r ≡ true
+unfolding placeInRange isClist isSystem withSystem between inClist processes
+system-in-range ps r e = rw (e, system-no-node) refl
+
+-- every process stays placed, if the subdirectory rows in c-lists stay
+pub placed-still : (rs rs′ : List Row) → ((e p : ℕ) → p ≤ 64 → isSubdirectory (rowOf rs e .kind) ≡ true → rowOf rs e .place ≡ inClist p → rowOf rs′ e ≡ rowOf rs e)
+    → (p : ℕ) (ps : List Process) → p + length ps ≤ 65 → placedFrom rs p ps ≡ true → placedFrom rs′ p ps ≡ true
+unfolding placedFrom
+placed-still rs rs′ h p [] b e = refl
+placed-still rs rs′ h p (x ∷ xs) b e =
+    and-i (processPlaced rs′ p x) (placedFrom rs′ (suc p) xs) (placed (and-l (processPlaced rs p x) (placedFrom rs (suc p) xs) e))
+    (placed-still rs rs′ h (suc p) xs (omega arith) (and-r (processPlaced rs p x) (placedFrom rs (suc p) xs) e))
+  where
+    rest : Row → Bool
+    rest r = some (x .through) && (isSubdirectory (r .kind) && (eqb (r .place) (inClist p) && eqb (r .object) (x .active)))
+
+    stays : rest (rowOf rs (x .through)) ≡ true → rest (rowOf rs′ (x .through)) ≡ true
+    stays q =
+        let k : isSubdirectory (rowOf rs (x .through) .kind) ≡ true = search (and-l, and-r) in
+        let l : eqb (rowOf rs (x .through) .place) (inClist p) ≡ true = search (and-l, and-r) in
+        rw (h (x .through) p (omega arith) k (eqb-true (rowOf rs (x .through) .place) (inClist p) l)) q
+
+    placed : processPlaced rs p x ≡ true → processPlaced rs′ p x ≡ true
+    placed q =
+        unfold processPlaced in
+        or-map (eqb (x .through) 0 && eqb (x .active) (x .prime)) (rest (rowOf rs (x .through))) (rest (rowOf rs′ (x .through))) stays q
+
+-- ---- rows of sound tables
+module _ (st : State) (s : Sound st) where
+  -- what holds of each row that can be looked up holds of all
+  pub of-rows : (P : Row → Bool) → ((n : ℕ) → member n (numbers (st .rows)) ≡ true → P (rowOf (st .rows) n) ≡ true) → all P (st .rows) ≡ true
+  of-rows P h = unfold numbers rowOf in all-found (λ r. r .number) noRow P (st .rows) (unfold rowsRise in s .rows-rise) h
+
+  pub row-number : (n : ℕ) → member n (numbers (st .rows)) ≡ true → rowOf (st .rows) n .number ≡ n
+  unfolding numbers rowOf
+  row-number n m = first-key (λ r. r .number) noRow (st .rows) n m
+
+  pub held-so : (n : ℕ) → member n (numbers (st .rows)) ≡ true → same (isSystem (rowOf (st .rows) n .place)) (awaitsFetch (st .requests) n) ≡ true
+  held-so n m =
+      subst (λ k. same (isSystem (rowOf (st .rows) n .place)) (awaitsFetch (st .requests) k) ≡ true) (row-number n m)
+      (unfold numbers rowOf in all-first (λ r. r .number) noRow (λ r. same (isSystem (r .place)) (awaitsFetch (st .requests) (r .number))) (st .rows) n (unfold systemHolds in s .system-holds) m)
+
+pub same-right : (a b : Bool) → same a b ≡ true → b ≡ true → a ≡ true
+unfolding same
+same-right true b e q = refl
+same-right false b e q = clash q (not-t b e)
+
+pub same-left : (a b : Bool) → same a b ≡ true → a ≡ false → b ≡ false
+unfolding same
+same-left true b e q = clash refl q
+same-left false b e q = not-t b e
+
+pub same-eq : (a b : Bool) → a ≡ b → same a b ≡ true
+unfolding same
+same-eq true b e = rw (← e) refl
+same-eq false b e = rw (← e) refl
