@@ -17,6 +17,10 @@ pub mod Answered
 pub mod Begun
 -- an accepted opening begins history and tables alike
 pub mod Start
+-- every call line leaves sound tables sound
+pub mod KeptCalls
+-- kept soundness, on the lent words
+pub mod Kept
 -- every answer to a call line on sound tables is one that the history can read
 pub mod Spoken
 -- the tables as the history notes them: look-up, tests and marks go through the view
