@@ -21,6 +21,8 @@ pub mod Start
 pub mod KeptCalls
 -- kept soundness, on the lent words
 pub mod Kept
+-- a port that is open has exactly two ends in sound tables
+pub mod TwoEnds
 -- every answer to a call line on sound tables is one that the history can read
 pub mod Spoken
 -- the tables as the history notes them: look-up, tests and marks go through the view
