@@ -3,3 +3,5 @@
 pub mod Fit
 -- what holds of the tables and the history after each call
 pub mod Inv
+-- the ends on loan, request by request
+pub mod Loans
