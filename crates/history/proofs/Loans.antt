@@ -19,7 +19,7 @@ unfoldable pub closedNumber : History → ℕ → Bool
 closedNumber h q = isClosed h (loanOf (h .requests) q)
 
 -- the ends es on loan by request q
-unfoldable pub block : ℕ → List ℕ → List OnLoan
+abbrev pub block : ℕ → List ℕ → List OnLoan
 block q es = map (λ e. record { request = q; lent = e }) es
 
 -- a request of these that has e on loan is closed
@@ -40,7 +40,7 @@ and-true-r false = refl
 
 -- ---- one block
 shut-block : (h : History) (q : ℕ) (es : List ℕ) (older : List OnLoan) (e : ℕ) → closedNumber h q ≡ false → shut h (block q es ++ older) e ≡ shut h older e
-unfolding shut block any isClosedNow closedNumber
+unfolding shut any isClosedNow closedNumber
 shut-block h q [] older e c = refl
 shut-block h q (x ∷ es) older e c = rw (c, and-false-r (eqb x e)) (shut-block h q es older e c)
 
@@ -53,22 +53,20 @@ unfolding staysOnLoan isClosedNow closedNumber staysLent shut
 stays-open h q e older c = rw c refl
 
 pub left-closed : (h : History) (q : ℕ) (es : List ℕ) (older : List OnLoan) → closedNumber h q ≡ true → loansLeft h (block q es ++ older) ≡ loansLeft h older
-unfolding block loansLeft
+unfolding loansLeft
 left-closed h q [] older c = refl
 left-closed h q (e ∷ es) older c = rw (stays-closed h q e (map (λ e. record { request = q; lent = e }) es ++ older) c) (left-closed h q es older c)
 
 pub left-open : (h : History) (q : ℕ) (es : List ℕ) (older : List OnLoan) → closedNumber h q ≡ false → loansLeft h (block q es ++ older) ≡ block q (filter (staysLent h older) es) ++ loansLeft h older
-unfolding loansLeft filter
-left-open h q [] older c = unfold block in refl
-left-open h q (e ∷ es) older c =
-    unfold block in
-    (rw (stays-open h q e (block q es ++ older) c, same-stays) (pick (left-open h q es older c) (staysLent h older e)))
+unfolding loansLeft filter staysLent
+left-open h q [] older c = refl
+left-open h q (e ∷ es) older c = rw (same-stays) (pick (left-open h q es older c) (staysLent h older e))
   where
-    same-stays : staysLent h (block q es ++ older) e ≡ staysLent h older e
-    same-stays = unfold staysLent in (rw (shut-block h q es older e c) refl)
+    same-stays : staysOnLoan h (block q es ++ older) (record { request = q; lent = e }) ≡ staysLent h older e
+    same-stays = stays-open h q e (block q es ++ older) c ∙ ap (λ b. stands h e && not b) (shut-block h q es older e c)
 
     pick : loansLeft h (block q es ++ older) ≡ block q (filter (staysLent h older) es) ++ loansLeft h older → (b : Bool)
         → cond b (record { request = q; lent = e } ∷ loansLeft h (block q es ++ older)) (loansLeft h (block q es ++ older))
         ≡ block q (cond b (e ∷ filter (staysLent h older) es) (filter (staysLent h older) es)) ++ loansLeft h older
-    pick ih true = unfold block in (ap (λ l. record { request = q; lent = e } ∷ l) ih)
+    pick ih true = ap (λ l. record { request = q; lent = e } ∷ l) ih
     pick ih false = ih
