@@ -13,3 +13,15 @@ pub mod Gone
 pub mod Standing
 -- comes from, computed in one pass over the notes, is what the word means
 pub mod Comes
+-- the tables as the history notes them: look-up, tests and marks go through the view
+pub mod View
+-- the invariant after an answer: refused and accepted calls
+pub mod Keeps
+-- one more row, in the tables and in the history
+pub mod Added
+-- rows and records found in sound tables, and as the history has them
+pub mod Find
+-- hold, register and port keep the invariant
+pub mod StepAdd
+-- closing, in the tables and in the history
+pub mod Closed

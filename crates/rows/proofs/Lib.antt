@@ -5,3 +5,5 @@ pub mod Bools
 pub mod Keyed
 -- soundness as a record, a field a clause
 pub mod Sound
+-- keys that rise: each element is found by its key, also among those that a test picks
+pub mod Picked

@@ -1,0 +1,185 @@
+-- Closing, in the tables and in the history: what more is dropped or closed is what is removed.
+use Prim.Native.Nat.{ℕ, zero, suc, _<_}
+use mathlib.Core.Bool.{Bool, true, false, not, cond, _&&_, _||_}
+use mathlib.Core.List.{List, [], _∷_, map}
+use mathlib.Core.Path.{_≡_, refl, sym, ap, _∙_, fun-ext}
+use lib.Dec.{eqb}
+use lib.ListN.{getD, List·getD-map}
+use Rattle.rows.specs.declared.Row.{Row}
+use Rattle.rows.specs.declared.Request.{Request}
+use Rattle.rows.specs.declared.Process.{Process}
+use Rattle.rows.specs.Lists.{if_then_else_, filter, any, all, each, rises, member, some}
+use Rattle.rows.specs.Codes.{inClist}
+use Rattle.rows.specs.Tables.{State, noProcess, processAt, isListed, sources, mark, marked}
+use Rattle.rows.specs.Sound.{rowsRise}
+use Rattle.rows.proofs.Bools.{and-l, and-r, and-i}
+use Rattle.rows.proofs.Keyed.{keys-filter}
+use Rattle.rows.proofs.Sound.{Sound}
+use Rattle.closing.specs.Closing.{closes, oldestListing, placedIn, returned, withItems, trimmed, remaining, homed, settled, closing}
+use Rattle.history.specs.Notes.{Noted, Loan, History, noted, spoiled, survives, sweep, standing, stands, isClosed, openLoans, lastGo}
+use Rattle.history.proofs.Fit.{Fit}
+use Rattle.history.proofs.Inv.{Inv, Open, view, ofRequest, ofLoan, throughNow, below}
+use Rattle.history.proofs.Sweep.{rising, sourced, sweep-sweep}
+use Rattle.history.proofs.Comes.{reached, reached-sweep}
+use Rattle.history.proofs.View.{filter-through, map-through, view-rises, view-noted}
+
+-- ---- marks
+pub view-marked : (f : Row → Bool) (g : Noted → Bool) → ((r : Row) → f r ≡ g (view r)) → (rs : List Row) → marked f rs ≡ reached g (map view rs)
+unfolding marked reached view
+view-marked f g h [] = refl
+view-marked f g h (r ∷ rs) = rw (view-marked f g h rs, h r) refl
+
+-- the sources of what is left are left
+pub sweep-sourced : (f : Noted → Bool) (rs : List Noted) → sourced (sweep f rs) ≡ true
+unfolding sweep each
+sweep-sourced f [] = refl
+sweep-sourced f (r ∷ rs) = pick (sweep-sourced f rs) (survives f (noted (sweep f rs)) r) refl
+  where
+    pick : sourced (sweep f rs) ≡ true → (b : Bool) → survives f (noted (sweep f rs)) r ≡ b → sourced (cond b (r ∷ sweep f rs) (sweep f rs)) ≡ true
+    pick ih true q = and-i (all (λ s. member s (noted (sweep f rs))) (r .sources)) (sourced (sweep f rs)) (unfold survives in and-r (not (f r)) (all (λ s. member s (noted (sweep f rs))) (r .sources)) q) ih
+    pick ih false q = ih
+
+-- ---- what closing leaves as it is
+home-view : (f : Request → Bool) (vs : List Request) (r : Row) → view (returned f vs r) ≡ view r
+unfolding returned
+home-view f vs r = pick (some (oldestListing f (r .number) vs .number))
+  where
+    pick : (b : Bool) → view (cond b (placedIn (inClist (oldestListing f (r .number) vs .asker)) r) r) ≡ view r
+    pick true = unfold view placedIn sources in refl
+    pick false = refl
+
+remaining-view : (f : Request → Bool) (g : List ℕ) (p : Open → Bool) → ((v : Request) → not (f v) ≡ p (ofRequest v)) → (vs : List Request) → map ofRequest (remaining f g vs) ≡ filter p (map ofRequest vs)
+unfolding remaining filter
+remaining-view f g p h [] = refl
+remaining-view f g p h (v ∷ vs) = rw (← h v) (pick (remaining-view f g p h vs) (f v))
+  where
+    pick : map ofRequest (remaining f g vs) ≡ filter p (map ofRequest vs) → (b : Bool)
+        → map ofRequest (cond b (remaining f g vs) (trimmed f g vs v ∷ remaining f g vs)) ≡ cond (not b) (ofRequest v ∷ filter p (map ofRequest vs)) (filter p (map ofRequest vs))
+    pick ih true = ih
+    pick ih false = unfold trimmed withItems ofRequest in (ap (λ k. ofRequest v ∷ k) ih)
+
+filter-filter : {A : Type 0} (p q r : A → Bool) → ((a : A) → r a ≡ q a && p a) → (xs : List A) → filter p (filter q xs) ≡ filter r xs
+unfolding filter
+filter-filter p q r h [] = refl
+filter-filter p q r h (a ∷ xs) = rw (h a) (pick (filter-filter p q r h xs) (q a))
+  where
+    pick : filter p (filter q xs) ≡ filter r xs → (b : Bool) → filter p (cond b (a ∷ filter q xs) (filter q xs)) ≡ cond (b && p a) (a ∷ filter r xs) (filter r xs)
+    pick ih true = rw (← ih) refl
+    pick ih false = ih
+
+-- ---- processes
+home-of : (g : List ℕ) (ps : List Process) (p : ℕ) → processAt (map (homed g) ps) p ≡ homed g (processAt ps p)
+unfolding processAt homed noProcess some
+home-of g ps zero = refl
+home-of g ps (suc i) = List·getD-map (homed g) ps i noProcess
+
+home-prime : (g : List ℕ) (x : Process) → homed g x .prime ≡ x .prime
+unfolding homed
+home-prime g x = pick (some (x .through) && member (x .through) g)
+  where
+    pick : (b : Bool) → (cond b (record { prime = x .prime; active = x .prime; through = 0 }) x) .prime ≡ x .prime
+    pick true = refl
+    pick false = refl
+
+home-through : (g : List ℕ) (x : Process) → homed g x .through ≡ (if some (x .through) && member (x .through) g then 0 else x .through)
+unfolding homed
+home-through g x = pick (some (x .through) && member (x .through) g)
+  where
+    pick : (b : Bool) → (cond b (record { prime = x .prime; active = x .prime; through = 0 }) x) .through ≡ cond b 0 (x .through)
+    pick true = refl
+    pick false = refl
+
+gone-through : (g : List ℕ) (e : ℕ) (a b : Bool) → some e ≡ a → let t = cond (a && b) e 0 in cond (some t && member t g) 0 t ≡ cond (a && (b && not (member e g))) e 0
+gone-through g e true true q = rw q (pick (member e g))
+  where
+    pick : (b : Bool) → cond b 0 e ≡ cond (not b) e 0
+    pick true = refl
+    pick false = refl
+gone-through g e true false q = unfold some in refl
+gone-through g e false b q = unfold some in refl
+
+-- ---- h′ is h with more dropped or closed: what f holds of, which the tables see as the seed
+module _ (h h′ : History) (st : State) (f : Noted → Bool) (seed : Row → Bool) (qs : List ℕ) (i : Inv h st) (s : Sound st)
+    (rs : h′ .rows ≡ h .rows) (vs : h′ .requests ≡ h .requests) (ws : h′ .went ≡ h .went)
+    (sp : (r : Noted) → spoiled h′ r ≡ spoiled h r || f r) (sv : (r : Row) → seed r ≡ f (view r))
+    (cl : (v : ℕ) → member v (h′ .closedRequests) ≡ member v qs || member v (h .closedRequests)) where
+  abbrev gone : List ℕ
+  gone = marked seed (st .rows)
+
+  standing-rises : rising (standing h) ≡ true
+  standing-rises = ap rising (sym (i .rows)) ∙ view-rises (st .rows) ∙ (unfold rowsRise in s .rows-rise)
+
+  standing-left : standing h′ ≡ filter (λ r. not (member (r .number) gone)) (standing h)
+  unfolding standing
+  standing-left =
+      ap (sweep (spoiled h′)) rs ∙ ap (λ t. sweep t (h .rows)) (fun-ext sp) ∙ sym (sweep-sweep f (spoiled h) (h .rows))
+      ∙ sym (reached-sweep f (standing h) standing-rises (sweep-sourced (spoiled h) (h .rows)))
+      ∙ ap (λ m. filter (λ r. not (member (r .number) m)) (standing h)) (sym (view-marked seed f sv (st .rows) ∙ ap (reached f) (i .rows)))
+
+  pub stands-left : (k : ℕ) → stands h′ k ≡ stands h k && not (member k gone)
+  unfolding stands noted
+  stands-left k = ap (λ l. member k (noted l)) standing-left ∙ keys-filter (λ r. r .number) (λ n. not (member n gone)) (standing h) k
+
+  rows-left : map view (closing seed qs st .rows) ≡ standing h′
+  unfolding closing settled
+  rows-left =
+      map-through view (returned (closes qs gone) (st .requests)) (home-view (closes qs gone) (st .requests)) (filter (λ r. not (member (r .number) gone)) (st .rows))
+      ∙ filter-through view (λ r. not (member (r .number) gone)) (λ r. not (member (r .number) gone)) (λ r. unfold view in refl) (st .rows)
+      ∙ ap (filter (λ r. not (member (r .number) gone))) (i .rows) ∙ sym standing-left
+
+  open-left : (v : Loan) → not (isClosed h′ v) ≡ not (isClosed h v) && not (member (v .number) qs || member (v .port) gone)
+  unfolding isClosed
+  open-left v = rw (cl (v .number), stands-left (v .port)) (pick (member (v .number) qs) (member (v .number) (h .closedRequests)) (stands h (v .port)) (member (v .port) gone))
+    where
+      pick : (a b c d : Bool) → not ((a || b) || not (c && not d)) ≡ not (b || not c) && not (a || d)
+      pick true true c d = refl
+      pick true false true d = refl
+      pick true false false d = refl
+      pick false true c d = refl
+      pick false false true true = refl
+      pick false false true false = refl
+      pick false false false d = refl
+
+  requests-left : map ofRequest (closing seed qs st .requests) ≡ map ofLoan (openLoans h′)
+  unfolding closing settled openLoans
+  requests-left =
+      remaining-view (closes qs gone) gone isOpen (λ v. unfold closes ofRequest in refl) (st .requests)
+      ∙ ap (filter isOpen) (i .requests)
+      ∙ sym (filter-through ofLoan isOpen (λ v. not (member (v .number) qs || member (v .port) gone)) (λ v. unfold ofLoan in refl) (openLoans h))
+      ∙ ap (map ofLoan) (filter-filter (λ v. not (member (v .number) qs || member (v .port) gone)) (λ v. not (isClosed h v)) (λ v. not (isClosed h′ v)) open-left (h .requests) ∙ ap (filter (λ v. not (isClosed h′ v))) (sym vs))
+    where
+      isOpen : Open → Bool
+      isOpen o = not (member (o .number) qs || member (o .port) gone)
+
+  through-left : (p : ℕ) → (if some (throughNow h p) && member (throughNow h p) gone then 0 else throughNow h p) ≡ throughNow h′ p
+  unfolding throughNow
+  through-left p =
+      gone-through gone (lastGo (h .went) p) (some (lastGo (h .went) p)) (stands h (lastGo (h .went) p)) refl
+      ∙ ap (λ b. if some (lastGo (h .went) p) && b then lastGo (h .went) p else 0) (sym (stands-left (lastGo (h .went) p)))
+      ∙ ap (λ w. let e = lastGo w p in if some e && stands h′ e then e else 0) (sym ws)
+
+  homes-left : (p : ℕ) → isListed (closing seed qs st .processes) p ≡ true → processAt (closing seed qs st .processes) p .through ≡ throughNow h′ p
+  unfolding closing settled isListed
+  homes-left p e =
+      let at = home-of gone (st .processes) p in
+      let x = processAt (st .processes) p in
+      let l : some (x .prime) ≡ true = ap some (sym (ap (λ y. y .prime) at ∙ home-prime gone x)) ∙ e in
+      ap (λ y. y .through) at ∙ home-through gone x
+      ∙ ap (λ k. if some k && member k gone then 0 else k) (i .through p l)
+      ∙ through-left p
+
+  pub closed-keeps : Fit h′ → below (st .next) (h′ .dropped) ≡ true → below (st .next) (h′ .closedPorts) ≡ true → below (st .next) (h′ .closedRequests) ≡ true → Inv h′ (closing seed qs st)
+  closed-keeps fit db pb cb =
+      let n : closing seed qs st .next ≡ st .next = unfold closing settled in refl in
+      rw n record {
+        fit = fit;
+        rows = rows-left;
+        requests = requests-left;
+        through = homes-left;
+        rows-below = rw rs (i .rows-below);
+        requests-below = rw vs (i .requests-below);
+        dropped-below = db;
+        ports-below = pb;
+        closed-below = cb;
+        went-below = rw ws (i .went-below);
+      }

@@ -1,0 +1,187 @@
+-- hold, register and port keep the invariant.
+use Prim.Native.Nat.{ℕ, zero, suc, _<_, _≤_}
+use mathlib.Core.Bool.{Bool, true, false, not, cond, _&&_, _||_}
+use mathlib.Core.List.{List, [], _∷_, map}
+use mathlib.Core.Path.{_≡_, refl, sym, ap, _∙_}
+use lib.Dec.{leb, eqb}
+use native.Mathlib.Omega.{arith}
+use borrow.Author.Tests.{eqb-true, ne-eqb, leb-true}
+use Rattle.rows.specs.declared.Row.{Row}
+use Rattle.rows.specs.Lists.{if_then_else_, filter, all, member, some, nonzero, between, sameList}
+use Rattle.rows.specs.Limits.{nodes}
+use Rattle.rows.specs.Codes.{clientEnd, serverEnd, isEnd, isClient, isServer, isNode, inNode, inClist}
+use Rattle.rows.specs.Tables.{State, rowOf, numbers, processAt, isListed, sources, depthOver}
+use Rattle.rows.proofs.Bools.{clash, and-l, and-r, and-i, not-f, pos-some, eqb-self}
+use Rattle.rows.proofs.Sound.{Sound}
+use Rattle.calls.specs.declared.Call.the-variants.{Hold, Register, Port}
+use Rattle.calls.specs.Rules.{withRows, copyOf}
+use Rattle.calls.specs.Calls.{withHeld, doHold, withRegistered, doRegister, portEnd, withPort, doPort}
+use Rattle.history.specs.Notes.{History, notedOf, stands, lastGo, addRow, heldSources, noteHold, firstOnly, noteRegister, notePort}
+use Rattle.history.specs.Reading.{noteCall}
+use Rattle.history.proofs.Fit.{isEmpty, bearsWell, endsWell}
+use Rattle.history.proofs.Inv.{Inv, view, throughNow}
+use Rattle.history.proofs.Keeps.{Keeps, unless, taken-made}
+use Rattle.history.proofs.Added.{newNoted, FitsNew, not-below, add-row, stands-same}
+use Rattle.history.proofs.Sweep.{noted-here, noted-other}
+use Rattle.history.proofs.Find.{row-stands, row-noted, stands-low, held-there, place-there, number-low, node-no-end, held-source, active-node}
+
+-- ---- what is noted of a row that bears no request and is no end
+pub view-copy : (r : Row) (n x p s v d q : ℕ) → isEnd (r .kind) ≡ false → view (copyOf r n x p s v d q) ≡ newNoted n (nonzero (s ∷ v ∷ [])) q 0
+unfolding view copyOf sources
+view-copy r n x p s v d q e = rw e refl
+
+plain-fits : (h : History) (n : ℕ) (ss : List ℕ) → isEmpty ss ≡ false → FitsNew h (newNoted n ss 0 0)
+unfolding bearsWell endsWell some
+plain-fits h n ss e = record { sources-there = e; bears = refl; ends = refl }
+
+pub add-plain : (h : History) (st : State) (r : Row) (ss : List ℕ) → Inv h st → view r ≡ newNoted (st .next) ss 0 0 → isEmpty ss ≡ false → all (λ s. stands h s) ss ≡ true
+    → Inv (addRow (st .next) ss 0 0 h) (withRows (r ∷ st .rows) (suc (st .next)) st)
+add-plain h st r ss i v e older = add-row h st r ss 0 0 i v older (unfold some in refl) (unfold some in refl) (plain-fits h (st .next) ss e)
+
+one-source : (a : ℕ) → 0 < a → nonzero (a ∷ 0 ∷ []) ≡ a ∷ []
+unfolding nonzero filter
+one-source a lo = rw (pos-some a lo) (unfold some in refl)
+
+only-first : (r : Row) → 0 < r .source → firstOnly (view r .sources) ≡ r .source ∷ []
+unfolding firstOnly view sources nonzero filter
+only-first r lo = rw (pos-some (r .source) lo) refl
+
+one-stands : (h : History) (a : ℕ) → stands h a ≡ true → all (λ k. stands h k) (a ∷ []) ≡ true
+unfolding all
+one-stands h a t = rw t refl
+
+or-true : (a : Bool) → a || true ≡ true
+or-true true = refl
+or-true false = refl
+
+and-rf : (a b : Bool) → b ≡ false → a && b ≡ false
+and-rf true b e = e
+and-rf false b e = refl
+
+-- ---- hold
+module _ (h : History) (p s : ℕ) where
+  held-sources : 0 < s → nonzero (s ∷ throughNow h p ∷ []) ≡ heldSources h p s
+  unfolding throughNow heldSources nonzero filter
+  held-sources lo = rw (pos-some s lo) (pick (some (lastGo (h .went) p) && stands h (lastGo (h .went) p)) refl)
+    where
+      pick : (b : Bool) → some (lastGo (h .went) p) && stands h (lastGo (h .went) p) ≡ b → s ∷ filter some (cond b (lastGo (h .went) p) 0 ∷ []) ≡ cond b (s ∷ lastGo (h .went) p ∷ []) (s ∷ [])
+      pick true q = rw (and-l (some (lastGo (h .went) p)) _ q) refl
+      pick false q = unfold some in refl
+
+  sources-stand : stands h s ≡ true → all (λ k. stands h k) (heldSources h p s) ≡ true
+  unfolding heldSources all
+  sources-stand t = pick (some (lastGo (h .went) p) && stands h (lastGo (h .went) p)) refl
+    where
+      pick : (b : Bool) → some (lastGo (h .went) p) && stands h (lastGo (h .went) p) ≡ b → all (λ k. stands h k) (cond b (s ∷ lastGo (h .went) p ∷ []) (s ∷ [])) ≡ true
+      pick true q = rw (t, and-r (some (lastGo (h .went) p)) _ q) refl
+      pick false q = rw t refl
+
+  sources-some : isEmpty (heldSources h p s) ≡ false
+  unfolding heldSources isEmpty
+  sources-some = pick (some (lastGo (h .went) p) && stands h (lastGo (h .went) p))
+    where
+      pick : (b : Bool) → isEmpty (cond b (s ∷ lastGo (h .went) p ∷ []) (s ∷ [])) ≡ false
+      pick true = refl
+      pick false = refl
+
+node-low : (n : ℕ) → isNode n ≡ true → 0 < n
+unfolding isNode between
+node-low n t = leb-true 1 n (and-l (leb 1 n) (leb n nodes) t)
+
+-- ---- port
+client-view : (n p e d : ℕ) → 0 < e → view (portEnd clientEnd n n p e d) ≡ newNoted n (e ∷ []) 0 n
+unfolding view portEnd sources isEnd isClient isServer clientEnd serverEnd
+client-view n p e d lo = rw (one-source e lo) refl
+
+server-view : (n p e d : ℕ) → 0 < e → view (portEnd serverEnd (suc n) n p e d) ≡ newNoted (suc n) (e ∷ []) 0 n
+unfolding view portEnd sources isEnd isClient isServer clientEnd serverEnd
+server-view n p e d lo = rw (one-source e lo) refl
+
+client-fits : (h : History) (n e : ℕ) → FitsNew h (newNoted n (e ∷ []) 0 n)
+unfolding bearsWell endsWell some isEmpty sameList
+client-fits h n e =
+    let x = newNoted n (e ∷ []) 0 n in
+    record { sources-there = refl; bears = refl; ends = rw (noted-here x (h .rows) n (eqb-self n), eqb-self n, eqb-self e) (or-true (not (some n))) }
+
+server-fits : (h : History) (n e : ℕ) → FitsNew (addRow n (e ∷ []) 0 n h) (newNoted (suc n) (e ∷ []) 0 n)
+unfolding bearsWell endsWell some isEmpty sameList addRow
+server-fits h n e =
+    let x = newNoted n (e ∷ []) 0 n in
+    let y = newNoted (suc n) (e ∷ []) 0 n in
+    let client : notedOf (y ∷ x ∷ h .rows) n ≡ x = noted-other y (x ∷ h .rows) n (ne-eqb (suc n) n (λ z. omega arith)) ∙ noted-here x (h .rows) n (eqb-self n) in
+    record { sources-there = refl; bears = refl; ends = rw (client, eqb-self (suc n), eqb-self n, eqb-self e, or-true (eqb (suc n) n)) (or-true (not (some n))) }
+
+module _ (h : History) (st : State) (i : Inv h st) (s : Sound st) where
+  held-inv : (p e d : ℕ) → isListed (st .processes) p ≡ true → rowOf (st .rows) e .place ≡ inNode (processAt (st .processes) p .active)
+      → Inv (noteHold p e (st .next) h) (withHeld st p e (processAt (st .processes) p .through) d)
+  unfolding noteHold withHeld inNode
+  held-inv p e d l at-node =
+      let n : isNode (processAt (st .processes) p .active) ≡ true = active-node st s p l in
+      let t : member e (numbers (st .rows)) ≡ true = place-there st (processAt (st .processes) p .active) e (node-low (processAt (st .processes) p .active) n) at-node in
+      let end : isEnd (rowOf (st .rows) e .kind) ≡ false = node-no-end st s e t (ap isNode at-node ∙ n) in
+      add-plain h st _ (heldSources h p e) i
+      (view-copy (rowOf (st .rows) e) (st .next) _ _ e (processAt (st .processes) p .through) d 0 end
+        ∙ ap (λ k. newNoted (st .next) k 0 0) (ap (λ k. nonzero (e ∷ k ∷ [])) (i .through p l) ∙ held-sources h p e (number-low st s e t)))
+      (sources-some h p e) (sources-stand h p e (row-stands h st i e t))
+
+  pub hold-keeps : (p e : ℕ) → isListed (st .processes) p ≡ true → Keeps h (Hold p e) (doHold st p e)
+  unfolding doHold noteCall
+  hold-keeps p e l =
+      unless _ 7 refl i λ e7.
+      unless _ 9 refl i λ e9.
+      unless _ 12 refl i λ e12.
+      unless _ 15 refl i λ e15.
+      unless _ 16 refl i λ e16.
+      unless _ 18 refl i λ e18.
+      taken-made _ _ (held-inv p e _ l (eqb-true _ _ (not-f _ e7)))
+
+  -- ---- register
+  first-source : (e : ℕ) → member e (numbers (st .rows)) ≡ true → 0 < rowOf (st .rows) e .source → firstOnly (notedOf (h .rows) e .sources) ≡ rowOf (st .rows) e .source ∷ []
+  first-source e t lo = ap (λ x. firstOnly (x .sources)) (row-noted h st i e (row-stands h st i e t)) ∙ only-first (rowOf (st .rows) e) lo
+
+  registered-inv : (p e d : ℕ) → member e (numbers (st .rows)) ≡ true → isEnd (rowOf (st .rows) e .kind) ≡ false → member (rowOf (st .rows) e .source) (numbers (st .rows)) ≡ true
+      → Inv (noteRegister e (st .next) h) (withRegistered st p e d)
+  unfolding noteRegister withRegistered
+  registered-inv p e d t end up =
+      let a = rowOf (st .rows) e .source in
+      let lo : 0 < a = number-low st s a up in
+      let ss : firstOnly (notedOf (h .rows) e .sources) ≡ a ∷ [] = first-source e t lo in
+      rw ss (add-plain h st _ (a ∷ []) i (view-copy (rowOf (st .rows) e) (st .next) _ _ a 0 d 0 end ∙ ap (λ k. newNoted (st .next) k 0 0) (one-source a lo))
+      (unfold isEmpty in refl) (one-stands h a (row-stands h st i a up)))
+
+  pub register-keeps : (p e : ℕ) → Keeps h (Register p e) (doRegister st p e)
+  unfolding doRegister noteCall
+  register-keeps p e =
+      unless _ 7 refl i λ e7.
+      unless _ 8 refl i λ e8.
+      unless _ 9 refl i λ e9.
+      unless _ 12 refl i λ e12.
+      unless _ 15 refl i λ e15.
+      unless _ 16 refl i λ e16.
+      unless _ 18 refl i λ e18.
+      taken-made _ _ (registered-inv p e _ (held-there st p e e7) e8 (held-source st s p e e7 e8 e12))
+
+  -- ---- port
+  port-inv : (p e d : ℕ) → member e (numbers (st .rows)) ≡ true → Inv (notePort e (st .next) h) (withPort st p e d)
+  unfolding notePort withPort withRows addRow
+  port-inv p e d t =
+      let n = st .next in
+      let lo : 0 < e = number-low st s e t in
+      let up : stands h e ≡ true = row-stands h st i e t in
+      let cn : some n && member n (h .closedPorts) ≡ false = and-rf (some n) (member n (h .closedPorts)) (not-below n (h .closedPorts) (i .ports-below)) in
+      let client = portEnd clientEnd n n (inClist p) e d in
+      let h₁ = addRow n (e ∷ []) 0 n h in
+      let i₁ : Inv h₁ (withRows (client ∷ st .rows) (suc n) st) = add-row h st client (e ∷ []) 0 n i (client-view n (inClist p) e d lo) (one-stands h e up) (unfold some in refl) cn (client-fits h n e) in
+      let up₁ : stands h₁ e ≡ true = stands-same h n (e ∷ []) 0 n (not-below n (h .dropped) (i .dropped-below)) (unfold some in refl) cn (one-stands h e up) e (stands-low h st i e up .1) ∙ up in
+      add-row h₁ (withRows (client ∷ st .rows) (suc n) st) (portEnd serverEnd (suc n) n (inClist (rowOf (st .rows) e .object)) e d) (e ∷ []) 0 n i₁
+      (server-view n (inClist (rowOf (st .rows) e .object)) e d lo) (one-stands h₁ e up₁) (unfold some in refl) cn (server-fits h n e)
+
+  pub port-keeps : (p e : ℕ) → Keeps h (Port p e) (doPort st p e)
+  unfolding doPort noteCall
+  port-keeps p e =
+      unless _ 7 refl i λ e7.
+      unless _ 8 refl i λ e8.
+      unless _ 15 refl i λ e15.
+      unless _ 16 refl i λ e16.
+      unless _ 18 refl i λ e18.
+      taken-made _ _ (port-inv p e _ (held-there st p e e7))
