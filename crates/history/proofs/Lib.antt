@@ -25,3 +25,5 @@ pub mod Find
 pub mod StepAdd
 -- closing, in the tables and in the history
 pub mod Closed
+-- closing, and the ends on loan
+pub mod LoansClose
