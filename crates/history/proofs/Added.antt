@@ -20,6 +20,10 @@ use Rattle.history.proofs.Sweep.{rising, noted-other, sweep-sub}
 abbrev pub newNoted : ℕ → List ℕ → ℕ → ℕ → Noted
 newNoted n ss q c = record { number = n; sources = ss; request = q; port = c }
 
+pub and-rf : (a b : Bool) → b ≡ false → a && b ≡ false
+and-rf true b e = e
+and-rf false b e = refl
+
 -- ---- numbers below n
 pub below-up : (n m : ℕ) → n ≤ m → (ks : List ℕ) → below n ks ≡ true → below m ks ≡ true
 unfolding below

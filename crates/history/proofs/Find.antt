@@ -15,7 +15,7 @@ use Rattle.rows.specs.Lists.{any, all, each, firstWith, rises, topOf, member, b
 use Rattle.rows.specs.Limits.{nodes}
 use Rattle.rows.specs.Codes.{operation, subdirectory, clientEnd, serverEnd, isOperation, isSubdirectory, isClient, isServer, isEnd, isCopied, inClist, isNode, isClist}
 use Rattle.rows.specs.Tables.{State, noRow, noProcess, rowOf, numbers, sources, processAt, isListed, reaches, onLoan, lentItself, isLent}
-use Rattle.rows.specs.Sound.{rowsRise, objectInRange, objectsInRange, recordUnused, recordInRange, recordsInRange, isOpening, isRegistered, isHeld, isPortEnd, isLentCopy, sourceRight, sourcesRight}
+use Rattle.rows.specs.Sound.{rowsRise, objectInRange, objectsInRange, recordUnused, recordInRange, recordsInRange, isOpening, isRegistered, isHeld, isPortEnd, isLentCopy, sourceRight, sourcesRight, isPairedWith, otherEnd, endPaired, endsPaired}
 use Rattle.rows.proofs.Bools.{false-of, clash, and-l, and-r, or-cases, or-l, or-r, not-t, not-f, eqb-sym-f, some-pos}
 use Rattle.rows.proofs.Keyed.{first-key, first-there, all-first, rises-range, olderOf, each-first, older-key}
 use Rattle.rows.proofs.Sound.{Sound}
@@ -149,6 +149,18 @@ reaches-self f (r ∷ rs) e t g = pick (reaches-self f rs e) (eqb (r .number) e)
     pick ih true q t g = or-l (f r) _ g
     pick ih false q t g = ih (rw (eqb-sym-f (r .number) e q) at t) g
 
+end-there : (rs : List Row) (e : ℕ) → isEnd (rowOf rs e .kind) ≡ true → member e (numbers rs) ≡ true
+unfolding rowOf numbers
+end-there rs e n = first-there (λ r. r .number) noRow (λ r. isEnd (r .kind)) (unfold noRow isEnd isClient isServer clientEnd serverEnd in refl) rs e n
+
+paired-end : (rs : List Row) (r : Row) → isEnd (r .kind) ≡ true → endPaired rs r ≡ true → isEnd (rowOf rs (otherEnd r) .kind) ≡ true
+unfolding endPaired isPairedWith
+paired-end rs r k e = and-l (isEnd (rowOf rs (otherEnd r) .kind)) _ (rw k at e)
+
+server-other : (r : Row) → isServer (r .kind) ≡ true → otherEnd r ≡ pred (r .number)
+unfolding otherEnd isServer isClient clientEnd serverEnd
+server-other r k = rw (eqb-true (r .kind) 4 k) refl
+
 module _ (st : State) (s : Sound st) where
   -- a row that is not lent bears no request
   unlent : (e : ℕ) → member e (numbers (st .rows)) ≡ true → isLent st e ≡ false → some (rowOf (st .rows) e .request) ≡ false
@@ -169,6 +181,10 @@ module _ (st : State) (s : Sound st) where
   object-at : (e : ℕ) → member e (numbers (st .rows)) ≡ true → objectInRange (st .processes) (rowOf (st .rows) e) ≡ true
   unfolding numbers rowOf
   object-at e t = all-first (λ r. r .number) noRow (objectInRange (st .processes)) (st .rows) e (unfold objectsInRange in s .objects-in-range) t
+
+  paired-at : (e : ℕ) → member e (numbers (st .rows)) ≡ true → endPaired (st .rows) (rowOf (st .rows) e) ≡ true
+  unfolding numbers rowOf
+  paired-at e t = all-first (λ r. r .number) noRow (endPaired (st .rows)) (st .rows) e (unfold endsPaired in s .ends-paired) t
 
   -- what its sources are, by what is older
   right-at : (e : ℕ) → member e (numbers (st .rows)) ≡ true → sourceRight (st .requests) (rowOf (st .rows) e) (olderOf (λ r. r .number) (st .rows) e) ≡ true
@@ -203,3 +219,21 @@ module _ (st : State) (s : Sound st) where
   pub active-node : (p : ℕ) → isListed (st .processes) p ≡ true → isNode (processAt (st .processes) p .active) ≡ true
   unfolding isListed
   active-node p l = active-in-range (processAt (st .processes) p) (all-process recordInRange (unfold recordInRange recordUnused noProcess in refl) (st .processes) p (unfold recordsInRange in s .records-in-range)) l
+
+  -- the port of an end has a number: a client end's is its own, a server end's that of its other end
+  pub end-port-low : (e : ℕ) → member e (numbers (st .rows)) ≡ true → isEnd (rowOf (st .rows) e .kind) ≡ true → 0 < rowOf (st .rows) e .object
+  end-port-low e t k = ⊎-elim client server (or-cases (isClient (rowOf (st .rows) e .kind)) (isServer (rowOf (st .rows) e .kind)) (unfold isEnd in k))
+    where
+      r : Row
+      r = rowOf (st .rows) e
+
+      client : isClient (r .kind) ≡ true → 0 < r .object
+      client c = let z = client-port e t c in let lo = number-low e t in omega arith
+
+      server : isServer (r .kind) ≡ true → 0 < r .object
+      server c =
+          let z : r .object ≡ pred e = server-port e t c in
+          let n : r .number ≡ e = row-number e t in
+          let lo : 0 < otherEnd r = number-low (otherEnd r) (end-there (st .rows) (otherEnd r) (paired-end (st .rows) r k (paired-at e t))) in
+          let o : otherEnd r ≡ pred (r .number) = server-other r c in
+          omega arith

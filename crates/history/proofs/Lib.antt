@@ -25,5 +25,13 @@ pub mod Find
 pub mod StepAdd
 -- closing, in the tables and in the history
 pub mod Closed
+-- drop, close, revoke, reply and refuse keep the invariant
+pub mod StepClose
+-- go, fetch and comes keep the invariant
+pub mod StepGo
+-- ask keeps the invariant
+pub mod StepAsk
 -- closing, and the ends on loan
 pub mod LoansClose
+-- an accepted revoke takes from the tables just what came from the request
+pub mod Vanish

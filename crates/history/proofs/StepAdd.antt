@@ -11,7 +11,7 @@ use Rattle.rows.specs.Lists.{if_then_else_, filter, all, member, some, nonzero,
 use Rattle.rows.specs.Limits.{nodes}
 use Rattle.rows.specs.Codes.{clientEnd, serverEnd, isEnd, isClient, isServer, isNode, inNode, inClist}
 use Rattle.rows.specs.Tables.{State, rowOf, numbers, processAt, isListed, sources, depthOver}
-use Rattle.rows.proofs.Bools.{clash, and-l, and-r, and-i, not-f, pos-some, eqb-self}
+use Rattle.rows.proofs.Bools.{clash, and-l, and-r, not-f, or-r, pos-some, eqb-self}
 use Rattle.rows.proofs.Sound.{Sound}
 use Rattle.calls.specs.declared.Call.the-variants.{Hold, Register, Port}
 use Rattle.calls.specs.Rules.{withRows, copyOf}
@@ -21,7 +21,7 @@ use Rattle.history.specs.Reading.{noteCall}
 use Rattle.history.proofs.Fit.{isEmpty, bearsWell, endsWell}
 use Rattle.history.proofs.Inv.{Inv, view, throughNow}
 use Rattle.history.proofs.Keeps.{Keeps, unless, taken-made}
-use Rattle.history.proofs.Added.{newNoted, FitsNew, not-below, add-row, stands-same}
+use Rattle.history.proofs.Added.{newNoted, FitsNew, and-rf, not-below, add-row, stands-same}
 use Rattle.history.proofs.Sweep.{noted-here, noted-other}
 use Rattle.history.proofs.Find.{row-stands, row-noted, stands-low, held-there, place-there, number-low, node-no-end, held-source, active-node}
 
@@ -49,14 +49,6 @@ only-first r lo = rw (pos-some (r .source) lo) refl
 one-stands : (h : History) (a : ℕ) → stands h a ≡ true → all (λ k. stands h k) (a ∷ []) ≡ true
 unfolding all
 one-stands h a t = rw t refl
-
-or-true : (a : Bool) → a || true ≡ true
-or-true true = refl
-or-true false = refl
-
-and-rf : (a b : Bool) → b ≡ false → a && b ≡ false
-and-rf true b e = e
-and-rf false b e = refl
 
 -- ---- hold
 module _ (h : History) (p s : ℕ) where
@@ -101,7 +93,7 @@ client-fits : (h : History) (n e : ℕ) → FitsNew h (newNoted n (e ∷ []) 0 n
 unfolding bearsWell endsWell some isEmpty sameList
 client-fits h n e =
     let x = newNoted n (e ∷ []) 0 n in
-    record { sources-there = refl; bears = refl; ends = rw (noted-here x (h .rows) n (eqb-self n), eqb-self n, eqb-self e) (or-true (not (some n))) }
+    record { sources-there = refl; bears = refl; ends = rw (noted-here x (h .rows) n (eqb-self n), eqb-self n, eqb-self e) (or-r (not (some n)) true refl) }
 
 server-fits : (h : History) (n e : ℕ) → FitsNew (addRow n (e ∷ []) 0 n h) (newNoted (suc n) (e ∷ []) 0 n)
 unfolding bearsWell endsWell some isEmpty sameList addRow
@@ -109,7 +101,7 @@ server-fits h n e =
     let x = newNoted n (e ∷ []) 0 n in
     let y = newNoted (suc n) (e ∷ []) 0 n in
     let client : notedOf (y ∷ x ∷ h .rows) n ≡ x = noted-other y (x ∷ h .rows) n (ne-eqb (suc n) n (λ z. omega arith)) ∙ noted-here x (h .rows) n (eqb-self n) in
-    record { sources-there = refl; bears = refl; ends = rw (client, eqb-self (suc n), eqb-self n, eqb-self e, or-true (eqb (suc n) n)) (or-true (not (some n))) }
+    record { sources-there = refl; bears = refl; ends = rw (client, eqb-self (suc n), eqb-self n, eqb-self e, or-r (eqb (suc n) n) true refl) (or-r (not (some n)) true refl) }
 
 module _ (h : History) (st : State) (i : Inv h st) (s : Sound st) where
   held-inv : (p e d : ℕ) → isListed (st .processes) p ≡ true → rowOf (st .rows) e .place ≡ inNode (processAt (st .processes) p .active)

@@ -1,0 +1,222 @@
+-- drop, close, revoke, reply and refuse keep the invariant.
+use Prim.Native.Nat.{ℕ, zero, suc, pred, _<_}
+use mathlib.Core.Bool.{Bool, true, false, not, cond, _&&_, _||_}
+use mathlib.Core.List.{List, [], _∷_, map}
+use mathlib.Core.Path.{_≡_, refl, sym, ap, _∙_}
+use lib.Dec.{ltb, eqb}
+use native.Mathlib.Omega.{arith}
+use borrow.Author.Tests.{eqb-true, eq-eqb, ne-eqb, ltb-true, lt-ltb}
+use Rattle.rows.specs.declared.Row.{Row}
+use Rattle.rows.specs.declared.Request.{Request}
+use Rattle.rows.specs.Lists.{if_then_else_, all, firstWith, topOf, rises, member, some}
+use Rattle.rows.specs.Codes.{isEnd, isServer}
+use Rattle.rows.specs.Tables.{State, noRequest, rowOf, numbers, requestOf, openOn, bears}
+use Rattle.rows.specs.Sound.{requestsRise, belowNext}
+use Rattle.rows.proofs.Bools.{clash, and-l, and-r, and-i, not-f, or-fl, pos-some}
+use Rattle.rows.proofs.Keyed.{first-key, first-there, all-first, rises-rest, rises-first}
+use Rattle.rows.proofs.Sound.{Sound}
+use Rattle.closing.specs.Closing.{closing, closeRequest, isEndOf, closePort, isRow, dropRow}
+use Rattle.calls.specs.declared.Call.the-variants.{Drop, Close, Reply, Refuse, Revoke}
+use Rattle.calls.specs.Calls.{doDrop, doClose, doReply, doRefuse, doRevoke}
+use Rattle.history.specs.Notes.{Noted, Loan, History, noLoan, notedOf, spoiled, stands, openLoans, openRequest, noteDrop, noteClose, noteRevoke, noteEnd}
+use Rattle.history.specs.Reading.{noteCall}
+use Rattle.history.proofs.Fit.{Fit}
+use Rattle.history.proofs.Inv.{Inv, Open, view, ofRequest, ofLoan}
+use Rattle.history.proofs.Keeps.{fit-same, Keeps, unless, taken-done}
+use Rattle.history.proofs.View.{first-through}
+use Rattle.history.proofs.Added.{below-cons}
+use Rattle.history.proofs.Closed.{closed-keeps}
+use Rattle.history.proofs.Find.{row-stands, row-noted, stands-low, held-there, server-port}
+
+-- ---- what more is spoiled
+drop-spoils : (e : ℕ) (h : History) (r : Noted) → spoiled (noteDrop e h) r ≡ spoiled h r || eqb (r .number) e
+unfolding spoiled noteDrop member
+drop-spoils e h r = pick (eqb (r .number) e) (member (r .number) (h .dropped)) ((some (r .request) && member (r .request) (h .closedRequests)) || (some (r .port) && member (r .port) (h .closedPorts)))
+  where
+    pick : (e a b : Bool) → (e || a) || b ≡ (a || b) || e
+    pick true true b = refl
+    pick true false true = refl
+    pick true false false = refl
+    pick false true b = refl
+    pick false false true = refl
+    pick false false false = refl
+
+-- a test that holds only of what is some
+or-some : (x e m : Bool) → (e ≡ true → x ≡ true) → x && (e || m) ≡ (x && m) || e
+or-some true true true f = refl
+or-some true true false f = refl
+or-some true false true f = refl
+or-some true false false f = refl
+or-some false true m f = f refl
+or-some false false m f = refl
+
+some-equal : (n k : ℕ) → 0 < k → eqb n k ≡ true → some n ≡ true
+some-equal n k lo e = let z : n ≡ k = eqb-true n k e in pos-some n (omega arith)
+
+revoke-spoils : (q : ℕ) → 0 < q → (h : History) (r : Noted) → spoiled (noteRevoke q h) r ≡ spoiled h r || eqb (r .request) q
+unfolding spoiled noteRevoke member
+revoke-spoils q lo h r =
+    rw (or-some (some (r .request)) (eqb (r .request) q) (member (r .request) (h .closedRequests)) (some-equal (r .request) q lo))
+    (pick (member (r .number) (h .dropped)) (some (r .request) && member (r .request) (h .closedRequests)) (some (r .port) && member (r .port) (h .closedPorts)) (eqb (r .request) q))
+  where
+    pick : (a b c e : Bool) → a || ((b || e) || c) ≡ (a || (b || c)) || e
+    pick true b c e = refl
+    pick false true c e = refl
+    pick false false true true = refl
+    pick false false true false = refl
+    pick false false false true = refl
+    pick false false false false = refl
+
+close-spoils : (c : ℕ) → 0 < c → (h : History) (r : Noted) → spoiled (noteClose c h) r ≡ spoiled h r || eqb (r .port) c
+unfolding spoiled noteClose member
+close-spoils c lo h r =
+    rw (or-some (some (r .port)) (eqb (r .port) c) (member (r .port) (h .closedPorts)) (some-equal (r .port) c lo))
+    (pick (member (r .number) (h .dropped)) (some (r .request) && member (r .request) (h .closedRequests)) (some (r .port) && member (r .port) (h .closedPorts)) (eqb (r .port) c))
+  where
+    pick : (a b c e : Bool) → a || (b || (c || e)) ≡ (a || (b || c)) || e
+    pick true b c e = refl
+    pick false true c e = refl
+    pick false false c e = refl
+
+-- ---- numbers of open requests
+inRange : ℕ → Request → Bool
+inRange n v = ltb 0 (v .number) && ltb (v .number) n
+
+all-in-range : (n : ℕ) (vs : List Request) → rises (λ v. v .number) vs ≡ true → topOf (λ v. v .number) vs < n → all (inRange n) vs ≡ true
+unfolding all inRange topOf
+all-in-range n [] u hi = refl
+all-in-range n (v ∷ vs) u hi =
+    let lt = rises-first (λ v. v .number) v vs u in
+    and-i (inRange n v) (all (inRange n) vs) (and-i (ltb 0 (v .number)) (ltb (v .number) n) (lt-ltb 0 (v .number) (omega arith)) (lt-ltb (v .number) n hi))
+    (all-in-range n vs (rises-rest (λ v. v .number) v vs u) (omega arith))
+
+module _ (st : State) (s : Sound st) where
+  open-in-range : all (inRange (st .next)) (st .requests) ≡ true
+  open-in-range =
+      all-in-range (st .next) (st .requests) (unfold requestsRise in s .requests-rise)
+      (ltb-true (topOf (λ v. v .number) (st .requests)) (st .next) (unfold belowNext in and-r (ltb (topOf (λ r. r .number) (st .rows)) (st .next)) _ (s .below-next)))
+
+  found-there : (key : Request → ℕ) (n : ℕ) → eqb (firstWith key noRequest (st .requests) n .number) 0 ≡ false → member n (map key (st .requests)) ≡ true
+  unfolding noRequest
+  found-there key n e = first-there key noRequest (λ v. not (eqb (v .number) 0)) refl (st .requests) n (ap not e)
+
+  -- what is found by any key
+  found-range : (key : Request → ℕ) (n : ℕ) → eqb (firstWith key noRequest (st .requests) n .number) 0 ≡ false → (0 < firstWith key noRequest (st .requests) n .number) × (firstWith key noRequest (st .requests) n .number < st .next)
+  unfolding inRange
+  found-range key n e =
+      let v = firstWith key noRequest (st .requests) n in
+      let r : inRange (st .next) v ≡ true = all-first key noRequest (inRange (st .next)) (st .requests) n open-in-range (found-there key n e) in
+      (ltb-true 0 (v .number) (and-l (ltb 0 (v .number)) _ r), ltb-true (v .number) (st .next) (and-r (ltb 0 (v .number)) _ r))
+
+  request-range : (q : ℕ) → eqb (requestOf (st .requests) q .number) 0 ≡ false → (0 < q) × (q < st .next)
+  unfolding requestOf
+  request-range q e =
+      let n : requestOf (st .requests) q .number ≡ q = first-key (λ v. v .number) noRequest (st .requests) q (found-there (λ v. v .number) q e) in
+      let (lo, hi) = found-range (λ v. v .number) q e in (rw n at lo, rw n at hi)
+
+-- ---- the request open on a port, in the tables and in the history
+noOpen : Open
+noOpen = record { number = 0; asker = 0; port = 0 }
+
+same-open : (h : History) (st : State) → Inv h st → (c : ℕ) → openOn (st .requests) c .number ≡ openRequest h c
+unfolding openOn openRequest ofRequest ofLoan
+same-open h st i c =
+    ap (λ o. o .number) (sym (first-through ofRequest (λ v. v .port) (λ o. o .port) (λ v. refl) noRequest noOpen (unfold noRequest noOpen in refl) (st .requests) c))
+    ∙ ap (λ os. firstWith (λ o. o .port) noOpen os c .number) (i .requests)
+    ∙ ap (λ o. o .number) (first-through ofLoan (λ v. v .port) (λ o. o .port) (λ v. refl) noLoan noOpen (unfold noLoan noOpen in refl) (openLoans h) c)
+
+end-of : (c : ℕ) → 0 < c → (r : Row) → isEndOf c r ≡ eqb (view r .port) c
+unfolding isEndOf view
+end-of c lo r = pick (isEnd (r .kind))
+  where
+    pick : (b : Bool) → b && eqb (r .object) c ≡ eqb (cond b (r .object) 0) c
+    pick true = refl
+    pick false = sym (ne-eqb 0 c (λ e. omega arith))
+
+-- what no end is noted as
+plain-port : (r : Row) → isEnd (r .kind) ≡ false → view r .port ≡ 0
+unfolding view
+plain-port r e = rw e refl
+
+member-one : (v q : ℕ) (ks : List ℕ) → member v (q ∷ ks) ≡ member v (q ∷ []) || member v ks
+unfolding member
+member-one v q ks = pick (eqb v q)
+  where
+    pick : (b : Bool) → b || member v ks ≡ (b || false) || member v ks
+    pick true = refl
+    pick false = refl
+
+module _ (h : History) (st : State) (i : Inv h st) (s : Sound st) where
+  -- ---- revoke, reply, refuse
+  pub revoked-inv : (q : ℕ) → 0 < q → q < st .next → Inv (noteRevoke q h) (closeRequest q st)
+  unfolding closeRequest noteRevoke
+  revoked-inv q lo hi =
+      closed-keeps h (noteRevoke q h) st (λ r. eqb (r .request) q) (bears q) (q ∷ []) i s refl refl refl
+      (unfold noteRevoke in revoke-spoils q lo h) (λ r. unfold bears view in refl) (λ v. member-one v q (h .closedRequests))
+      (fit-same h (noteRevoke q h) refl refl refl (i .fit .ends-kept) (i .fit)) (i .dropped-below) (i .ports-below) (below-cons (st .next) q (h .closedRequests) hi (i .closed-below))
+
+  pub revoke-keeps : (p q : ℕ) → Keeps h (Revoke p q) (doRevoke st p q)
+  unfolding doRevoke noteCall
+  revoke-keeps p q =
+      unless _ 7 refl i λ e7.
+      let (lo, hi) = request-range st s q (or-fl (eqb (requestOf (st .requests) q .number) 0) _ e7) in
+      taken-done _ (revoked-inv q lo hi)
+
+  -- the request open on the port of a server end is closed
+  answered-inv : (e : ℕ) → member e (numbers (st .rows)) ≡ true → isServer (rowOf (st .rows) e .kind) ≡ true → eqb (openOn (st .requests) (rowOf (st .rows) e .object) .number) 0 ≡ false
+      → Inv (noteEnd e h) (closeRequest (openOn (st .requests) (rowOf (st .rows) e .object) .number) st)
+  unfolding noteEnd openOn
+  answered-inv e t k z =
+      let same : openOn (st .requests) (rowOf (st .rows) e .object) .number ≡ openRequest h (pred e) = same-open h st i (rowOf (st .rows) e .object) ∙ ap (openRequest h) (server-port st s e t k) in
+      let (lo, hi) = found-range st s (λ v. v .port) (rowOf (st .rows) e .object) z in
+      rw (← same) (revoked-inv (openOn (st .requests) (rowOf (st .rows) e .object) .number) lo hi)
+
+  pub refuse-keeps : (p e : ℕ) → Keeps h (Refuse p e) (doRefuse st p e)
+  unfolding doRefuse noteCall
+  refuse-keeps p e =
+      unless _ 7 refl i λ e7.
+      unless _ 8 refl i λ e8.
+      unless _ 11 refl i λ e11.
+      taken-done _ (answered-inv e (held-there st p e e7) (not-f _ e8) e11)
+
+  pub reply-keeps : (p e : ℕ) → Keeps h (Reply p e) (doReply st p e)
+  unfolding doReply noteCall
+  reply-keeps p e =
+      unless _ 7 refl i λ e7.
+      unless _ 8 refl i λ e8.
+      unless _ 10 refl i λ e10.
+      unless _ 11 refl i λ e11.
+      unless _ 14 refl i λ e14.
+      taken-done _ (answered-inv e (held-there st p e e7) (not-f _ e8) (or-fl (eqb (openOn (st .requests) (rowOf (st .rows) e .object) .number) 0) _ e11))
+
+  -- ---- drop
+  dropped-inv : (e : ℕ) → member e (numbers (st .rows)) ≡ true → isEnd (rowOf (st .rows) e .kind) ≡ false → Inv (noteDrop e h) (dropRow e st)
+  unfolding dropRow noteDrop all
+  dropped-inv e t end =
+      let up : stands h e ≡ true = row-stands h st i e t in
+      let (lo, hi) = stands-low h st i e up in
+      let plain : notedOf (h .rows) e .port ≡ 0 = ap (λ r. r .port) (row-noted h st i e up) ∙ plain-port (rowOf (st .rows) e) end in
+      closed-keeps h (noteDrop e h) st (λ r. eqb (r .number) e) (isRow e) [] i s refl refl refl
+      (unfold noteDrop in drop-spoils e h) (λ r. unfold isRow view in refl) (λ v. unfold member in refl)
+      (fit-same h (noteDrop e h) refl refl refl (and-i (eqb (notedOf (h .rows) e .port) 0) _ (eq-eqb (notedOf (h .rows) e .port) 0 plain) (i .fit .ends-kept)) (i .fit))
+      (below-cons (st .next) e (h .dropped) hi (i .dropped-below)) (i .ports-below) (i .closed-below)
+
+  pub drop-keeps : (p e : ℕ) → Keeps h (Drop p e) (doDrop st p e)
+  unfolding doDrop noteCall
+  drop-keeps p e =
+      unless _ 7 refl i λ e7.
+      unless _ 8 refl i λ e8.
+      unless _ 13 refl i λ e13.
+      taken-done _ (dropped-inv e (held-there st p e e7) e8)
+
+  -- ---- close
+  pub close-keeps : (p c : ℕ) → Keeps h (Close p c) (doClose st p c)
+  unfolding doClose noteCall closePort noteClose
+  close-keeps p c =
+      unless _ 7 refl i λ e7.
+      unless _ 8 refl i λ e8.
+      unless _ 12 refl i λ e12.
+      let (lo, hi) = stands-low h st i c (row-stands h st i c (held-there st p c e7)) in
+      taken-done _ (closed-keeps h (noteClose c h) st (λ r. eqb (r .port) c) (isEndOf c) [] i s refl refl refl
+      (unfold noteClose in close-spoils c lo h) (end-of c lo) (λ v. unfold member in refl)
+      (fit-same h (noteClose c h) refl refl refl (i .fit .ends-kept) (i .fit)) (i .dropped-below) (below-cons (st .next) c (h .closedPorts) hi (i .ports-below)) (i .closed-below))
