@@ -35,3 +35,5 @@ pub mod StepAsk
 pub mod LoansClose
 -- an accepted revoke takes from the tables just what came from the request
 pub mod Vanish
+-- and gives each surviving end to the lender of the oldest request closed that had it on loan
+pub mod Returns

@@ -111,7 +111,7 @@ shut-first h q (x ∷ es) older e =
     pick false true m o = refl
     pick false false m o = refl
 
-member-filter : (f : ℕ → Bool) (es : List ℕ) (e : ℕ) → member e (filter f es) ≡ member e es && f e
+pub member-filter : (f : ℕ → Bool) (es : List ℕ) (e : ℕ) → member e (filter f es) ≡ member e es && f e
 unfolding filter member
 member-filter f [] e = refl
 member-filter f (x ∷ es) e = pick (member-filter f es e) (f x) refl (eqb e x) refl

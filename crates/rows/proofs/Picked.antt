@@ -27,15 +27,15 @@ module _ {A : Type 0} (key : A → ℕ) where
       pick ih false t = or-r (eqb n (key x)) (member n (map key xs)) (ih t)
 
   -- an older key is another one than the first
-  older-other : (x : A) (xs : List A) → rises key (x ∷ xs) ≡ true → (n : ℕ) → member n (map key xs) ≡ true → eqb (key x) n ≡ false
+  pub older-other : (x : A) (xs : List A) → rises key (x ∷ xs) ≡ true → (n : ℕ) → member n (map key xs) ≡ true → eqb (key x) n ≡ false
   older-other x xs u n t = ne-eqb (key x) n (λ e. clash t (ap (λ k. member k (map key xs)) (sym e) ∙ rises-fresh key x xs u))
 
   module _ (none : A) where
-    first-here : (x : A) (xs : List A) → firstWith key none (x ∷ xs) (key x) ≡ x
+    pub first-here : (x : A) (xs : List A) → firstWith key none (x ∷ xs) (key x) ≡ x
     unfolding firstWith
     first-here x xs = rw (eqb-self (key x)) refl
 
-    first-other : (x : A) (xs : List A) (n : ℕ) → eqb (key x) n ≡ false → firstWith key none (x ∷ xs) n ≡ firstWith key none xs n
+    pub first-other : (x : A) (xs : List A) (n : ℕ) → eqb (key x) n ≡ false → firstWith key none (x ∷ xs) n ≡ firstWith key none xs n
     unfolding firstWith
     first-other x xs n q = rw q refl
 
