@@ -1,21 +1,23 @@
 -- One more row, in the tables and in the history.
-use Prim.Native.Nat.{ℕ, zero, suc, _<_, _≤_}
-use mathlib.Core.Bool.{Bool, true, false, not, cond, _&&_, _||_}
+use Prim.Native.Nat.{ℕ, suc, _<_, _≤_}
+use mathlib.Core.Bool.{Bool, true, false, not, _&&_, _||_}
 use mathlib.Core.List.{List, [], _∷_, map}
 use mathlib.Core.Path.{_≡_, refl, sym, ap, _∙_}
 use lib.Dec.{ltb, eqb}
 use native.Mathlib.Omega.{arith}
 use borrow.Author.Tests.{ltb-true, lt-ltb, ne-eqb}
 use Rattle.rows.specs.declared.Row.{Row}
-use Rattle.rows.specs.Lists.{if_then_else_, filter, all, each, firstWith, topOf, rises, member, some, sameList}
-use Rattle.rows.specs.Tables.{State, processAt, isListed}
-use Rattle.rows.proofs.Bools.{false-of, clash, and-l, and-r, and-i, or-r, all-mono, all-and, all-at, some-pos}
+use Rattle.rows.specs.Lists.{if_then_else_, filter, all, each, topOf, member, some, sameList}
+use Rattle.rows.specs.Tables.{State}
+use Rattle.rows.proofs.Bools.{false-of, and-l, and-r, and-i, or-r, all-mono, all-and, all-at, some-pos}
 use Rattle.rows.proofs.Keyed.{first-there, rises-range, rises-cons}
 use Rattle.calls.specs.Rules.{withRows}
 use Rattle.history.specs.Notes.{Noted, Loan, History, noted, nothingNoted, notedOf, spoiled, survives, sweep, standing, stands, isClosed, openLoans, lastGo, addRow}
+use Rattle.history.specs.Chains.{IsNoted}
 use Rattle.history.proofs.Fit.{isEmpty, rooted, bearsWell, endsWell, portNoted, Fit}
 use Rattle.history.proofs.Inv.{Inv, view, ofLoan, throughNow, below}
-use Rattle.history.proofs.Sweep.{rising, noted-other, sweep-sub}
+use Rattle.history.proofs.Sweep.{rising, noted-other}
+use Rattle.history.proofs.Gone.{stands-noted}
 
 abbrev pub newNoted : ℕ → List ℕ → ℕ → ℕ → Noted
 newNoted n ss q c = record { number = n; sources = ss; request = q; port = c }
@@ -38,20 +40,16 @@ unfolding below
 not-below n ks e = false-of _ (λ t. let lt = ltb-true n n (all-at (λ k. ltb k n) ks e n t) in omega arith)
 
 -- ---- what is found among rising rows is at most the first
-pub found-low : (P : Noted → Bool) → P nothingNoted ≡ false → (rs : List Noted) → rising rs ≡ true → (k : ℕ) → P (notedOf rs k) ≡ true → k ≤ topOf (λ r. r .number) rs
+found-low : (P : Noted → Bool) → P nothingNoted ≡ false → (rs : List Noted) → rising rs ≡ true → (k : ℕ) → P (notedOf rs k) ≡ true → k ≤ topOf (λ r. r .number) rs
 unfolding notedOf
 found-low P z rs u k t = rises-range (λ r. r .number) rs u k (first-there (λ r. r .number) nothingNoted P z rs k t) .1
 
 -- a request's port is noted
-pub port-low : (rs : List Noted) → rising rs ≡ true → (v : Loan) → portNoted rs v ≡ true → v .port ≤ topOf (λ r. r .number) rs
+port-low : (rs : List Noted) → rising rs ≡ true → (v : Loan) → portNoted rs v ≡ true → v .port ≤ topOf (λ r. r .number) rs
 unfolding portNoted nothingNoted
 port-low rs u v e =
     let lo : 0 < v .port = some-pos (v .port) (and-l (some (v .port)) _ e) in
     found-low (λ y. eqb (y .port) (v .port)) (ne-eqb 0 (v .port) (λ z. omega arith)) rs u (v .port) (and-r (some (v .port)) _ e)
-
-pub stands-noted : (h : History) (k : ℕ) → stands h k ≡ true → member k (noted (h .rows)) ≡ true
-unfolding stands standing
-stands-noted h k t = sweep-sub (spoiled h) (h .rows) k t
 
 -- ---- the history by itself
 module _ (rs : List Noted) (x : Noted) (u : rising rs ≡ true) (top : topOf (λ r. r .number) rs < x .number) where
@@ -77,7 +75,7 @@ module _ (rs : List Noted) (x : Noted) (u : rising rs ≡ true) (top : topOf (λ
           ap test (older-noted (r .port) (omega arith)) ∙ t
       pick false q t = refl
 
-  pub port-more : (v : Loan) → portNoted rs v ≡ true → portNoted (x ∷ rs) v ≡ true
+  port-more : (v : Loan) → portNoted rs v ≡ true → portNoted (x ∷ rs) v ≡ true
   unfolding portNoted
   port-more v e = let le = port-low rs u v e in rw (older-noted (v .port) (omega arith)) e
 
@@ -140,7 +138,7 @@ module _ (h h′ : History) (n : ℕ) (same : (k : ℕ) → k < n → stands h�
       loan-same : (v : Loan) → portNoted (h .rows) v ≡ true → not (isClosed h′ v) ≡ not (isClosed h v)
       loan-same v e = unfold isClosed in rw (same (v .port) (let le = port-low (h .rows) (f .rows-rise) v e in omega arith), c) refl
 
-  pub through-same : h′ .went ≡ h .went → (p : ℕ) → lastGo (h .went) p < n → throughNow h′ p ≡ throughNow h p
+  through-same : h′ .went ≡ h .went → (p : ℕ) → lastGo (h .went) p < n → throughNow h′ p ≡ throughNow h p
   unfolding throughNow
   through-same w p b =
       ap (λ ws. let e = lastGo ws p in if some e && stands h′ e then e else 0) w
@@ -150,10 +148,10 @@ module _ (h h′ : History) (n : ℕ) (same : (k : ℕ) → k < n → stands h�
 pub add-row : (h : History) (st : State) (r : Row) (ss : List ℕ) (q c : ℕ) → Inv h st → view r ≡ newNoted (st .next) ss q c
     → all (λ s. stands h s) ss ≡ true → some q && member q (h .closedRequests) ≡ false → some c && member c (h .closedPorts) ≡ false → FitsNew h (newNoted (st .next) ss q c)
     → Inv (addRow (st .next) ss q c h) (withRows (r ∷ st .rows) (suc (st .next)) st)
-unfolding withRows addRow
+unfolding withRows addRow IsNoted
 add-row h st r ss q c i v older qn cn w =
     record {
-      fit = fit-row h (st .next) ss q c (i .fit) (i .rows-below) (i .dropped-below) (all-mono (λ s. stands h s) (λ s. member s (noted (h .rows))) (λ s t. stands-noted h s t) ss older) w;
+      fit = fit-row h (st .next) ss q c (i .fit) (i .rows-below) (i .dropped-below) (all-mono (λ s. stands h s) (λ s. member s (noted (h .rows))) (λ s t. stands-noted h (i .fit) s t) ss older) w;
       rows = rw (v, i .rows) (sym (standing-new h (st .next) ss q c dn qn cn older));
       requests = i .requests ∙ ap (map ofLoan) (sym opened);
       through = λ p e. i .through p e ∙ sym (through-same h h′ (st .next) same refl p (i .went-below p));

@@ -1,18 +1,17 @@
 -- Closing, in the tables and in the history: what more is dropped or closed is what is removed.
-use Prim.Native.Nat.{ℕ, zero, suc, _<_}
+use Prim.Native.Nat.{ℕ, zero, suc}
 use mathlib.Core.Bool.{Bool, true, false, not, cond, _&&_, _||_}
 use mathlib.Core.List.{List, [], _∷_, map}
 use mathlib.Core.Path.{_≡_, refl, sym, ap, _∙_, fun-ext}
-use lib.Dec.{eqb}
-use lib.ListN.{getD, List·getD-map}
+use lib.ListN.{List·getD-map}
 use Rattle.rows.specs.declared.Row.{Row}
 use Rattle.rows.specs.declared.Request.{Request}
 use Rattle.rows.specs.declared.Process.{Process}
-use Rattle.rows.specs.Lists.{if_then_else_, filter, any, all, each, rises, member, some}
+use Rattle.rows.specs.Lists.{if_then_else_, filter, all, each, member, some}
 use Rattle.rows.specs.Codes.{inClist}
-use Rattle.rows.specs.Tables.{State, noProcess, processAt, isListed, sources, mark, marked}
+use Rattle.rows.specs.Tables.{State, noProcess, processAt, isListed, sources, marked}
 use Rattle.rows.specs.Sound.{rowsRise}
-use Rattle.rows.proofs.Bools.{and-l, and-r, and-i}
+use Rattle.rows.proofs.Bools.{and-r, and-i}
 use Rattle.rows.proofs.Keyed.{keys-filter}
 use Rattle.rows.proofs.Sound.{Sound}
 use Rattle.closing.specs.Closing.{closes, oldestListing, placedIn, returned, withItems, trimmed, remaining, homed, settled, closing}
@@ -21,7 +20,7 @@ use Rattle.history.proofs.Fit.{Fit}
 use Rattle.history.proofs.Inv.{Inv, Open, view, ofRequest, ofLoan, throughNow, below}
 use Rattle.history.proofs.Sweep.{rising, sourced, sweep-sweep}
 use Rattle.history.proofs.Comes.{reached, reached-sweep}
-use Rattle.history.proofs.View.{filter-through, map-through, view-rises, view-noted}
+use Rattle.history.proofs.View.{filter-through, map-through, view-rises}
 
 -- ---- marks
 pub view-marked : (f : Row → Bool) (g : Noted → Bool) → ((r : Row) → f r ≡ g (view r)) → (rs : List Row) → marked f rs ≡ reached g (map view rs)

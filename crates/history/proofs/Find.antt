@@ -1,17 +1,17 @@
 -- Rows and records of sound tables as the calls find them, and rows of the tables as the history has them.
-use Prim.Native.Nat.{ℕ, zero, suc, pred, _+_, _<_, _≤_}
+use Prim.Native.Nat.{ℕ, zero, suc, pred, _+_, _<_}
 use mathlib.Core.Bool.{Bool, true, false, not, cond, _&&_, _||_}
 use mathlib.Core.List.{List, [], _∷_, map}
 use mathlib.Core.Path.{_≡_, refl, sym, ap, _∙_}
-use mathlib.Core.Logic.{_⊎_, inl, inr, ⊎-elim}
-use lib.Dec.{leb, ltb, eqb}
-use lib.ListN.{length, getD}
+use mathlib.Core.Logic.{⊎-elim}
+use lib.Dec.{leb, eqb}
+use lib.ListN.{getD}
 use native.Mathlib.Omega.{arith}
-use borrow.Author.Tests.{eqb-true, eq-eqb, ne-eqb, leb-true, lt-leb}
+use borrow.Author.Tests.{eqb-true, eq-eqb, ne-eqb, leb-true}
 use Rattle.rows.specs.declared.Row.{Row}
 use Rattle.rows.specs.declared.Request.{Request}
 use Rattle.rows.specs.declared.Process.{Process}
-use Rattle.rows.specs.Lists.{any, all, each, firstWith, rises, topOf, member, between, some}
+use Rattle.rows.specs.Lists.{any, all, firstWith, member, between, some}
 use Rattle.rows.specs.Limits.{nodes}
 use Rattle.rows.specs.Codes.{operation, subdirectory, clientEnd, serverEnd, isOperation, isSubdirectory, isClient, isServer, isEnd, isCopied, inClist, isNode, isClist}
 use Rattle.rows.specs.Tables.{State, noRow, noProcess, rowOf, numbers, sources, processAt, isListed, reaches, onLoan, lentItself, isLent}
@@ -20,11 +20,12 @@ use Rattle.rows.proofs.Bools.{false-of, clash, and-l, and-r, or-cases, or-l, or
 use Rattle.rows.proofs.Keyed.{first-key, first-there, all-first, rises-range, olderOf, each-first, older-key}
 use Rattle.rows.proofs.Sound.{Sound}
 use Rattle.calls.specs.Rules.{notHeld}
-use Rattle.history.specs.Notes.{Noted, History, noted, notedOf, spoiled, standing, stands}
+use Rattle.history.specs.Notes.{History, noted, notedOf, spoiled, standing, stands}
+use Rattle.history.specs.Chains.{IsNoted}
 use Rattle.history.proofs.Inv.{Inv, view}
-use Rattle.history.proofs.Sweep.{sweep-sub, noted-sweep}
+use Rattle.history.proofs.Sweep.{noted-sweep}
 use Rattle.history.proofs.View.{view-noted, view-of}
-use Rattle.history.proofs.Added.{stands-noted}
+use Rattle.history.proofs.Gone.{stands-noted}
 
 -- ---- rows of the tables, as the history has them
 module _ (h : History) (st : State) (i : Inv h st) where
@@ -40,12 +41,13 @@ module _ (h : History) (st : State) (i : Inv h st) where
   row-noted e t = sym (noted-sweep (spoiled h) (h .rows) (i .fit .rows-rise) e t) ∙ ap (λ l. notedOf l e) (sym (i .rows)) ∙ view-of (st .rows) e
 
   pub stands-low : (e : ℕ) → stands h e ≡ true → (0 < e) × (e < st .next)
+  unfolding noted IsNoted
   stands-low e t =
-      let (lo, hi) = rises-range (λ r. r .number) (h .rows) (i .fit .rows-rise) e (unfold noted in stands-noted h e t) in
+      let (lo, hi) = rises-range (λ r. r .number) (h .rows) (i .fit .rows-rise) e (stands-noted h (i .fit) e t) in
       let top = i .rows-below in (lo, omega arith)
 
 -- ---- rows found
-pub held-place : (st : State) (p e : ℕ) → notHeld st p e ≡ false → rowOf (st .rows) e .place ≡ inClist p
+held-place : (st : State) (p e : ℕ) → notHeld st p e ≡ false → rowOf (st .rows) e .place ≡ inClist p
 unfolding notHeld
 held-place st p e t = eqb-true (rowOf (st .rows) e .place) (inClist p) (not-f (eqb (rowOf (st .rows) e .place) (inClist p)) t)
 
@@ -56,11 +58,11 @@ place-there st n e lo t = first-there (λ r. r .number) noRow (λ r. eqb (r .pla
 pub held-there : (st : State) (p e : ℕ) → notHeld st p e ≡ false → member e (numbers (st .rows)) ≡ true
 held-there st p e t = place-there st (inClist p) e (unfold inClist in omega arith) (held-place st p e t)
 
-pub clist-no-node : (p : ℕ) → isNode (inClist p) ≡ false
+clist-no-node : (p : ℕ) → isNode (inClist p) ≡ false
 unfolding isNode inClist between nodes
 clist-no-node p = false-of _ (λ t. let le = leb-true (100 + p) 32 (and-r (leb 1 (100 + p)) (leb (100 + p) 32) t) in omega arith)
 
-pub copied-no-end : (k : ℕ) → isCopied k ≡ true → isEnd k ≡ false
+copied-no-end : (k : ℕ) → isCopied k ≡ true → isEnd k ≡ false
 unfolding isCopied isEnd isOperation isSubdirectory isClient isServer operation subdirectory clientEnd serverEnd
 copied-no-end k t = ⊎-elim (λ q. rw (eqb-true k 1 q) refl) (λ q. rw (eqb-true k 2 q) refl) (or-cases (eqb k 1) (eqb k 2) t)
 
@@ -139,7 +141,7 @@ active-in-range x e t =
     (λ u. and-r (between 1 nodes (x .prime)) (between 1 nodes (x .active)) u) (or-cases (recordUnused x) (between 1 nodes (x .prime) && between 1 nodes (x .active)) e)
 
 -- a row of which the test holds reaches itself
-pub reaches-self : (f : Row → Bool) (rs : List Row) (e : ℕ) → member e (numbers rs) ≡ true → f (rowOf rs e) ≡ true → reaches f rs e ≡ true
+reaches-self : (f : Row → Bool) (rs : List Row) (e : ℕ) → member e (numbers rs) ≡ true → f (rowOf rs e) ≡ true → reaches f rs e ≡ true
 unfolding reaches rowOf firstWith numbers member
 reaches-self f [] e t g = clash t refl
 reaches-self f (r ∷ rs) e t g = pick (reaches-self f rs e) (eqb (r .number) e) refl t g

@@ -1,21 +1,19 @@
 -- The invariant after an answer: a refusal keeps it, and an accepted call has it of what is noted.
-use Prim.Native.Nat.{ℕ, zero, suc, _<_}
+use Prim.Native.Nat.{ℕ}
 use mathlib.Core.Bool.{Bool, true, false}
-use mathlib.Core.List.{List, [], _∷_, map}
-use mathlib.Core.Path.{_≡_, refl, sym, ap, ap₂, _∙_}
+use mathlib.Core.List.{map}
+use mathlib.Core.Path.{_≡_, refl, ap, ap₂, _∙_}
 use lib.Dec.{eqb}
 use Rattle.rows.specs.Lists.{all, member}
 use Rattle.rows.specs.Tables.{State}
 use Rattle.calls.specs.declared.Call.{Call}
-use Rattle.calls.specs.declared.Answer.{Answer}
-use Rattle.calls.specs.declared.Answer.the-variants.{Refused}
 use Rattle.calls.specs.Answers.{refusalOf, valuesOf}
 use Rattle.calls.specs.Rules.{Out, refusedIf}
 use Rattle.calls.specs.Calls.{done, made}
 use Rattle.history.specs.Notes.{History, noted, notedOf, spoiled, standing, stands, isClosed, openLoans, withLoans, settled}
 use Rattle.history.specs.Reading.{noteCall}
 use Rattle.history.proofs.Fit.{Fit}
-use Rattle.history.proofs.Inv.{Inv, view, ofRequest, ofLoan, throughNow, firstValue, noteAnswer}
+use Rattle.history.proofs.Inv.{Inv, view, ofRequest, throughNow, firstValue, noteAnswer}
 
 -- ---- Fit looks at the text, the rows, the requests and what was dropped
 pub fit-same : (h h′ : History) → h′ .text ≡ h .text → h′ .rows ≡ h .rows → h′ .requests ≡ h .requests → all (λ n. eqb (notedOf (h .rows) n .port) 0) (h′ .dropped) ≡ true → Fit h → Fit h′

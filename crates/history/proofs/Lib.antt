@@ -31,8 +31,14 @@ pub mod StepClose
 pub mod StepGo
 -- ask keeps the invariant
 pub mod StepAsk
+-- every call, accepted or refused, keeps the invariant
+pub mod StepsInv
+-- the ends on loan after an answer: refused and accepted calls
+pub mod LoansKept
 -- closing, and the ends on loan
 pub mod LoansClose
+-- calls that close nothing and lend nothing, and the ends on loan
+pub mod LoansAdd
 -- an accepted revoke takes from the tables just what came from the request
 pub mod Vanish
 -- and gives each surviving end to the lender of the oldest request closed that had it on loan

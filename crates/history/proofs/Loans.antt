@@ -1,7 +1,7 @@
 -- The ends that the requests of the tables list, against those that the history has on loan: what a settling leaves, request by request.
 use Prim.Native.Nat.{ℕ, zero, suc, _<_}
 use mathlib.Core.Bool.{Bool, true, false, not, cond, _&&_, _||_}
-use mathlib.Core.List.{List, [], _∷_, _++_, map}
+use mathlib.Core.List.{List, [], _∷_, _++_, map, map-map}
 use mathlib.Core.Path.{_≡_, refl, sym, ap, _∙_}
 use lib.Dec.{eqb}
 use borrow.Author.Tests.{eqb-true}
@@ -16,7 +16,7 @@ use Rattle.calls.proofs.AddRow.{row-there}
 use Rattle.history.specs.Notes.{OnLoan, History, noLoan, loanOf, stands, isClosed, openLoans, isClosedNow, staysOnLoan, loansLeft}
 use Rattle.history.proofs.Fit.{Fit}
 use Rattle.history.proofs.Inv.{Inv, Open, ofRequest, ofLoan, endsListed, loansIn}
-use Rattle.history.proofs.View.{keys-through, first-through}
+use Rattle.history.proofs.View.{first-through}
 use Rattle.history.proofs.Find.{row-stands}
 
 -- request q is closed, by its number
@@ -143,10 +143,8 @@ noOpen = record { number = 0; asker = 0; port = 0 }
 
 module _ (h : History) (st : State) (i : Inv h st) where
   same-numbers : map (λ v. v .number) (st .requests) ≡ map (λ v. v .number) (openLoans h)
-  same-numbers =
-      sym (keys-through ofRequest (λ v. v .number) (λ o. o .number) (λ v. unfold ofRequest in refl) (st .requests))
-      ∙ ap (map (λ o. o .number)) (i .requests)
-      ∙ keys-through ofLoan (λ v. v .number) (λ o. o .number) (λ v. unfold ofLoan in refl) (openLoans h)
+  unfolding ofRequest ofLoan
+  same-numbers = sym (map-map (λ o. o .number) ofRequest (st .requests)) ∙ ap (map (λ o. o .number)) (i .requests) ∙ map-map (λ o. o .number) ofLoan (openLoans h)
 
   -- those of the tables are those that were asked and are not closed
   pub open-numbers : (n : ℕ) → member n (map (λ v. v .number) (st .requests)) ≡ member n (map (λ v. v .number) (h .requests)) && not (closedNumber h n)

@@ -1,17 +1,17 @@
 -- hold, register and port keep the invariant.
-use Prim.Native.Nat.{ℕ, zero, suc, _<_, _≤_}
-use mathlib.Core.Bool.{Bool, true, false, not, cond, _&&_, _||_}
-use mathlib.Core.List.{List, [], _∷_, map}
-use mathlib.Core.Path.{_≡_, refl, sym, ap, _∙_}
+use Prim.Native.Nat.{ℕ, suc, _<_}
+use mathlib.Core.Bool.{Bool, true, false, not, cond, _&&_}
+use mathlib.Core.List.{List, [], _∷_}
+use mathlib.Core.Path.{_≡_, refl, ap, _∙_}
 use lib.Dec.{leb, eqb}
 use native.Mathlib.Omega.{arith}
 use borrow.Author.Tests.{eqb-true, ne-eqb, leb-true}
 use Rattle.rows.specs.declared.Row.{Row}
-use Rattle.rows.specs.Lists.{if_then_else_, filter, all, member, some, nonzero, between, sameList}
+use Rattle.rows.specs.Lists.{filter, all, member, some, nonzero, between, sameList}
 use Rattle.rows.specs.Limits.{nodes}
 use Rattle.rows.specs.Codes.{clientEnd, serverEnd, isEnd, isClient, isServer, isNode, inNode, inClist}
-use Rattle.rows.specs.Tables.{State, rowOf, numbers, processAt, isListed, sources, depthOver}
-use Rattle.rows.proofs.Bools.{clash, and-l, and-r, not-f, or-r, pos-some, eqb-self}
+use Rattle.rows.specs.Tables.{State, rowOf, numbers, processAt, isListed, sources}
+use Rattle.rows.proofs.Bools.{and-l, and-r, not-f, or-r, pos-some, eqb-self}
 use Rattle.rows.proofs.Sound.{Sound}
 use Rattle.calls.specs.declared.Call.the-variants.{Hold, Register, Port}
 use Rattle.calls.specs.Rules.{withRows, copyOf}
@@ -34,7 +34,7 @@ plain-fits : (h : History) (n : ℕ) (ss : List ℕ) → isEmpty ss ≡ false �
 unfolding bearsWell endsWell some
 plain-fits h n ss e = record { sources-there = e; bears = refl; ends = refl }
 
-pub add-plain : (h : History) (st : State) (r : Row) (ss : List ℕ) → Inv h st → view r ≡ newNoted (st .next) ss 0 0 → isEmpty ss ≡ false → all (λ s. stands h s) ss ≡ true
+add-plain : (h : History) (st : State) (r : Row) (ss : List ℕ) → Inv h st → view r ≡ newNoted (st .next) ss 0 0 → isEmpty ss ≡ false → all (λ s. stands h s) ss ≡ true
     → Inv (addRow (st .next) ss 0 0 h) (withRows (r ∷ st .rows) (suc (st .next)) st)
 add-plain h st r ss i v e older = add-row h st r ss 0 0 i v older (unfold some in refl) (unfold some in refl) (plain-fits h (st .next) ss e)
 
@@ -113,7 +113,7 @@ module _ (h : History) (st : State) (i : Inv h st) (s : Sound st) where
       let end : isEnd (rowOf (st .rows) e .kind) ≡ false = node-no-end st s e t (ap isNode at-node ∙ n) in
       add-plain h st _ (heldSources h p e) i
       (view-copy (rowOf (st .rows) e) (st .next) _ _ e (processAt (st .processes) p .through) d 0 end
-        ∙ ap (λ k. newNoted (st .next) k 0 0) (ap (λ k. nonzero (e ∷ k ∷ [])) (i .through p l) ∙ held-sources h p e (number-low st s e t)))
+      ∙ ap (λ k. newNoted (st .next) k 0 0) (ap (λ k. nonzero (e ∷ k ∷ [])) (i .through p l) ∙ held-sources h p e (number-low st s e t)))
       (sources-some h p e) (sources-stand h p e (row-stands h st i e t))
 
   pub hold-keeps : (p e : ℕ) → isListed (st .processes) p ≡ true → Keeps h (Hold p e) (doHold st p e)

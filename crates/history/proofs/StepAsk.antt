@@ -1,16 +1,16 @@
 -- ask keeps the invariant: first the request, then the items one after the other.
-use Prim.Native.Nat.{ℕ, zero, suc, _<_, _≤_}
+use Prim.Native.Nat.{ℕ, suc, _<_, _≤_}
 use mathlib.Core.Bool.{Bool, true, false, not, cond, _&&_, _||_}
 use mathlib.Core.List.{List, [], _∷_, _++_, map}
 use mathlib.Core.Path.{_≡_, refl, sym, ap, _∙_}
-use lib.Dec.{ltb, eqb}
+use lib.Dec.{eqb}
 use native.Mathlib.Omega.{arith}
-use borrow.Author.Tests.{eqb-true, eq-eqb, ne-eqb}
+use borrow.Author.Tests.{eq-eqb, ne-eqb}
 use Rattle.rows.specs.declared.Row.{Row}
-use Rattle.rows.specs.Lists.{if_then_else_, filter, any, all, firstWith, topOf, rises, member, some, nonzero}
-use Rattle.rows.specs.Codes.{isClient, isServer, isEnd, withSystem}
+use Rattle.rows.specs.Lists.{filter, any, all, firstWith, topOf, rises, member, some, nonzero}
+use Rattle.rows.specs.Codes.{isClient, isEnd, withSystem}
 use Rattle.rows.specs.Tables.{State, rowOf, numbers, sources}
-use Rattle.rows.proofs.Bools.{clash, and-l, and-r, and-i, not-f, or-r, or-fl, or-fr, all-mono, pos-some, some-pos, eqb-self, member-here, member-there}
+use Rattle.rows.proofs.Bools.{and-l, and-i, not-f, or-r, or-fl, or-fr, all-mono, pos-some, some-pos, eqb-self, member-here, member-there}
 use Rattle.rows.proofs.Keyed.{first-there, rises-range, rises-cons}
 use Rattle.rows.proofs.Sound.{Sound}
 use Rattle.closing.specs.Closing.{placedIn}
@@ -20,7 +20,7 @@ use Rattle.calls.specs.declared.Call.the-variants.{Ask}
 use Rattle.calls.specs.Rules.{notHeld, withRows}
 use Rattle.calls.specs.Loans.{itemsOf, itemRow, moves, copyDepth, copyLent, Lending, toSystem, lendEnd, lendCopy, lendItem, lendItems, lent, newRequest, withRequest}
 use Rattle.calls.specs.Calls.{doAsk}
-use Rattle.history.specs.Notes.{Noted, Loan, OnLoan, History, noted, notedOf, noLoan, loanOf, spoiled, standing, stands, isClosed, openLoans, lastGo, addRow, isEndNoted, endsNamed, copiesNoted, copied, noteAsk}
+use Rattle.history.specs.Notes.{Noted, Loan, OnLoan, History, noted, notedOf, noLoan, loanOf, spoiled, standing, stands, isClosed, openLoans, addRow, isEndNoted, endsNamed, copiesNoted, copied, noteAsk}
 use Rattle.history.specs.Reading.{itemsNamed, noteCall}
 use Rattle.history.proofs.Fit.{isEmpty, bearsWell, endsWell, portNoted, Fit}
 use Rattle.history.proofs.Inv.{Inv, view, ofRequest, ofLoan, throughNow}

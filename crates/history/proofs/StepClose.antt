@@ -1,5 +1,5 @@
 -- drop, close, revoke, reply and refuse keep the invariant.
-use Prim.Native.Nat.{ℕ, zero, suc, pred, _<_}
+use Prim.Native.Nat.{ℕ, pred, _<_}
 use mathlib.Core.Bool.{Bool, true, false, not, cond, _&&_, _||_}
 use mathlib.Core.List.{List, [], _∷_, map}
 use mathlib.Core.Path.{_≡_, refl, sym, ap, _∙_}
@@ -8,19 +8,18 @@ use native.Mathlib.Omega.{arith}
 use borrow.Author.Tests.{eqb-true, eq-eqb, ne-eqb, ltb-true, lt-ltb}
 use Rattle.rows.specs.declared.Row.{Row}
 use Rattle.rows.specs.declared.Request.{Request}
-use Rattle.rows.specs.Lists.{if_then_else_, all, firstWith, topOf, rises, member, some}
+use Rattle.rows.specs.Lists.{all, firstWith, topOf, rises, member, some}
 use Rattle.rows.specs.Codes.{isEnd, isServer}
 use Rattle.rows.specs.Tables.{State, noRequest, rowOf, numbers, requestOf, openOn, bears}
 use Rattle.rows.specs.Sound.{requestsRise, belowNext}
-use Rattle.rows.proofs.Bools.{clash, and-l, and-r, and-i, not-f, or-fl, pos-some}
+use Rattle.rows.proofs.Bools.{and-l, and-r, and-i, not-f, or-fl, pos-some}
 use Rattle.rows.proofs.Keyed.{first-key, first-there, all-first, rises-rest, rises-first}
 use Rattle.rows.proofs.Sound.{Sound}
-use Rattle.closing.specs.Closing.{closing, closeRequest, isEndOf, closePort, isRow, dropRow}
+use Rattle.closing.specs.Closing.{closeRequest, isEndOf, closePort, isRow, dropRow}
 use Rattle.calls.specs.declared.Call.the-variants.{Drop, Close, Reply, Refuse, Revoke}
 use Rattle.calls.specs.Calls.{doDrop, doClose, doReply, doRefuse, doRevoke}
-use Rattle.history.specs.Notes.{Noted, Loan, History, noLoan, notedOf, spoiled, stands, openLoans, openRequest, noteDrop, noteClose, noteRevoke, noteEnd}
+use Rattle.history.specs.Notes.{Noted, History, noLoan, notedOf, spoiled, stands, openLoans, openRequest, noteDrop, noteClose, noteRevoke, noteEnd}
 use Rattle.history.specs.Reading.{noteCall}
-use Rattle.history.proofs.Fit.{Fit}
 use Rattle.history.proofs.Inv.{Inv, Open, view, ofRequest, ofLoan}
 use Rattle.history.proofs.Keeps.{fit-same, Keeps, unless, taken-done}
 use Rattle.history.proofs.View.{first-through}

@@ -1,6 +1,6 @@
 -- go, fetch and comes keep the invariant.
-use Prim.Native.Nat.{ℕ, zero, suc, pred, _-_, _<_, _≤_}
-use mathlib.Core.Bool.{Bool, true, false, not, cond, _&&_, _||_}
+use Prim.Native.Nat.{ℕ, zero, suc, _-_, _<_, _≤_}
+use mathlib.Core.Bool.{Bool, true, false, not, cond, _&&_}
 use mathlib.Core.List.{List, [], _∷_, map}
 use mathlib.Core.Path.{_≡_, refl, sym, ap, _∙_}
 use mathlib.Core.Logic.{⊎-elim}
@@ -13,10 +13,10 @@ use borrow.Author.Tests.{eqb-true, eqb-false, ne-eqb, ltb-true, ltb-false}
 use Rattle.rows.specs.declared.Row.{Row}
 use Rattle.rows.specs.declared.Request.{Request}
 use Rattle.rows.specs.declared.Process.{Process}
-use Rattle.rows.specs.Lists.{if_then_else_, firstWith, topOf, member, some}
+use Rattle.rows.specs.Lists.{if_then_else_, firstWith, some}
 use Rattle.rows.specs.Codes.{isSubdirectory, inClist}
 use Rattle.rows.specs.Tables.{State, noProcess, rowOf, openOn, processAt, isListed, sources, lists}
-use Rattle.rows.proofs.Bools.{clash, and-l, and-r, true-or-false, some-pos, pos-some, false-of}
+use Rattle.rows.proofs.Bools.{clash, true-or-false, some-pos, pos-some}
 use Rattle.closing.specs.Closing.{placedIn}
 use Rattle.calls.specs.declared.Call.the-variants.{Go, Fetch, Comes}
 use Rattle.calls.specs.Answers.{refusalOf, valuesOf}

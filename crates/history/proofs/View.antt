@@ -1,14 +1,14 @@
 -- The tables' rows and requests as the history notes them: look-up, tests and marks go through the view.
-use Prim.Native.Nat.{ℕ, zero, suc}
+use Prim.Native.Nat.{ℕ}
 use mathlib.Core.Bool.{Bool, true, false, cond}
 use mathlib.Core.List.{List, [], _∷_, map}
-use mathlib.Core.Path.{_≡_, refl, sym, ap, _∙_}
+use mathlib.Core.Path.{_≡_, refl, sym, ap}
 use lib.Dec.{eqb}
 use Rattle.rows.specs.declared.Row.{Row}
 use Rattle.rows.specs.Lists.{filter, firstWith, topOf, rises, some, nonzero}
 use Rattle.rows.specs.Codes.{isEnd, isClient, isServer, clientEnd, serverEnd}
 use Rattle.rows.specs.Tables.{noRow, rowOf, numbers, sources}
-use Rattle.history.specs.Notes.{Noted, noted, nothingNoted, notedOf}
+use Rattle.history.specs.Notes.{noted, nothingNoted, notedOf}
 use Rattle.history.proofs.Inv.{view}
 
 -- ---- any list seen as a list of another type
@@ -29,7 +29,7 @@ module _ {A B : Type 0} (w : A → B) where
   map-through t h (a ∷ xs) = rw (h a, map-through t h xs) refl
 
   module _ (ka : A → ℕ) (kb : B → ℕ) (k : (a : A) → kb (w a) ≡ ka a) where
-    pub keys-through : (xs : List A) → map kb (map w xs) ≡ map ka xs
+    keys-through : (xs : List A) → map kb (map w xs) ≡ map ka xs
     keys-through [] = refl
     keys-through (a ∷ xs) = rw (k a, keys-through xs) refl
 
@@ -42,7 +42,7 @@ module _ {A B : Type 0} (w : A → B) where
         pick ih true = refl
         pick ih false = ih
 
-    pub rises-through : (xs : List A) → rises kb (map w xs) ≡ rises ka xs
+    rises-through : (xs : List A) → rises kb (map w xs) ≡ rises ka xs
     unfolding rises topOf
     rises-through [] = refl
     rises-through (a ∷ xs) = rw (k a, rises-through xs, top-through xs) refl
@@ -60,7 +60,7 @@ pub view-noted : (rs : List Row) → noted (map view rs) ≡ numbers rs
 unfolding noted numbers
 view-noted rs = keys-through view (λ r. r .number) (λ r. r .number) view-number rs
 
-pub view-none : view noRow ≡ nothingNoted
+view-none : view noRow ≡ nothingNoted
 unfolding view noRow nothingNoted sources nonzero filter some isEnd isClient isServer clientEnd serverEnd
 view-none = refl
 
