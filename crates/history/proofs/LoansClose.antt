@@ -9,16 +9,20 @@ use Rattle.rows.specs.declared.Row.{Row}
 use Rattle.rows.specs.declared.Request.{Request}
 use Rattle.rows.specs.Lists.{if_then_else_, filter, all, any, firstWith, rises, member, some, nonzero}
 use Rattle.rows.specs.Codes.{isEnd, inClist, isClient, isServer, clientEnd, serverEnd}
-use Rattle.rows.specs.Tables.{State, noRow, noRequest, rowOf, requestOf, numbers, lists}
+use Rattle.rows.specs.Tables.{State, noRow, noRequest, rowOf, requestOf, numbers, marked, bears, lists}
 use Rattle.rows.specs.Sound.{same, requestsRise}
 use Rattle.rows.proofs.Bools.{false-of, clash, and-l, and-r, not-f, or-map, or-r, eqb-sym-f, eqb-sym, bool-eq}
 use Rattle.rows.proofs.Keyed.{first-key, first-map, first-filter, keys-map, keys-filter, rises-rest, rises-fresh}
 use Rattle.rows.proofs.Picked.{all-found}
 use Rattle.rows.proofs.Sound.{Sound}
-use Rattle.closing.specs.Closing.{oldestListing, placedIn, returned, listedIn, leaves, withItems, trimmed, remaining, settled}
-use Rattle.calls.proofs.AddRow.{row-there}
-use Rattle.history.specs.Notes.{OnLoan, History, stands, loansLeft}
+use Rattle.closing.specs.Closing.{oldestListing, placedIn, returned, listedIn, leaves, withItems, trimmed, remaining, settled, closes, closing, closeRequest, isEndOf, closePort, isRow, dropRow}
+use Rattle.calls.specs.declared.Call.the-variants.{Drop, Close, Reply, Refuse, Revoke}
+use Rattle.calls.specs.Calls.{doDrop, doClose, doReply, doRefuse, doRevoke}
+use Rattle.history.specs.Notes.{History, stands, loansLeft, noteDrop, noteClose, noteRevoke, noteEnd}
+use Rattle.history.specs.Reading.{noteCall}
 use Rattle.history.proofs.Inv.{Inv, Lends, endsListed, loansIn}
+use Rattle.history.proofs.Keeps.{Keeps}
+use Rattle.history.proofs.LoansKept.{LendsAfter, unless, taken-done, Settles}
 use Rattle.history.proofs.Find.{in-tables}
 use Rattle.history.proofs.Loans.{and-false-r, and-true-r, closedNumber, shut, staysLent, left-closed, left-open, filter-both, shut-first, end-listed, open-numbers, end-there}
 
@@ -199,3 +203,56 @@ module _ (h h′ : History) (st : State) (g : List ℕ) (f : Request → Bool) (
       as-closed =
           all-found (λ v. v .number) noRequest (λ v. same (closedNumber h′ (v .number)) (f v)) (st .requests) (unfold requestsRise in s .requests-rise)
           (λ n t. same-self _ _ (ap (closedNumber h′) (first-key (λ v. v .number) noRequest (st .requests) n t) ∙ (unfold requestOf in closed-now n t)))
+
+-- ---- the calls that close
+module _ (h : History) (st : State) (i : Inv h st) (l : Lends h st) (s : Sound st) where
+  closing-settles : (h′ : History) (seed : Row → Bool) (qs : List ℕ) → h′ .requests ≡ h .requests → h′ .loans ≡ h .loans → Inv h′ (closing seed qs st) → Settles h′ (closing seed qs st)
+  unfolding closing
+  closing-settles h′ seed qs asked same i′ =
+      let g = marked seed (st .rows) in
+      closing-lends h h′ st g (closes qs g) i s i′ asked ∙ ap (loansLeft h′) (l .lends ∙ sym same)
+
+  pub drop-lends : (p e : ℕ) → Keeps h (Drop p e) (doDrop st p e) → LendsAfter h (Drop p e) (doDrop st p e)
+  unfolding doDrop noteCall
+  drop-lends p e k =
+      unless _ 7 refl l k λ e7 k.
+      unless _ 8 refl l k λ e8 k.
+      unless _ 13 refl l k λ e13 k.
+      taken-done _ k (unfold noteDrop dropRow in closing-settles (noteDrop e h) (isRow e) [] refl refl)
+
+  pub close-lends : (p c : ℕ) → Keeps h (Close p c) (doClose st p c) → LendsAfter h (Close p c) (doClose st p c)
+  unfolding doClose noteCall
+  close-lends p c k =
+      unless _ 7 refl l k λ e7 k.
+      unless _ 8 refl l k λ e8 k.
+      unless _ 12 refl l k λ e12 k.
+      taken-done _ k (unfold noteClose closePort in closing-settles (noteClose c h) (isEndOf c) [] refl refl)
+
+  -- request v of the tables is closed, and q is noted as closed
+  request-settles : (q v : ℕ) → Inv (noteRevoke q h) (closeRequest v st) → Settles (noteRevoke q h) (closeRequest v st)
+  unfolding noteRevoke closeRequest
+  request-settles q v = closing-settles (noteRevoke q h) (bears v) (v ∷ []) refl refl
+
+  pub reply-lends : (p e : ℕ) → Keeps h (Reply p e) (doReply st p e) → LendsAfter h (Reply p e) (doReply st p e)
+  unfolding doReply noteCall noteEnd
+  reply-lends p e k =
+      unless _ 7 refl l k λ e7 k.
+      unless _ 8 refl l k λ e8 k.
+      unless _ 10 refl l k λ e10 k.
+      unless _ 11 refl l k λ e11 k.
+      unless _ 14 refl l k λ e14 k.
+      taken-done _ k (request-settles _ _)
+
+  pub refuse-lends : (p e : ℕ) → Keeps h (Refuse p e) (doRefuse st p e) → LendsAfter h (Refuse p e) (doRefuse st p e)
+  unfolding doRefuse noteCall noteEnd
+  refuse-lends p e k =
+      unless _ 7 refl l k λ e7 k.
+      unless _ 8 refl l k λ e8 k.
+      unless _ 11 refl l k λ e11 k.
+      taken-done _ k (request-settles _ _)
+
+  pub revoke-lends : (p q : ℕ) → Keeps h (Revoke p q) (doRevoke st p q) → LendsAfter h (Revoke p q) (doRevoke st p q)
+  unfolding doRevoke noteCall
+  revoke-lends p q k =
+      unless _ 7 refl l k λ e7 k.
+      taken-done _ k (request-settles q q)
