@@ -39,6 +39,8 @@ pub mod LoansKept
 pub mod LoansClose
 -- calls that close nothing and lend nothing, and the ends on loan
 pub mod LoansAdd
+-- ask, and the ends that it puts on loan
+pub mod LoansAsk
 -- an accepted revoke takes from the tables just what came from the request
 pub mod Vanish
 -- and gives each surviving end to the lender of the oldest request closed that had it on loan
