@@ -41,6 +41,8 @@ pub mod LoansClose
 pub mod LoansAdd
 -- ask, and the ends that it puts on loan
 pub mod LoansAsk
+-- after every call the ends that the requests list are those on loan in the history
+pub mod LoansSteps
 -- an accepted revoke takes from the tables just what came from the request
 pub mod Vanish
 -- and gives each surviving end to the lender of the oldest request closed that had it on loan
