@@ -3,6 +3,8 @@
 pub mod Fit
 -- what holds of the tables and the history after each call
 pub mod Inv
+-- the ends on loan, request by request
+pub mod Loans
 -- what a sweep of the notes leaves
 pub mod Sweep
 -- what is dropped or closed takes with it every row whose chain uses it
@@ -45,3 +47,17 @@ pub mod StepGo
 pub mod StepAsk
 -- every call, accepted or refused, keeps the invariant
 pub mod StepsInv
+-- the ends on loan after an answer: refused and accepted calls
+pub mod LoansKept
+-- closing, and the ends on loan
+pub mod LoansClose
+-- calls that close nothing and lend nothing, and the ends on loan
+pub mod LoansAdd
+-- ask, and the ends that it puts on loan
+pub mod LoansAsk
+-- after every call the ends that the requests list are those on loan in the history
+pub mod LoansSteps
+-- an accepted revoke takes from the tables just what came from the request
+pub mod Vanish
+-- and gives each surviving end to the lender of the oldest request closed that had it on loan
+pub mod Returns

@@ -21,3 +21,5 @@ pub mod Agree
 pub mod Marking
 -- standing rows of sound tables: shapes, sources, rights; rows in nodes stay
 pub mod Standing
+-- keys that rise: each element is found by its key, also among those that a test picks
+pub mod Picked

@@ -1,0 +1,172 @@
+-- The calls that neither close nor lend: the requests list the same ends after as before.
+use Prim.Native.Nat.{ℕ, suc, _≤_}
+use mathlib.Core.Bool.{Bool, true, false, not, cond, _&&_, _||_}
+use mathlib.Core.List.{List, [], _∷_, _++_, map}
+use mathlib.Core.Path.{_≡_, refl, sym, ap, _∙_}
+use lib.Dec.{leb, eqb}
+use native.Mathlib.Omega.{arith}
+use borrow.Author.Tests.{le-leb}
+use Rattle.rows.specs.declared.Row.{Row}
+use Rattle.rows.specs.declared.Request.{Request}
+use Rattle.rows.specs.Lists.{if_then_else_, filter, all, member, some, nonzero}
+use Rattle.rows.specs.Codes.{isEnd, isClient, isServer, clientEnd, serverEnd, isSubdirectory, inClist}
+use Rattle.rows.specs.Tables.{State, noRow, rowOf, numbers, lists}
+use Rattle.rows.specs.Sound.{mayBeListed, itemsLent}
+use Rattle.rows.proofs.Bools.{and-l, and-r, and-i, all-mono}
+use Rattle.rows.proofs.Keyed.{first-map}
+use Rattle.rows.proofs.Sound.{Sound}
+use Rattle.closing.specs.Closing.{placedIn}
+use Rattle.calls.specs.declared.Call.the-variants.{Go, Hold, Register, Port, Fetch, Comes}
+use Rattle.calls.specs.Answers.{refusalOf, valuesOf}
+use Rattle.calls.specs.Rules.{refusedIf, notHeld, withRows, copyOf, withRecord}
+use Rattle.calls.specs.Loans.{handedTo, nowFetched, withFetched}
+use Rattle.calls.specs.Calls.{done, goHome, goThrough, doGo, withHeld, doHold, withRegistered, doRegister, portEnd, withPort, doPort, fetchedAnswer, doFetch, doComes}
+use Rattle.calls.proofs.AddRow.{row-there, row-below, row-before}
+use Rattle.history.specs.Notes.{OnLoan, History, addRow, noteGo, noteHold, noteRegister, notePort}
+use Rattle.history.specs.Reading.{noteCall}
+use Rattle.history.proofs.Inv.{Inv, Lends, endsListed, loansIn, firstValue}
+use Rattle.history.proofs.Keeps.{Keeps}
+use Rattle.history.proofs.LoansKept.{LendsAfter, unless, taken, taken-done, taken-made, calm}
+
+-- ---- what the requests list are rows of the tables: they list the same ends among rows of the same kinds
+listed-there : (st : State) → Sound st → all (λ v. all (λ e. member e (numbers (st .rows))) (nonzero (v .items))) (st .requests) ≡ true
+unfolding itemsLent
+listed-there st s =
+    all-mono (λ v. all (λ e. mayBeListed v (rowOf (st .rows) e)) (nonzero (v .items))) (λ v. all (λ e. member e (numbers (st .rows))) (nonzero (v .items)))
+    (λ v t. all-mono (λ e. mayBeListed v (rowOf (st .rows) e)) (λ e. member e (numbers (st .rows))) (λ e u. row-there (mayBeListed v) (no-row v) (st .rows) e u) (nonzero (v .items)) t) (st .requests) (s .items-lent)
+  where
+    no-row : (v : Request) → mayBeListed v noRow ≡ false
+    no-row v = unfold mayBeListed noRow isEnd isClient isServer clientEnd serverEnd some in refl
+
+module _ (rs rs′ : List Row) (same : (e : ℕ) → member e (numbers rs) ≡ true → rowOf rs′ e .kind ≡ rowOf rs e .kind) where
+  ends-same : (es : List ℕ) → all (λ e. member e (numbers rs)) es ≡ true → filter (λ e. isEnd (rowOf rs′ e .kind)) es ≡ filter (λ e. isEnd (rowOf rs e .kind)) es
+  unfolding filter all
+  ends-same [] t = refl
+  ends-same (e ∷ es) t =
+      rw (same e (and-l (member e (numbers rs)) (all (λ e. member e (numbers rs)) es) t), ends-same es (and-r (member e (numbers rs)) (all (λ e. member e (numbers rs)) es) t)) refl
+
+  loans-same : (vs : List Request) → all (λ v. all (λ e. member e (numbers rs)) (nonzero (v .items))) vs ≡ true → loansIn rs′ vs ≡ loansIn rs vs
+  unfolding loansIn endsListed all
+  loans-same [] t = refl
+  loans-same (v ∷ vs) t = rw (ends-same (nonzero (v .items)) (and-l (all (λ e. member e (numbers rs)) (nonzero (v .items))) _ t), loans-same vs (and-r (all (λ e. member e (numbers rs)) (nonzero (v .items))) _ t)) refl
+
+pub kinds-same : (st : State) → Sound st → (rs′ : List Row) → ((e : ℕ) → member e (numbers (st .rows)) ≡ true → rowOf rs′ e .kind ≡ rowOf (st .rows) e .kind) → loansIn rs′ (st .requests) ≡ loansIn (st .rows) (st .requests)
+kinds-same st s rs′ same = loans-same (st .rows) rs′ same (st .requests) (listed-there st s)
+
+-- new rows before the old ones
+rows-more : (st : State) → Sound st → (new : List Row) → all (λ r. leb (st .next) (r .number)) new ≡ true → loansIn (new ++ st .rows) (st .requests) ≡ loansIn (st .rows) (st .requests)
+rows-more st s new a = kinds-same st s (new ++ st .rows) (λ e t. ap (λ r. r .kind) (row-before (st .next) (st .rows) new a e (row-below st s e t .1)))
+
+one-new : (st : State) (r : Row) → r .number ≡ st .next → all (λ r. leb (st .next) (r .number)) (r ∷ []) ≡ true
+unfolding all
+one-new st r n = and-i (leb (st .next) (r .number)) true (le-leb (st .next) (r .number) (omega arith)) refl
+
+two-new : (st : State) (r q : Row) → r .number ≡ suc (st .next) → q .number ≡ st .next → all (λ r. leb (st .next) (r .number)) (r ∷ q ∷ []) ≡ true
+unfolding all
+two-new st r q n m = and-i (leb (st .next) (r .number)) _ (le-leb (st .next) (r .number) (omega arith)) (one-new st q m)
+
+module _ (st : State) (s : Sound st) where
+  abbrev listed : State → List OnLoan
+  listed x = loansIn (x .rows) (x .requests)
+
+  held-same : (p e via d : ℕ) → listed (withHeld st p e via d) ≡ listed st
+  unfolding withHeld withRows copyOf
+  held-same p e via d = rows-more st s (_ ∷ []) (one-new st _ refl)
+
+  registered-same : (p e d : ℕ) → listed (withRegistered st p e d) ≡ listed st
+  unfolding withRegistered withRows copyOf
+  registered-same p e d = rows-more st s (_ ∷ []) (one-new st _ refl)
+
+  port-same : (p e d : ℕ) → listed (withPort st p e d) ≡ listed st
+  unfolding withPort withRows portEnd
+  port-same p e d = rows-more st s (_ ∷ _ ∷ []) (two-new st _ _ refl refl)
+
+-- ---- fetch
+handed-kind : (p : ℕ) (v : Request) (rs : List Row) (e : ℕ) → rowOf (map (handedTo p v) rs) e .kind ≡ rowOf rs e .kind
+unfolding rowOf handedTo
+handed-kind p v rs e = ap (λ r. r .kind) (first-map (λ r. r .number) noRow (handedTo p v) number (unfold noRow lists some in refl) rs e) ∙ kind (rowOf rs e)
+  where
+    number : (r : Row) → handedTo p v r .number ≡ r .number
+    number r = pick (lists (r .number) v)
+      where
+        pick : (b : Bool) → (cond b (placedIn (inClist p) r) r) .number ≡ r .number
+        pick true = unfold placedIn in refl
+        pick false = refl
+
+    kind : (r : Row) → handedTo p v r .kind ≡ r .kind
+    kind r = pick (lists (r .number) v)
+      where
+        pick : (b : Bool) → (cond b (placedIn (inClist p) r) r) .kind ≡ r .kind
+        pick true = unfold placedIn in refl
+        pick false = refl
+
+fetched-loans : (rs : List Row) (q : ℕ) (vs : List Request) → loansIn rs (map (nowFetched q) vs) ≡ loansIn rs vs
+unfolding loansIn nowFetched
+fetched-loans rs q [] = refl
+fetched-loans rs q (v ∷ vs) = rw (fetched-loans rs q vs) (pick (eqb (v .number) q))
+  where
+    pick : (b : Bool) → (let w = cond b (record { number = v .number; port = v .port; asker = v .asker; fetched = 1; items = v .items }) v in map (λ e. record { request = w .number; lent = e }) (endsListed rs w) ++ loansIn rs vs)
+        ≡ map (λ e. record { request = v .number; lent = e }) (endsListed rs v) ++ loansIn rs vs
+    pick true = unfold endsListed in refl
+    pick false = refl
+
+-- ---- the calls
+module _ (h : History) (st : State) (l : Lends h st) (s : Sound st) where
+  pub go-lends : (p e : ℕ) → Keeps h (Go p e) (doGo st p e) → LendsAfter h (Go p e) (doGo st p e)
+  unfolding doGo noteCall
+  go-lends p e k = pick (eqb e 0) k
+    where
+      pick : (b : Bool) → Keeps h (Go p e) (if b then done (goHome st p) else refusedIf st (notHeld st p e) 7 (refusedIf st (not (isSubdirectory (rowOf (st .rows) e .kind))) 8 (done (goThrough st p e))))
+          → LendsAfter h (Go p e) (if b then done (goHome st p) else refusedIf st (notHeld st p e) 7 (refusedIf st (not (isSubdirectory (rowOf (st .rows) e .kind))) 8 (done (goThrough st p e))))
+      pick true k = taken-done _ k (λ i. calm _ _ i (unfold goHome withRecord noteGo in l .lends))
+      pick false k =
+          unless _ 7 refl l k λ e7 k.
+          unless _ 8 refl l k λ e8 k.
+          taken-done _ k (λ i. calm _ _ i (unfold goThrough withRecord noteGo in l .lends))
+
+  pub hold-lends : (p e : ℕ) → Keeps h (Hold p e) (doHold st p e) → LendsAfter h (Hold p e) (doHold st p e)
+  unfolding doHold noteCall
+  hold-lends p e k =
+      unless _ 7 refl l k λ e7 k.
+      unless _ 9 refl l k λ e9 k.
+      unless _ 12 refl l k λ e12 k.
+      unless _ 15 refl l k λ e15 k.
+      unless _ 16 refl l k λ e16 k.
+      unless _ 18 refl l k λ e18 k.
+      taken-made _ _ k (λ i. calm _ _ i (held-same st s p e _ _ ∙ (unfold noteHold addRow in l .lends)))
+
+  pub register-lends : (p e : ℕ) → Keeps h (Register p e) (doRegister st p e) → LendsAfter h (Register p e) (doRegister st p e)
+  unfolding doRegister noteCall
+  register-lends p e k =
+      unless _ 7 refl l k λ e7 k.
+      unless _ 8 refl l k λ e8 k.
+      unless _ 9 refl l k λ e9 k.
+      unless _ 12 refl l k λ e12 k.
+      unless _ 15 refl l k λ e15 k.
+      unless _ 16 refl l k λ e16 k.
+      unless _ 18 refl l k λ e18 k.
+      taken-made _ _ k (λ i. calm _ _ i (registered-same st s p e _ ∙ (unfold noteRegister addRow in l .lends)))
+
+  pub port-lends : (p e : ℕ) → Keeps h (Port p e) (doPort st p e) → LendsAfter h (Port p e) (doPort st p e)
+  unfolding doPort noteCall
+  port-lends p e k =
+      unless _ 7 refl l k λ e7 k.
+      unless _ 8 refl l k λ e8 k.
+      unless _ 15 refl l k λ e15 k.
+      unless _ 16 refl l k λ e16 k.
+      unless _ 18 refl l k λ e18 k.
+      taken-made _ _ k (λ i. calm _ _ i (port-same st s p e _ ∙ (unfold notePort addRow in l .lends)))
+
+  pub fetch-lends : (p e : ℕ) → Keeps h (Fetch p e) (doFetch st p e) → LendsAfter h (Fetch p e) (doFetch st p e)
+  unfolding doFetch noteCall fetchedAnswer refusalOf valuesOf firstValue
+  fetch-lends p e k =
+      unless _ 7 refl l k λ e7 k.
+      unless _ 8 refl l k λ e8 k.
+      unless _ 11 refl l k λ e11 k.
+      taken _ _ refl refl k (λ i. calm _ _ i (unfold withFetched in (fetched-loans _ _ (st .requests) ∙ kinds-same st s _ (λ x t. handed-kind _ _ (st .rows) x) ∙ l .lends)))
+
+  pub comes-lends : (e q : ℕ) → Keeps h (Comes e q) (doComes st e q) → LendsAfter h (Comes e q) (doComes st e q)
+  unfolding doComes noteCall refusalOf valuesOf firstValue
+  comes-lends e q k =
+      unless _ 7 refl l k λ e7 k.
+      taken _ _ refl refl k (λ i. calm _ _ i (l .lends))

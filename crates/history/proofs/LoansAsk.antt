@@ -1,0 +1,206 @@
+-- ask: the ends that it names are the ends that the new request lists, and the older requests list what they did.
+use Prim.Native.Nat.{ℕ, zero, suc, _<_}
+use mathlib.Core.Bool.{Bool, true, false, not, cond, _&&_, _||_}
+use mathlib.Core.List.{List, [], _∷_, _++_, append-assoc, append-nil, map}
+use mathlib.Core.Path.{_≡_, refl, sym, ap, _∙_, fun-ext}
+use lib.Dec.{ltb, eqb}
+use native.Mathlib.Omega.{arith}
+use borrow.Author.Tests.{eqb-true, ne-eqb, ltb-true, lt-ltb}
+use Rattle.rows.specs.declared.Row.{Row}
+use Rattle.rows.specs.Lists.{if_then_else_, filter, any, all, firstWith, member, some, nonzero, pad}
+use Rattle.rows.specs.Limits.{mostItems}
+use Rattle.rows.specs.Codes.{isEnd, withSystem}
+use Rattle.rows.specs.Tables.{State, noRow, rowOf, numbers}
+use Rattle.rows.proofs.Bools.{and-l, and-r, and-i, not-t, or-fl, or-fr, all-mono, all-filter, pos-some, eqb-self}
+use Rattle.rows.proofs.Keyed.{first-map}
+use Rattle.rows.proofs.Picked.{first-here, first-other}
+use Rattle.rows.proofs.Sound.{Sound}
+use Rattle.closing.specs.Closing.{placedIn}
+use Rattle.calls.specs.declared.Item.{Item}
+use Rattle.calls.specs.declared.Items.{Items}
+use Rattle.calls.specs.declared.Call.the-variants.{Ask}
+use Rattle.calls.specs.Rules.{notHeld, copyOf}
+use Rattle.calls.specs.Loans.{itemsOf, itemRow, moves, copyLent, Lending, toSystem, lendEnd, lendCopy, lendItem, lendItems, lent, newRequest, withRequest}
+use Rattle.calls.specs.Calls.{doAsk}
+use Rattle.calls.proofs.AddRow.{all-append, row-below}
+use Rattle.history.specs.Notes.{OnLoan, History, isEndNoted, endsNamed, noteAsk}
+use Rattle.history.specs.Reading.{itemsNamed, noteCall}
+use Rattle.history.proofs.Inv.{Inv, Lends, view, endsListed, loansIn}
+use Rattle.history.proofs.Keeps.{Keeps}
+use Rattle.history.proofs.Find.{row-stands, row-noted, held-there, end-port-low}
+use Rattle.history.proofs.LoansKept.{LendsAfter, unless, taken-made, calm}
+use Rattle.history.proofs.LoansAdd.{kinds-same}
+
+-- ---- lists
+filter-append : {A : Type 0} (f : A → Bool) (xs ys : List A) → filter f (xs ++ ys) ≡ filter f xs ++ filter f ys
+unfolding filter
+filter-append f [] ys = refl
+filter-append f (x ∷ xs) ys = rw (filter-append f xs ys) (pick (f x))
+  where
+    pick : (b : Bool) → cond b (x ∷ filter f xs ++ filter f ys) (filter f xs ++ filter f ys) ≡ cond b (x ∷ filter f xs) (filter f xs) ++ filter f ys
+    pick true = refl
+    pick false = refl
+
+filter-one : {A : Type 0} (f : A → Bool) (x : A) → f x ≡ true → filter f (x ∷ []) ≡ x ∷ []
+unfolding filter
+filter-one f x e = rw e refl
+
+filter-none : {A : Type 0} (f : A → Bool) (x : A) → f x ≡ false → filter f (x ∷ []) ≡ []
+unfolding filter
+filter-none f x e = rw e refl
+
+filter-same : {A : Type 0} (p f g : A → Bool) → ((a : A) → p a ≡ true → f a ≡ g a) → (xs : List A) → all p xs ≡ true → filter f xs ≡ filter g xs
+unfolding filter all
+filter-same p f g h [] t = refl
+filter-same p f g h (x ∷ xs) t = rw (h x (and-l (p x) (all p xs) t), filter-same p f g h xs (and-r (p x) (all p xs) t)) refl
+
+none-all : {A : Type 0} (f : A → Bool) (xs : List A) → any f xs ≡ false → all (λ x. not (f x)) xs ≡ true
+unfolding any all
+none-all f [] e = refl
+none-all f (x ∷ xs) e = and-i (not (f x)) (all (λ x. not (f x)) xs) (ap not (or-fl (f x) (any f xs) e)) (none-all f xs (or-fr (f x) (any f xs) e))
+
+-- the zeros after a list count for nothing
+nonzero-pad : (n : ℕ) (xs : List ℕ) → nonzero (pad 0 n xs) ≡ nonzero xs
+unfolding nonzero filter pad some
+nonzero-pad zero xs = refl
+nonzero-pad (suc n) [] = nonzero-pad n []
+nonzero-pad (suc n) (x ∷ xs) = rw (nonzero-pad n xs) refl
+
+-- ---- rows while items are lent
+system-kind : (e : ℕ) → 0 < e → (rs : List Row) (k : ℕ) → rowOf (map (toSystem e) rs) k .kind ≡ rowOf rs k .kind
+unfolding rowOf
+system-kind e lo rs k = ap (λ r. r .kind) (first-map (λ r. r .number) noRow (toSystem e) number none rs k) ∙ kind (rowOf rs k)
+  where
+    number : (r : Row) → toSystem e r .number ≡ r .number
+    number r = unfold toSystem in pick (eqb (r .number) e)
+      where
+        pick : (b : Bool) → (cond b (placedIn withSystem r) r) .number ≡ r .number
+        pick true = unfold placedIn in refl
+        pick false = refl
+
+    kind : (r : Row) → toSystem e r .kind ≡ r .kind
+    kind r = unfold toSystem in pick (eqb (r .number) e)
+      where
+        pick : (b : Bool) → (cond b (placedIn withSystem r) r) .kind ≡ r .kind
+        pick true = unfold placedIn in refl
+        pick false = refl
+
+    none : toSystem e noRow ≡ noRow
+    none = unfold toSystem noRow in rw (ne-eqb 0 e (λ z. omega arith)) refl
+
+row-here : (r : Row) (rs : List Row) (n : ℕ) → r .number ≡ n → rowOf (r ∷ rs) n ≡ r
+unfolding rowOf
+row-here r rs n e = ap (rowOf (r ∷ rs)) (sym e) ∙ first-here (λ r. r .number) noRow r rs
+
+row-other : (r : Row) (rs : List Row) (n k : ℕ) → r .number ≡ n → k < n → rowOf (r ∷ rs) k ≡ rowOf rs k
+unfolding rowOf
+row-other r rs n k e lt = first-other (λ r. r .number) noRow r rs k (ne-eqb (r .number) k (λ z. omega arith))
+
+abbrev endsIn : List Row → List ℕ → List ℕ
+endsIn rs es = filter (λ e. isEnd (rowOf rs e .kind)) (nonzero es)
+
+-- so far: the old rows are of their kinds, and the ends among the items are es
+record Lent (st : State) (l : Lending) (es : List ℕ) : Type 0 where
+  more : st .next < l .next
+  old : (k : ℕ) → k < st .next → rowOf (l .rows) k .kind ≡ rowOf (st .rows) k .kind
+  low : all (λ e. ltb e (l .next)) (l .items) ≡ true
+  ends : endsIn (l .rows) (l .items) ≡ es
+
+module _ (st : State) (s : Sound st) (c v : ℕ) (x : Item) (l : Lending) (es : List ℕ) (t : member (x .row) (numbers (st .rows)) ≡ true) (j : Lent st l es) where
+  lent-end : moves st x ≡ true → Lent st (lendEnd x l) (es ++ (x .row ∷ []))
+  unfolding lendEnd moves itemRow nonzero
+  lent-end m =
+      let (lo, hi) = row-below st s (x .row) t in
+      let same = system-kind (x .row) lo (l .rows) in
+      let more = j .more in
+      let end : isEnd (rowOf (l .rows) (x .row) .kind) ≡ true = ap isEnd (j .old (x .row) hi) ∙ m in
+      record {
+        more = j .more;
+        old = λ k lt. same k ∙ j .old k lt;
+        low = all-append (λ e. ltb e (l .next)) (l .items) (x .row ∷ []) (j .low) (unfold all in rw (lt-ltb (x .row) (l .next) (omega arith)) refl);
+        ends =
+            ap (λ f. filter f (filter some (l .items ++ (x .row ∷ [])))) (fun-ext (λ e. ap isEnd (same e)))
+            ∙ ap (filter (λ e. isEnd (rowOf (l .rows) e .kind))) (filter-append some (l .items) (x .row ∷ []) ∙ ap (λ ns. filter some (l .items) ++ ns) (filter-one some (x .row) (pos-some (x .row) lo)))
+            ∙ filter-append (λ e. isEnd (rowOf (l .rows) e .kind)) (filter some (l .items)) (x .row ∷ [])
+            ∙ rw (j .ends, filter-one (λ e. isEnd (rowOf (l .rows) e .kind)) (x .row) end) refl;
+      }
+
+  lent-copy : moves st x ≡ false → Lent st (lendCopy st c v x l) es
+  unfolding lendCopy moves nonzero
+  lent-copy m =
+      let r = copyLent st c v (l .next) x in
+      let more = j .more in
+      let number : r .number ≡ l .next = unfold copyLent copyOf in refl in
+      let kind : r .kind ≡ itemRow st x .kind = unfold copyLent copyOf in refl in
+      let old : (k : ℕ) → k < l .next → rowOf (r ∷ l .rows) k ≡ rowOf (l .rows) k = (λ k lt. row-other r (l .rows) (l .next) k number lt) in
+      let new : isEnd (rowOf (r ∷ l .rows) (l .next) .kind) ≡ false = ap (λ y. isEnd (y .kind)) (row-here r (l .rows) (l .next) number) ∙ ap isEnd kind ∙ m in
+      let items : all (λ e. ltb e (l .next)) (filter some (l .items)) ≡ true = all-filter some (λ e. ltb e (l .next)) (l .items) (j .low) in
+      record {
+        more = omega arith;
+        old = λ k lt. ap (λ y. y .kind) (old k (omega arith)) ∙ j .old k lt;
+        low = all-append (λ e. ltb e (suc (l .next))) (l .items) (l .next ∷ []) (all-mono (λ e. ltb e (l .next)) (λ e. ltb e (suc (l .next))) (λ e w. let lt = ltb-true e (l .next) w in lt-ltb e (suc (l .next)) (omega arith)) (l .items) (j .low))
+            (unfold all in rw (lt-ltb (l .next) (suc (l .next)) (omega arith)) refl);
+        ends =
+            ap (filter (λ e. isEnd (rowOf (r ∷ l .rows) e .kind))) (filter-append some (l .items) (l .next ∷ []) ∙ ap (λ ns. filter some (l .items) ++ ns) (filter-one some (l .next) (pos-some (l .next) (omega arith))))
+            ∙ filter-append (λ e. isEnd (rowOf (r ∷ l .rows) e .kind)) (filter some (l .items)) (l .next ∷ [])
+            ∙ rw (filter-none (λ e. isEnd (rowOf (r ∷ l .rows) e .kind)) (l .next) new) (append-nil (filter (λ e. isEnd (rowOf (r ∷ l .rows) e .kind)) (filter some (l .items))))
+            ∙ filter-same (λ e. ltb e (l .next)) (λ e. isEnd (rowOf (r ∷ l .rows) e .kind)) (λ e. isEnd (rowOf (l .rows) e .kind)) (λ e w. ap (λ y. isEnd (y .kind)) (old e (ltb-true e (l .next) w))) (filter some (l .items)) items
+            ∙ j .ends;
+      }
+
+-- all items: the ends among them come in order
+lent-all : (st : State) → Sound st → (p c v : ℕ) (xs : List Item) → any (λ x. notHeld st p (x .row)) xs ≡ false → (l : Lending) (es : List ℕ) → Lent st l es
+    → Lent st (lendItems st c v xs l) (es ++ map (λ x. x .row) (filter (moves st) xs))
+unfolding any lendItems lendItem filter
+lent-all st s p c v [] e l es j = rw (append-nil es) j
+lent-all st s p c v (x ∷ xs) e l es j =
+    pick (held-there st p (x .row) (or-fl (notHeld st p (x .row)) _ e)) (lent-all st s p c v xs (or-fr (notHeld st p (x .row)) _ e)) (moves st x) refl
+  where
+    rest : List ℕ
+    rest = map (λ x. x .row) (filter (moves st) xs)
+
+    pick : member (x .row) (numbers (st .rows)) ≡ true → ((l : Lending) (es : List ℕ) → Lent st l es → Lent st (lendItems st c v xs l) (es ++ rest)) → (b : Bool) → moves st x ≡ b
+        → Lent st (lendItems st c v xs (cond b (lendEnd x l) (lendCopy st c v x l))) (es ++ map (λ x. x .row) (cond b (x ∷ filter (moves st) xs) (filter (moves st) xs)))
+    pick t ih true m = rw (← append-assoc es (x .row ∷ []) rest) (ih (lendEnd x l) (es ++ (x .row ∷ [])) (lent-end st s c v x l es t j m))
+    pick t ih false m = ih (lendCopy st c v x l) es (lent-copy st s c v x l es t j m)
+
+-- ---- the call
+module _ (h : History) (st : State) (i : Inv h st) (l : Lends h st) (s : Sound st) where
+  -- an item is an end of the tables just if it is noted as an end
+  named-end : (x : Item) → member (x .row) (numbers (st .rows)) ≡ true → moves st x ≡ isEndNoted (h .rows) x
+  unfolding isEndNoted moves itemRow view
+  named-end x t = sym (ap (λ r. some (r .port)) (row-noted h st i (x .row) (row-stands h st i (x .row) t)) ∙ pick (isEnd (rowOf (st .rows) (x .row) .kind)) refl)
+    where
+      pick : (b : Bool) → isEnd (rowOf (st .rows) (x .row) .kind) ≡ b → some (cond b (rowOf (st .rows) (x .row) .object) 0) ≡ b
+      pick true q = pos-some (rowOf (st .rows) (x .row) .object) (end-port-low st s (x .row) t q)
+      pick false q = unfold some in refl
+
+  named-ends : (p : ℕ) (xs : List Item) → any (λ x. notHeld st p (x .row)) xs ≡ false → map (λ x. x .row) (filter (moves st) xs) ≡ endsNamed (h .rows) xs
+  unfolding endsNamed
+  named-ends p xs e =
+      ap (map (λ x. x .row))
+      (filter-same (λ x. not (notHeld st p (x .row))) (moves st) (isEndNoted (h .rows)) (λ x t. named-end x (held-there st p (x .row) (not-t (notHeld st p (x .row)) t))) xs (none-all (λ x. notHeld st p (x .row)) xs e))
+
+  asked-loans : (p c : ℕ) (xs : List Item) → any (λ x. notHeld st p (x .row)) xs ≡ false
+      → loansIn (withRequest st p c xs .rows) (withRequest st p c xs .requests) ≡ noteAsk p c xs (st .next) h .loans
+  unfolding withRequest newRequest loansIn endsListed lent noteAsk
+  asked-loans p c xs e =
+      let m = lendItems st c (st .next) xs (record { rows = st .rows; items = []; next = suc (st .next) }) in
+      let j : Lent st m (map (λ x. x .row) (filter (moves st) xs)) = lent-all st s p c (st .next) xs e (record { rows = st .rows; items = []; next = suc (st .next) }) [] (begun) in
+      rw (nonzero-pad mostItems (m .items), j .ends, named-ends p xs e, kinds-same st s (m .rows) (λ k t. j .old k (row-below st s k t .1)), l .lends) refl
+    where
+      begun : Lent st (record { rows = st .rows; items = []; next = suc (st .next) }) []
+      begun = record { more = omega arith; old = λ k lt. refl; low = unfold all in refl; ends = unfold nonzero filter in refl }
+
+  pub ask-lends : (p c : ℕ) (is : Items) → Keeps h (Ask p c is) (doAsk st p c (itemsOf is)) → LendsAfter h (Ask p c is) (doAsk st p c (itemsOf is))
+  unfolding doAsk noteCall itemsNamed itemsOf
+  ask-lends p c is k =
+      unless _ 7 refl l k λ e7 k.
+      unless _ 8 refl l k λ e8 k.
+      unless _ 9 refl l k λ e9 k.
+      unless _ 10 refl l k λ e10 k.
+      unless _ 15 refl l k λ e15 k.
+      unless _ 16 refl l k λ e16 k.
+      unless _ 17 refl l k λ e17 k.
+      unless _ 18 refl l k λ e18 k.
+      taken-made _ _ k (λ i. calm _ _ i (asked-loans p c (itemsOf is) (or-fr (notHeld st p c) _ e7)))

@@ -1,0 +1,207 @@
+-- After an accepted revoke, a surviving end that a closed request had on loan is with the lender of the oldest such request.
+use Prim.Native.Nat.{ℕ, _<_, _≤_}
+use mathlib.Core.Bool.{Bool, true, false, not, cond, _&&_, _||_}
+use mathlib.Core.List.{List, [], _∷_, _++_, map}
+use mathlib.Core.Path.{_≡_, refl, sym, ap, _∙_, subst}
+use mathlib.Core.Logic.{_↔_}
+use lib.Dec.{eqb}
+use native.Mathlib.Omega.{arith}
+use borrow.Author.Tests.{eqb-true}
+use Rattle.rows.specs.declared.Row.{Row}
+use Rattle.rows.specs.declared.Request.{Request}
+use Rattle.rows.specs.Lists.{if_then_else_, filter, any, firstWith, rises, member, some, nonzero}
+use Rattle.rows.specs.Codes.{isEnd, inClist}
+use Rattle.rows.specs.Tables.{State, noRow, noRequest, rowOf, requestOf, numbers, marked, bears, lists}
+use Rattle.rows.specs.Sound.{requestsRise}
+use Rattle.rows.proofs.Bools.{clash, and-l, and-r, and-i, not-t, any-append, pos-some, eqb-sym, eqb-sym-f, member-here, member-there}
+use Rattle.rows.proofs.Keyed.{first-key, rises-rest, rises-first, rises-older, rises-fresh, rises-range}
+use Rattle.rows.proofs.Picked.{first-here, first-other, older-other}
+use Rattle.rows.proofs.Sound.{Sound}
+use Rattle.closing.specs.Closing.{closes, oldestListing, placedIn, returned, settled, closing, closeRequest}
+use Rattle.calls.specs.declared.Answer.the-variants.{Done}
+use Rattle.calls.specs.declared.Call.the-variants.{Revoke}
+use Rattle.calls.specs.Answers.{refusalOf, valuesOf}
+use Rattle.calls.specs.Calls.{doRevoke}
+use Rattle.history.specs.Notes.{OnLoan, History, noLoan, loanOf, stands, isClosed, withLoans, settled as settling, noteRevoke}
+use Rattle.history.specs.Reading.{noteCall}
+use Rattle.history.specs.Chains.{aRequest, AskedOver, Gone, Stands, HasOnLoan}
+use Rattle.history.specs.Demand3.{ClosedWith, Returned}
+use Rattle.history.proofs.Inv.{Inv, Lends, endsListed, loansIn, ofRequest, ofLoan, firstValue, noteAnswer}
+use Rattle.history.proofs.Keeps.{settled-inv}
+use Rattle.history.proofs.Standing.{stands-chains, request-closed}
+use Rattle.history.proofs.Find.{row-number}
+use Rattle.history.proofs.Loans.{and-false-r, closedNumber, member-filter, end-listed, open-numbers, request-loan}
+use Rattle.history.proofs.LoansClose.{row-left, stands-left, closed-now}
+use Rattle.history.proofs.Vanish.{Revoked, revoked}
+
+-- ---- the oldest of the requests that pass a test and list e
+module _ (f : Request → Bool) (e : ℕ) where
+  abbrev takes : Request → Bool
+  takes v = f v && lists e v
+
+  record Oldest (vs : List Request) (w : Request) : Type 0 where
+    there : member (w .number) (map (λ v. v .number) vs) ≡ true
+    found : requestOf vs (w .number) ≡ w
+    passes : takes w ≡ true
+
+  oldest-is : (vs : List Request) → rises (λ v. v .number) vs ≡ true → some (oldestListing f e vs .number) ≡ true → Oldest vs (oldestListing f e vs)
+  unfolding oldestListing
+  oldest-is [] u z = clash z (unfold some noRequest in refl)
+  oldest-is (v ∷ vs) u z = pick (some (oldestListing f e vs .number)) refl (oldest-is vs (rises-rest (λ v. v .number) v vs u)) (takes v) refl z
+    where
+      w : Request
+      w = oldestListing f e vs
+
+      pick : (b : Bool) → some (w .number) ≡ b → (some (w .number) ≡ true → Oldest vs w) → (c : Bool) → takes v ≡ c → some ((cond b w (cond c v w)) .number) ≡ true → Oldest (v ∷ vs) (cond b w (cond c v w))
+      pick true p ih c q z =
+          let o = ih p in
+          record {
+            there = member-there (w .number) (v .number) (map (λ v. v .number) vs) (o .there);
+            found = unfold requestOf in first-other (λ v. v .number) noRequest v vs (w .number) (older-other (λ v. v .number) v vs u (w .number) (o .there)) ∙ (unfold requestOf in o .found);
+            passes = o .passes;
+          }
+      pick false p ih true q z =
+          record {
+            there = member-here (v .number) (map (λ v. v .number) vs);
+            found = unfold requestOf in first-here (λ v. v .number) noRequest v vs;
+            passes = q;
+          }
+      pick false p ih false q z = clash z p
+
+  oldest-least : (vs : List Request) → rises (λ v. v .number) vs ≡ true → (n : ℕ) → member n (map (λ v. v .number) vs) ≡ true → takes (requestOf vs n) ≡ true
+      → (some (oldestListing f e vs .number) ≡ true) × (oldestListing f e vs .number ≤ n)
+  unfolding oldestListing requestOf firstWith member
+  oldest-least [] u n t z = clash t refl
+  oldest-least (v ∷ vs) u n t z = pick (some (oldestListing f e vs .number)) refl (oldest-least vs (rises-rest (λ v. v .number) v vs u) n) (oldest-is vs (rises-rest (λ v. v .number) v vs u)) (eqb (v .number) n) refl z
+    where
+      w : Request
+      w = oldestListing f e vs
+
+      pick : (b : Bool) → some (w .number) ≡ b → (member n (map (λ v. v .number) vs) ≡ true → takes (requestOf vs n) ≡ true → (some (w .number) ≡ true) × (w .number ≤ n)) → (some (w .number) ≡ true → Oldest vs w)
+          → (c : Bool) → eqb (v .number) n ≡ c → takes (cond c v (requestOf vs n)) ≡ true → (some ((cond b w (cond (takes v) v w)) .number) ≡ true) × ((cond b w (cond (takes v) v w)) .number ≤ n)
+      pick true p ih is true q z =
+          let lt = rises-older (λ v. v .number) v vs u (w .number) (is p .there) in
+          let same : v .number ≡ n = eqb-true (v .number) n q in (p, omega arith)
+      pick false p ih is true q z =
+          let lo = rises-first (λ v. v .number) v vs u in
+          let same : v .number ≡ n = eqb-true (v .number) n q in rw z (pos-some (v .number) (omega arith), omega arith)
+      pick true p ih is false q z = ih (rw (eqb-sym-f (v .number) n q) at t) z
+      pick false p ih is false q z = clash (ih (rw (eqb-sym-f (v .number) n q) at t) z .0) p
+
+-- ---- a request of the tables has on loan the ends that it lists
+any-block : (q n e : ℕ) (es : List ℕ) → any (λ (o : OnLoan). eqb (o .request) n && eqb (o .lent) e) (map (λ e. record { request = q; lent = e }) es) ≡ eqb q n && member e es
+unfolding any member
+any-block q n e [] = sym (and-false-r (eqb q n))
+any-block q n e (x ∷ es) = rw (any-block q n e es, eqb-sym x e) (pick (eqb q n) (eqb e x) (member e es))
+  where
+    pick : (a b c : Bool) → (a && b) || (a && c) ≡ a && (b || c)
+    pick true b c = refl
+    pick false b c = refl
+
+on-loan : (rs : List Row) (n e : ℕ) (vs : List Request) → rises (λ v. v .number) vs ≡ true
+    → any (λ o. eqb (o .request) n && eqb (o .lent) e) (loansIn rs vs) ≡ member n (map (λ v. v .number) vs) && member e (endsListed rs (requestOf vs n))
+unfolding loansIn member requestOf firstWith
+on-loan rs n e [] u = unfold any in refl
+on-loan rs n e (v ∷ vs) u =
+    any-append (λ o. eqb (o .request) n && eqb (o .lent) e) (map (λ e. record { request = v .number; lent = e }) (endsListed rs v)) (loansIn rs vs)
+    ∙ rw (any-block (v .number) n e (endsListed rs v), on-loan rs n e vs (rises-rest (λ v. v .number) v vs u), eqb-sym n (v .number)) (pick (eqb (v .number) n) refl)
+  where
+    m : Bool
+    m = member n (map (λ v. v .number) vs)
+
+    fresh : v .number ≡ n → m ≡ false
+    fresh z = ap (λ k. member k (map (λ v. v .number) vs)) (sym z) ∙ rises-fresh (λ v. v .number) v vs u
+
+    or-false : (a : Bool) → a || false ≡ a
+    or-false true = refl
+    or-false false = refl
+
+    pick : (b : Bool) → eqb (v .number) n ≡ b
+        → (b && member e (endsListed rs v)) || (m && member e (endsListed rs (requestOf vs n))) ≡ (b || m) && member e (endsListed rs (cond b v (requestOf vs n)))
+    pick true q = rw (fresh (eqb-true (v .number) n q)) (or-false (member e (endsListed rs v)))
+    pick false q = refl
+
+listed-end : (rs : List Row) (e : ℕ) (v : Request) → member e (endsListed rs v) ≡ true → isEnd (rowOf rs e .kind) ≡ true
+unfolding endsListed
+listed-end rs e v t = and-r (member e (nonzero (v .items))) (isEnd (rowOf rs e .kind)) (sym (member-filter (λ e. isEnd (rowOf rs e .kind)) (nonzero (v .items)) e) ∙ t)
+
+-- ---- the requests that had e on loan and close, in the history and in the tables
+module _ (h h′ : History) (st : State) (g : List ℕ) (f : Request → Bool) (i : Inv h st) (l : Lends h st) (s : Sound st) (i′ : Inv h′ (settled g f st)) (asked : h′ .requests ≡ h .requests) (e : ℕ) where
+  rise : rises (λ v. v .number) (st .requests) ≡ true
+  rise = unfold requestsRise in s .requests-rise
+
+  had : (n : ℕ) → any (λ o. eqb (o .request) n && eqb (o .lent) e) (h .loans) ≡ member n (map (λ v. v .number) (st .requests)) && member e (endsListed (st .rows) (requestOf (st .requests) n))
+  had n = ap (any (λ o. eqb (o .request) n && eqb (o .lent) e)) (sym (l .lends)) ∙ on-loan (st .rows) n e (st .requests) rise
+
+  -- a request of the tables is closed just if the history has it closed
+  closed-is : (n : ℕ) → member n (map (λ v. v .number) (st .requests)) ≡ true → (closedNumber h′ n ≡ true) ↔ Gone h′ (aRequest n)
+  unfolding closedNumber
+  closed-is n t = request-closed h′ (i′ .fit) n (loanOf (h′ .requests) n .port) (record { isNumber = rises-range (λ v. v .number) (st .requests) rise n t .0; request = number; port = refl })
+    where
+      number : loanOf (h′ .requests) n .number ≡ n
+      number =
+          unfold loanOf in
+          first-key (λ v. v .number) noLoan (h′ .requests) n
+          (ap (λ vs. member n (map (λ v. v .number) vs)) asked ∙ and-l _ (not (closedNumber h n)) (sym (open-numbers h st i n) ∙ t))
+
+  record Closes (n : ℕ) : Type 0 where
+    there : member n (map (λ v. v .number) (st .requests)) ≡ true
+    isEnd′ : isEnd (rowOf (st .rows) e .kind) ≡ true
+    passes : takes f e (requestOf (st .requests) n) ≡ true
+
+  closed-in : (n : ℕ) → ClosedWith h h′ e n → Closes n
+  unfolding HasOnLoan
+  closed-in n c =
+      let both = sym (had n) ∙ c .hadOnLoan in
+      let t : member n (map (λ v. v .number) (st .requests)) ≡ true = and-l _ (member e (endsListed (st .rows) (requestOf (st .requests) n))) both in
+      let m : member e (endsListed (st .rows) (requestOf (st .requests) n)) ≡ true = and-r (member n (map (λ v. v .number) (st .requests))) _ both in
+      let end : isEnd (rowOf (st .rows) e .kind) ≡ true = listed-end (st .rows) e (requestOf (st .requests) n) m in
+      record {
+        there = t;
+        isEnd′ = end;
+        passes = and-i (f (requestOf (st .requests) n)) (lists e (requestOf (st .requests) n)) (sym (closed-now h h′ st g f i s i′ asked n t) ∙ closed-is n t .1 (c .isClosed)) (sym (end-listed (st .rows) e end (requestOf (st .requests) n)) ∙ m);
+      }
+
+  closed-out : (n : ℕ) → Closes n → ClosedWith h h′ e n
+  unfolding HasOnLoan
+  closed-out n c =
+      let v = requestOf (st .requests) n in
+      record {
+        hadOnLoan = had n ∙ and-i (member n (map (λ v. v .number) (st .requests))) _ (c .there) (end-listed (st .rows) e (c .isEnd′) v ∙ and-r (f v) (lists e v) (c .passes));
+        isClosed = closed-is n (c .there) .0 (closed-now h h′ st g f i s i′ asked n (c .there) ∙ and-l (f v) (lists e v) (c .passes));
+      }
+
+  returned-place : (r : Row) → r .number ≡ e → some (oldestListing f e (st .requests) .number) ≡ true → returned f (st .requests) r .place ≡ inClist (oldestListing f e (st .requests) .asker)
+  unfolding returned placedIn
+  returned-place r n z = ap (λ k. (let w = oldestListing f k (st .requests) in if some (w .number) then placedIn (inClist (w .asker)) r else r) .place) n ∙ rw z refl
+
+  placed : (q : ℕ) → stands h′ e ≡ true → ClosedWith h h′ e q → ((v : ℕ) → ClosedWith h h′ e v → q ≤ v) → rowOf (settled g f st .rows) e .place ≡ inClist (loanOf (h .requests) q .lender)
+  unfolding settled
+  placed q up c least =
+      let w = oldestListing f e (st .requests) in
+      let both : member e (numbers (st .rows)) && not (member e g) ≡ true = sym (stands-left h h′ st g f i s i′ asked e) ∙ up in
+      let k = closed-in q c in
+      let (is, le) = oldest-least f e (st .requests) rise q (k .there) (k .passes) in
+      let o : Oldest f e (st .requests) w = oldest-is f e (st .requests) rise is in
+      let ge : q ≤ w .number = least (w .number) (closed-out (w .number) (record { there = o .there; isEnd′ = k .isEnd′; passes = ap (takes f e) (o .found) ∙ o .passes })) in
+      let same : w .number ≡ q = omega arith in
+      let number : rowOf (st .rows) e .number ≡ e = row-number st s e (and-l (member e (numbers (st .rows))) _ both) in
+      ap (λ r. r .place) (row-left f (st .requests) g (st .rows) e (not-t (member e g) (and-r (member e (numbers (st .rows))) _ both)))
+      ∙ returned-place (rowOf (st .rows) e) number is
+      ∙ ap (λ v. inClist (v .asker)) (sym (o .found) ∙ ap (requestOf (st .requests)) same)
+      ∙ ap inClist (unfold ofRequest ofLoan in ap (λ o. o .asker) (request-loan h st i q (k .there)))
+
+-- ---- the theorem
+pub revoke-returned : (h : History) (st : State) → Inv h st → Lends h st → Sound st → (p q : ℕ) → doRevoke st p q .answer ≡ Done → Returned h (noteAnswer h (Revoke p q) Done) (doRevoke st p q .after)
+unfolding Returned noteAnswer noteCall refusalOf
+revoke-returned h st i l s p q a e v up c least =
+    let r = revoked h st i s p q a in
+    let i′ : Inv h′ (closeRequest q st) = settled-inv (noteRevoke q h) (closeRequest q st) (r .inv) in
+    ap (λ st′. rowOf (st′ .rows) e .place) (r .after)
+    ∙ (unfold closeRequest closing in placed h h′ st g (closes (q ∷ []) g) i l s (unfold closeRequest closing in i′) (unfold settling withLoans noteRevoke in refl) e v (stands-chains h′ (i′ .fit) e .1 up) c least)
+  where
+    h′ : History
+    h′ = settling (noteRevoke q h)
+
+    g : List ℕ
+    g = marked (bears q) (st .rows)

@@ -1,0 +1,80 @@
+-- An accepted revoke takes from the tables just what came from the request.
+use Prim.Native.Nat.{ℕ, _<_}
+use mathlib.Core.Bool.{Bool, true, false, not, _&&_, _||_, false≢true}
+use mathlib.Core.List.{List, [], _∷_, map}
+use mathlib.Core.Path.{_≡_, refl, sym, ap, _∙_, subst}
+use mathlib.Core.Logic.{_↔_}
+use lib.Dec.{eqb}
+use native.Mathlib.Omega.{arith}
+use Rattle.rows.specs.Lists.{member}
+use Rattle.rows.specs.Tables.{State, noRequest, requestOf, numbers, marked, bears}
+use Rattle.rows.specs.Sound.{requestsRise}
+use Rattle.rows.proofs.Bools.{false-of, clash, and-l, or-fl}
+use Rattle.rows.proofs.Keyed.{first-there, rises-range}
+use Rattle.rows.proofs.Sound.{Sound}
+use Rattle.closing.specs.Closing.{closes, settled, closing, closeRequest}
+use Rattle.calls.specs.declared.Answer.{Answer}
+use Rattle.calls.specs.declared.Answer.the-variants.{Done, Made, Fetched, Told, Refused}
+use Rattle.calls.specs.Rules.{Out, refusedIf}
+use Rattle.calls.specs.Calls.{done, doRevoke}
+use Rattle.calls.proofs.AddRow.{requests-top}
+use Rattle.history.specs.Notes.{History, stands, noteRevoke}
+use Rattle.history.specs.Chains.{ComesFrom}
+use Rattle.history.specs.Demand3.{InTables, Vanished}
+use Rattle.history.proofs.Inv.{Inv}
+use Rattle.history.proofs.Comes.{revoke-takes}
+use Rattle.history.proofs.Find.{in-tables}
+use Rattle.history.proofs.LoansClose.{numbers-left}
+use Rattle.history.proofs.StepClose.{revoked-inv}
+
+isDone : Answer → Bool
+isDone Done = true
+isDone (Made n) = false
+isDone (Fetched v a b c d) = false
+isDone (Told t) = false
+isDone (Refused k) = false
+
+-- an answer that is no refusal: the test failed, and what follows was done
+passed : (st : State) (b : Bool) (k : ℕ) (o : Out) → refusedIf st b k o .answer ≡ Done → (b ≡ false) × (refusedIf st b k o ≡ o)
+unfolding refusedIf isDone
+passed st true k o e = absurd (false≢true (ap isDone e))
+passed st false k o e = (refl, refl)
+
+-- what an accepted revoke is
+pub record Revoked (h : History) (st : State) (p q : ℕ) : Type 0 where
+  pub after : doRevoke st p q .after ≡ closeRequest q st
+  pub low : 0 < q
+  pub inv : Inv (noteRevoke q h) (closeRequest q st)
+
+pub revoked : (h : History) (st : State) → Inv h st → Sound st → (p q : ℕ) → doRevoke st p q .answer ≡ Done → Revoked h st p q
+unfolding doRevoke
+revoked h st i s p q e =
+    let v = requestOf (st .requests) q in
+    let (test, same) = passed st (eqb (v .number) 0 || not (eqb (v .asker) p)) 7 (done (closeRequest q st)) e in
+    let t : member q (map (λ v. v .number) (st .requests)) ≡ true = there (or-fl (eqb (v .number) 0) _ test) in
+    let (lo, hi) = rises-range (λ v. v .number) (st .requests) (unfold requestsRise in s .requests-rise) q t in
+    let top = requests-top st s in
+    record { after = ap (λ o. o .after) same ∙ (unfold done in refl); low = lo; inv = revoked-inv h st i s q lo (omega arith) }
+  where
+    there : eqb (requestOf (st .requests) q .number) 0 ≡ false → member q (map (λ v. v .number) (st .requests)) ≡ true
+    there z = unfold requestOf in first-there (λ v. v .number) noRequest (λ v. not (eqb (v .number) 0)) (unfold noRequest in refl) (st .requests) q (ap not z)
+
+pub revoke-vanished : (h : History) (st : State) → Inv h st → Sound st → (p q : ℕ) → doRevoke st p q .answer ≡ Done → Vanished h st (doRevoke st p q .after) q
+unfolding InTables
+revoke-vanished h st i s p q e = subst (λ st′. Vanished h st st′ q) (sym (r .after)) (record { exactly = exactly; nothingNew = nothing-new })
+  where
+    r : Revoked h st p q
+    r = revoked h st i s p q e
+
+    after : (n : ℕ) → member n (numbers (closeRequest q st .rows)) ≡ stands (noteRevoke q h) n
+    after n = in-tables (noteRevoke q h) (closeRequest q st) (r .inv) n
+
+    exactly : (n : ℕ) → member n (numbers (st .rows)) ≡ true → (member n (numbers (closeRequest q st .rows)) ≡ true → ⊥) ↔ ComesFrom h q n
+    exactly n t =
+        let takes = revoke-takes h (i .fit) q n (r .low) (sym (in-tables h st i n) ∙ t) in
+        (λ out. takes .0 (sym (after n) ∙ false-of _ out), λ c w. clash w (after n ∙ takes .1 c))
+
+    nothing-new : (n : ℕ) → member n (numbers (closeRequest q st .rows)) ≡ true → member n (numbers (st .rows)) ≡ true
+    nothing-new n t =
+        let g = marked (bears q) (st .rows) in
+        and-l (member n (numbers (st .rows))) (not (member n g)) (sym (numbers-left (closes (q ∷ []) g) (st .requests) g (st .rows) n) ∙ (unfold closeRequest closing settled in t))
