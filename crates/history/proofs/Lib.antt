@@ -61,3 +61,5 @@ pub mod LoansSteps
 pub mod Vanish
 -- and gives each surviving end to the lender of the oldest request closed that had it on loan
 pub mod Returns
+-- demand 3
+pub mod Demand3

@@ -1,0 +1,194 @@
+-- Demand 3: the history of the text, the lines and their answers tells the tables after every list of lines.
+use Prim.Native.Nat.{ℕ, _<_}
+use native.Mathlib.Omega.{arith}
+use mathlib.Core.Bool.{Bool, true, false, cond, _&&_, _||_}
+use mathlib.Core.List.{List, [], _∷_}
+use mathlib.Core.Path.{_≡_, refl, sym, ap, _∙_, subst}
+use mathlib.Core.Logic.{_↔_}
+use lib.Dec.{eqb}
+use Rattle.rows.specs.declared.Row.{Row}
+use Rattle.rows.specs.Lists.{member, some}
+use Rattle.rows.specs.Limits.{processes}
+use Rattle.rows.specs.Codes.{isEnd}
+use Rattle.rows.specs.Tables.{State, rowOf, numbers, isListed, requestOf}
+use Rattle.rows.specs.Layout.{stateOf}
+use Rattle.rows.proofs.Bools.{clash}
+use Rattle.rows.proofs.Sound.{Sound}
+use Rattle.rows.proofs.LayoutWords.{state-words}
+use Rattle.closing.specs.Closing.{closeRequest}
+use Rattle.calls.specs.declared.Call.{Call}
+use Rattle.calls.specs.declared.Call.the-variants.{Go, Hold, Register, Drop, Port, Close, Ask, Fetch, Reply, Refuse, Revoke, Comes}
+use Rattle.calls.specs.declared.Answer.the-variants.{Done, Refused}
+use Rattle.calls.specs.Rules.{Out, refusedIf}
+use Rattle.calls.specs.Calls.{callerOf, done, doRevoke, perform}
+use Rattle.text.specs.declared.Reading.{Reading}
+use Rattle.text.specs.declared.Reading.the-variants.{Asks, Crowded, Refused as BadLine}
+use Rattle.text.specs.CallLines.{readingOf, isProcess}
+use Rattle.text.specs.Answers.{printed}
+use Rattle.text.specs.Entry.{Replied, callerUnlisted, answered, refused, callOn, replyWith, callEntry, openEntry}
+use Rattle.text.proofs.OpeningForms.{between-range}
+use Rattle.text.proofs.Readings.{Good, reading-good}
+use Rattle.text.proofs.Opening.{opened-sound}
+use Rattle.text.specs.Opening.{linesOf}
+use Rattle.history.specs.Notes.{History, notedOf, stands}
+use Rattle.history.specs.Reading.{begun, accepts, noteLine, historyAfter}
+use Rattle.history.specs.Chains.{IsPort, Gone, aPort}
+use Rattle.history.specs.Demand3.{lentAfter, repliesTo, stateIn, InTables, TwoEnds, Holds, Revoked, Demand3}
+use Rattle.history.proofs.Inv.{Inv, Lends, view, noteAnswer}
+use Rattle.history.proofs.Find.{in-tables, row-noted}
+use Rattle.history.proofs.Standing.{stands-chains, port-open, request-closed}
+use Rattle.history.proofs.StepsInv.{GoodCall, hasCaller, call-inv}
+use Rattle.history.proofs.LoansSteps.{call-lends}
+use Rattle.history.proofs.Spoken.{call-spoken}
+use Rattle.history.proofs.Answered.{read-refused, note-asked, note-crowded, note-refused}
+use Rattle.history.proofs.Start.{begun-inv, begun-lends}
+use Rattle.history.proofs.KeptCalls.{call-kept}
+use Rattle.history.proofs.Kept.{Opened, opened-as, call-on-words}
+use Rattle.history.proofs.TwoEnds.{two-ends}
+use Rattle.history.proofs.Vanish.{revoke-vanished}
+use Rattle.history.proofs.Returns.{revoke-returned}
+
+-- ---- what holds of a history and the words left, line by line
+record Along (h : History) (w : Replied) : Type 0 where
+  reply : List ℕ
+  st : State
+  is : w ≡ replyWith reply st
+  sound : Sound st
+  inv : Inv h st
+  lends : Lends h st
+
+-- a call that is read has a caller above 0
+good-call : (c : Call) → Good c → GoodCall c
+unfolding Good hasCaller callerOf isProcess
+good-call (Go p e) g = record { caller = λ _. between-range 1 processes p (g .caller) .0 }
+good-call (Hold p e) g = record { caller = λ _. between-range 1 processes p (g .caller) .0 }
+good-call (Register p e) g = record { caller = λ _. between-range 1 processes p (g .caller) .0 }
+good-call (Drop p e) g = record { caller = λ _. between-range 1 processes p (g .caller) .0 }
+good-call (Port p e) g = record { caller = λ _. between-range 1 processes p (g .caller) .0 }
+good-call (Close p e) g = record { caller = λ _. between-range 1 processes p (g .caller) .0 }
+good-call (Ask p c is) g = record { caller = λ _. between-range 1 processes p (g .caller) .0 }
+good-call (Fetch p e) g = record { caller = λ _. between-range 1 processes p (g .caller) .0 }
+good-call (Reply p e) g = record { caller = λ _. between-range 1 processes p (g .caller) .0 }
+good-call (Refuse p e) g = record { caller = λ _. between-range 1 processes p (g .caller) .0 }
+good-call (Revoke p q) g = record { caller = λ _. between-range 1 processes p (g .caller) .0 }
+good-call (Comes e q) g = record { caller = λ h. clash h refl }
+
+-- a line on a state, and what is noted of it
+record Step (h : History) (st : State) (line : List ℕ) : Type 0 where
+  inv : Inv (noteLine h line (printed (callOn st line .answer))) (callOn st line .after)
+  lends : Lends (noteLine h line (printed (callOn st line .answer))) (callOn st line .after)
+
+step : (h : History) (st : State) → Sound st → Inv h st → Lends h st → (line : List ℕ) → Step h st line
+unfolding callOn
+step h st s i l line = pick (readingOf line) refl
+  where
+    noted : (h′ : History) (o : Out) → callOn st line ≡ o → noteLine h line (printed (callOn st line .answer)) ≡ h′ → Inv h′ (o .after) → Lends h′ (o .after) → Step h st line
+    noted h′ o e n i l =
+        record {
+          inv = subst (λ x. Inv x (callOn st line .after)) (sym n) (subst (λ x. Inv h′ (x .after)) (sym e) i);
+          lends = subst (λ x. Lends x (callOn st line .after)) (sym n) (subst (λ x. Lends h′ (x .after)) (sym e) l);
+        }
+
+    -- what is refused leaves the state
+    same : (b : Bool) (k : ℕ) → refusedIf st b 5 (refused st k) .after ≡ st
+    same true k = unfold refusedIf refused in refl
+    same false k = unfold refusedIf refused in refl
+
+    pick : (x : Reading) → readingOf line ≡ x → Step h st line
+    pick (Asks c) e =
+        let o = answered st (Asks c) in
+        let q : callOn st line ≡ o = ap (answered st) e in
+        let g = good-call c (reading-good line c e) in
+        noted (noteAnswer h c (o .answer)) o q (note-asked h line c st (callOn st line) e (call-spoken st s line) ∙ ap (λ x. noteAnswer h c (x .answer)) q) (call-inv h st i s c g) (call-lends h st i l s c g)
+    pick (Crowded p) e =
+        let o = answered st (Crowded p) in
+        let back : o .after ≡ st = unfold answered in (same _ 6) in
+        noted h o (ap (answered st) e) (note-crowded h line (printed (callOn st line .answer)) p e) (subst (Inv h) (sym back) i) (subst (Lends h) (sym back) l)
+    pick (BadLine k) e = noted h (answered st (BadLine k)) (ap (answered st) e) (note-refused h line (printed (callOn st line .answer)) k e) (unfold answered refused in i) (unfold answered refused in l)
+
+along-call : (h : History) (w : Replied) → Along h w → (l : List ℕ) → Along (noteLine h l (callEntry (w .tables) (w .processes) l .reply)) (callEntry (w .tables) (w .processes) l)
+unfolding replyWith
+along-call h w a l =
+    let o = callOn (a .st) l in
+    let q : callEntry (w .tables) (w .processes) l ≡ replyWith (printed (o .answer)) (o .after) = ap (λ x. callEntry (x .tables) (x .processes) l) (a .is) ∙ call-on-words (a .reply) (a .st) (a .sound) l in
+    let k = step h (a .st) (a .sound) (a .inv) (a .lends) l in
+    record {
+      reply = printed (o .answer);
+      st = o .after;
+      is = q;
+      sound = call-kept (a .st) (a .sound) l;
+      inv = subst (λ r. Inv (noteLine h l r) (o .after)) (sym (ap (λ x. x .reply) q)) (k .inv);
+      lends = subst (λ r. Lends (noteLine h l r) (o .after)) (sym (ap (λ x. x .reply) q)) (k .lends);
+    }
+
+along-lines : (h : History) (w : Replied) → Along h w → (ls : List (List ℕ)) → Along (historyAfter h ls (repliesTo w ls)) (lentAfter w ls)
+unfolding historyAfter repliesTo lentAfter
+along-lines h w a [] = a
+along-lines h w a (l ∷ ls) = along-lines _ _ (along-call h w a l) ls
+
+along-opening : (t p text : List ℕ) → accepts (openEntry t p text .reply) ≡ true → Along (begun text) (openEntry t p text)
+along-opening t p text a =
+    let o = opened-as t p text a in
+    record {
+      reply = _;
+      st = _;
+      is = o .is;
+      sound = opened-sound (linesOf text) (o .rest) (o .forms) (o .reads);
+      inv = begun-inv text (o .forms) (o .rest) (o .reads);
+      lends = begun-lends text (o .forms) (o .rest) (o .reads);
+    }
+
+-- ---- 1 and 2
+-- the port of a row's view
+view-port : (r : Row) (c : ℕ) → 0 < c → view r .port ≡ c → (isEnd (r .kind) ≡ true) × (r .object ≡ c)
+unfolding view
+view-port r c h e = pick (isEnd (r .kind)) refl e
+  where
+    pick : (b : Bool) → isEnd (r .kind) ≡ b → cond b (r .object) 0 ≡ c → (isEnd (r .kind) ≡ true) × (r .object ≡ c)
+    pick true q e = (q, e)
+    pick false q e = absurd (omega arith)
+
+holds : (h : History) (st : State) → Sound st → Inv h st → Holds h st
+unfolding InTables IsPort
+holds h st s i =
+    record {
+      exactly = λ n. ((λ t. stands-chains h (i .fit) n .0 (sym (in-tables h st i n) ∙ t)), (λ k. in-tables h st i n ∙ stands-chains h (i .fit) n .1 k));
+      ports = λ c p g.
+          let up : stands h c ≡ true = port-open h (i .fit) c p .1 g in
+          let (k, o) = view-port (rowOf (st .rows) c) c (p .0) (sym (ap (λ r. r .port) (row-noted h st i c up)) ∙ p .1) in
+          two-ends st s c (in-tables h st i c ∙ up) k o;
+      standing = λ n. stands-chains h (i .fit) n;
+      closed = λ q c a. request-closed h (i .fit) q c a;
+    }
+
+state-in : (w : Replied) (reply : List ℕ) (st : State) → Sound st → w ≡ replyWith reply st → stateIn w ≡ st
+unfolding stateIn replyWith
+state-in w reply st s e = ap (λ x. stateOf (x .tables) (x .processes)) e ∙ state-words st s
+
+-- ---- 3
+-- a revoke that is accepted answers Done
+accepted-revoke : (st : State) (p q : ℕ) → accepts (printed (answered st (Asks (Revoke p q)) .answer)) ≡ true → (doRevoke st p q .answer ≡ Done) × (answered st (Asks (Revoke p q)) ≡ doRevoke st p q)
+unfolding answered perform
+accepted-revoke st p q a = listed (callerUnlisted st (Revoke p q)) a
+  where
+    no : (k : ℕ) → 0 < k → accepts (printed (Refused k)) ≡ true → ⊥
+    no k h e = clash e (read-refused (Refused k) (unfold Rattle.calls.specs.Answers.refusalOf in h))
+
+    owned : (b : Bool) → accepts (printed (refusedIf st b 7 (done (closeRequest q st)) .answer)) ≡ true → refusedIf st b 7 (done (closeRequest q st)) .answer ≡ Done
+    owned true e = absurd (no 7 (omega arith) (unfold refusedIf in e))
+    owned false e = unfold refusedIf done in refl
+
+    listed : (b : Bool) → accepts (printed (refusedIf st b 5 (doRevoke st p q) .answer)) ≡ true → (doRevoke st p q .answer ≡ Done) × (refusedIf st b 5 (doRevoke st p q) ≡ doRevoke st p q)
+    listed true e = absurd (no 5 (omega arith) (unfold refusedIf in e))
+    listed false e = (unfold refusedIf doRevoke in (owned _ e), unfold refusedIf in refl)
+
+revoked : (h : History) (w : Replied) → Along h w → (line : List ℕ) (p q : ℕ) → readingOf line ≡ Asks (Revoke p q) → accepts (callEntry (w .tables) (w .processes) line .reply) ≡ true → Revoked h w line q
+revoked h w a line p q e acc = ?
+
+pub demand3 : Demand3
+unfolding Demand3
+demand3 t p text a ls =
+    let s = along-lines (begun text) (openEntry t p text) (along-opening t p text a) ls in (
+      subst (Holds _) (sym (state-in _ (s .reply) (s .st) (s .sound) (s .is))) (holds _ (s .st) (s .sound) (s .inv)),
+      λ line p q e acc. revoked _ _ s line p q e acc,
+    )
