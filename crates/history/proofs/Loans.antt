@@ -1,5 +1,5 @@
 -- The ends that the requests of the tables list, against those that the history has on loan: what a settling leaves, request by request.
-use Prim.Native.Nat.{ℕ, zero, suc, _<_}
+use Prim.Native.Nat.{ℕ}
 use mathlib.Core.Bool.{Bool, true, false, not, cond, _&&_, _||_}
 use mathlib.Core.List.{List, [], _∷_, _++_, map, map-map}
 use mathlib.Core.Path.{_≡_, refl, sym, ap, _∙_}
@@ -7,14 +7,15 @@ use lib.Dec.{eqb}
 use borrow.Author.Tests.{eqb-true}
 use Rattle.rows.specs.declared.Row.{Row}
 use Rattle.rows.specs.declared.Request.{Request}
-use Rattle.rows.specs.Lists.{filter, any, all, firstWith, member, some, nonzero}
+use Rattle.rows.specs.Lists.{if_then_else_, filter, any, all, firstWith, member, some, nonzero}
 use Rattle.rows.specs.Codes.{isEnd, isClient, isServer, clientEnd, serverEnd}
 use Rattle.rows.specs.Tables.{State, noRow, noRequest, rowOf, requestOf, numbers, lists}
-use Rattle.rows.proofs.Bools.{clash, and-l, and-r, and-i, not-t, or-fl, any-append, eqb-sym, all-mono}
+use Rattle.rows.proofs.Bools.{and-l, and-r, not-t, eqb-sym}
+use Rattle.rows.proofs.Keyed.{first-map}
 use Rattle.rows.proofs.Picked.{all-keys, keys-picked, first-picked}
+use Rattle.closing.specs.Closing.{placedIn}
 use Rattle.calls.proofs.AddRow.{row-there}
 use Rattle.history.specs.Notes.{OnLoan, History, noLoan, loanOf, stands, isClosed, openLoans, isClosedNow, staysOnLoan, loansLeft}
-use Rattle.history.proofs.Fit.{Fit}
 use Rattle.history.proofs.Inv.{Inv, Open, ofRequest, ofLoan, endsListed, loansIn}
 use Rattle.history.proofs.View.{first-through}
 use Rattle.history.proofs.Find.{row-stands}
@@ -136,6 +137,31 @@ end-listed rs e end v =
     and-swap true true = refl
     and-swap true false = refl
     and-swap false b = sym (and-false-r b)
+
+-- ---- rows of which some are put elsewhere keep their numbers and kinds
+pub record Moves (g : Row → Row) : Type 0 where
+  pub number : (r : Row) → g r .number ≡ r .number
+  pub kind : (r : Row) → g r .kind ≡ r .kind
+  pub none : g noRow ≡ noRow
+
+pub moves-if : (test : Row → Bool) (to : Row → ℕ) → test noRow ≡ false → Moves (λ r. if test r then placedIn (to r) r else r)
+unfolding placedIn
+moves-if test to z = record { number = λ r. number r (test r); kind = λ r. kind r (test r); none = rw z refl }
+  where
+    number : (r : Row) (b : Bool) → (cond b (placedIn (to r) r) r) .number ≡ r .number
+    number r true = refl
+    number r false = refl
+
+    kind : (r : Row) (b : Bool) → (cond b (placedIn (to r) r) r) .kind ≡ r .kind
+    kind r true = refl
+    kind r false = refl
+
+pub moved-row : (g : Row → Row) → Moves g → (rs : List Row) (e : ℕ) → rowOf (map g rs) e ≡ g (rowOf rs e)
+unfolding rowOf
+moved-row g m rs e = first-map (λ r. r .number) noRow g (m .number) (m .none) rs e
+
+pub moved-kind : (g : Row → Row) → Moves g → (rs : List Row) (e : ℕ) → rowOf (map g rs) e .kind ≡ rowOf rs e .kind
+moved-kind g m rs e = ap (λ r. r .kind) (moved-row g m rs e) ∙ m .kind (rowOf rs e)
 
 -- ---- the open requests, in the tables and in the history
 noOpen : Open

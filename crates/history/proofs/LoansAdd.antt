@@ -1,8 +1,8 @@
 -- The calls that neither close nor lend: the requests list the same ends after as before.
-use Prim.Native.Nat.{ℕ, suc, _≤_}
-use mathlib.Core.Bool.{Bool, true, false, not, cond, _&&_, _||_}
+use Prim.Native.Nat.{ℕ, suc}
+use mathlib.Core.Bool.{Bool, true, false, not, cond}
 use mathlib.Core.List.{List, [], _∷_, _++_, map}
-use mathlib.Core.Path.{_≡_, refl, sym, ap, _∙_}
+use mathlib.Core.Path.{_≡_, refl, ap, _∙_}
 use lib.Dec.{leb, eqb}
 use native.Mathlib.Omega.{arith}
 use borrow.Author.Tests.{le-leb}
@@ -13,9 +13,7 @@ use Rattle.rows.specs.Codes.{isEnd, isClient, isServer, clientEnd, serverEnd, i
 use Rattle.rows.specs.Tables.{State, noRow, rowOf, numbers, lists}
 use Rattle.rows.specs.Sound.{mayBeListed, itemsLent}
 use Rattle.rows.proofs.Bools.{and-l, and-r, and-i, all-mono}
-use Rattle.rows.proofs.Keyed.{first-map}
 use Rattle.rows.proofs.Sound.{Sound}
-use Rattle.closing.specs.Closing.{placedIn}
 use Rattle.calls.specs.declared.Call.the-variants.{Go, Hold, Register, Port, Fetch, Comes}
 use Rattle.calls.specs.Answers.{refusalOf, valuesOf}
 use Rattle.calls.specs.Rules.{refusedIf, notHeld, withRows, copyOf, withRecord}
@@ -24,8 +22,9 @@ use Rattle.calls.specs.Calls.{done, goHome, goThrough, doGo, withHeld, doHold, 
 use Rattle.calls.proofs.AddRow.{row-there, row-below, row-before}
 use Rattle.history.specs.Notes.{OnLoan, History, addRow, noteGo, noteHold, noteRegister, notePort}
 use Rattle.history.specs.Reading.{noteCall}
-use Rattle.history.proofs.Inv.{Inv, Lends, endsListed, loansIn, firstValue}
+use Rattle.history.proofs.Inv.{Lends, endsListed, loansIn, firstValue}
 use Rattle.history.proofs.Keeps.{Keeps}
+use Rattle.history.proofs.Loans.{Moves, moves-if, moved-kind}
 use Rattle.history.proofs.LoansKept.{LendsAfter, unless, taken, taken-done, taken-made, calm}
 
 -- ---- what the requests list are rows of the tables: they list the same ends among rows of the same kinds
@@ -82,23 +81,9 @@ module _ (st : State) (s : Sound st) where
   port-same p e d = rows-more st s (_ ∷ _ ∷ []) (two-new st _ _ refl refl)
 
 -- ---- fetch
-handed-kind : (p : ℕ) (v : Request) (rs : List Row) (e : ℕ) → rowOf (map (handedTo p v) rs) e .kind ≡ rowOf rs e .kind
-unfolding rowOf handedTo
-handed-kind p v rs e = ap (λ r. r .kind) (first-map (λ r. r .number) noRow (handedTo p v) number (unfold noRow lists some in refl) rs e) ∙ kind (rowOf rs e)
-  where
-    number : (r : Row) → handedTo p v r .number ≡ r .number
-    number r = pick (lists (r .number) v)
-      where
-        pick : (b : Bool) → (cond b (placedIn (inClist p) r) r) .number ≡ r .number
-        pick true = unfold placedIn in refl
-        pick false = refl
-
-    kind : (r : Row) → handedTo p v r .kind ≡ r .kind
-    kind r = pick (lists (r .number) v)
-      where
-        pick : (b : Bool) → (cond b (placedIn (inClist p) r) r) .kind ≡ r .kind
-        pick true = unfold placedIn in refl
-        pick false = refl
+handed-moves : (p : ℕ) (v : Request) → Moves (handedTo p v)
+unfolding handedTo
+handed-moves p v = moves-if (λ r. lists (r .number) v) (λ r. inClist p) (unfold noRow lists some in refl)
 
 fetched-loans : (rs : List Row) (q : ℕ) (vs : List Request) → loansIn rs (map (nowFetched q) vs) ≡ loansIn rs vs
 unfolding loansIn nowFetched
@@ -163,7 +148,7 @@ module _ (h : History) (st : State) (l : Lends h st) (s : Sound st) where
       unless _ 7 refl l k λ e7 k.
       unless _ 8 refl l k λ e8 k.
       unless _ 11 refl l k λ e11 k.
-      taken _ _ refl refl k (λ i. calm _ _ i (unfold withFetched in (fetched-loans _ _ (st .requests) ∙ kinds-same st s _ (λ x t. handed-kind _ _ (st .rows) x) ∙ l .lends)))
+      taken _ _ refl refl k (λ i. calm _ _ i (unfold withFetched in (fetched-loans _ _ (st .requests) ∙ kinds-same st s _ (λ x t. moved-kind (handedTo _ _) (handed-moves _ _) (st .rows) x) ∙ l .lends)))
 
   pub comes-lends : (e q : ℕ) → Keeps h (Comes e q) (doComes st e q) → LendsAfter h (Comes e q) (doComes st e q)
   unfolding doComes noteCall refusalOf valuesOf firstValue

@@ -1,21 +1,19 @@
 -- ask: the ends that it names are the ends that the new request lists, and the older requests list what they did.
 use Prim.Native.Nat.{ℕ, zero, suc, _<_}
-use mathlib.Core.Bool.{Bool, true, false, not, cond, _&&_, _||_}
+use mathlib.Core.Bool.{Bool, true, false, not, cond}
 use mathlib.Core.List.{List, [], _∷_, _++_, append-assoc, append-nil, map}
 use mathlib.Core.Path.{_≡_, refl, sym, ap, _∙_, fun-ext}
 use lib.Dec.{ltb, eqb}
 use native.Mathlib.Omega.{arith}
-use borrow.Author.Tests.{eqb-true, ne-eqb, ltb-true, lt-ltb}
+use borrow.Author.Tests.{ne-eqb, ltb-true, lt-ltb}
 use Rattle.rows.specs.declared.Row.{Row}
-use Rattle.rows.specs.Lists.{if_then_else_, filter, any, all, firstWith, member, some, nonzero, pad}
+use Rattle.rows.specs.Lists.{filter, any, all, member, some, nonzero, pad}
 use Rattle.rows.specs.Limits.{mostItems}
 use Rattle.rows.specs.Codes.{isEnd, withSystem}
 use Rattle.rows.specs.Tables.{State, noRow, rowOf, numbers}
-use Rattle.rows.proofs.Bools.{and-l, and-r, and-i, not-t, or-fl, or-fr, all-mono, all-filter, pos-some, eqb-self}
-use Rattle.rows.proofs.Keyed.{first-map}
+use Rattle.rows.proofs.Bools.{and-l, and-r, and-i, not-t, or-fl, or-fr, all-mono, all-filter, pos-some}
 use Rattle.rows.proofs.Picked.{first-here, first-other}
 use Rattle.rows.proofs.Sound.{Sound}
-use Rattle.closing.specs.Closing.{placedIn}
 use Rattle.calls.specs.declared.Item.{Item}
 use Rattle.calls.specs.declared.Items.{Items}
 use Rattle.calls.specs.declared.Call.the-variants.{Ask}
@@ -23,11 +21,12 @@ use Rattle.calls.specs.Rules.{notHeld, copyOf}
 use Rattle.calls.specs.Loans.{itemsOf, itemRow, moves, copyLent, Lending, toSystem, lendEnd, lendCopy, lendItem, lendItems, lent, newRequest, withRequest}
 use Rattle.calls.specs.Calls.{doAsk}
 use Rattle.calls.proofs.AddRow.{all-append, row-below}
-use Rattle.history.specs.Notes.{OnLoan, History, isEndNoted, endsNamed, noteAsk}
+use Rattle.history.specs.Notes.{History, isEndNoted, endsNamed, noteAsk}
 use Rattle.history.specs.Reading.{itemsNamed, noteCall}
 use Rattle.history.proofs.Inv.{Inv, Lends, view, endsListed, loansIn}
 use Rattle.history.proofs.Keeps.{Keeps}
 use Rattle.history.proofs.Find.{row-stands, row-noted, held-there, end-port-low}
+use Rattle.history.proofs.Loans.{moves-if, moved-kind}
 use Rattle.history.proofs.LoansKept.{LendsAfter, unless, taken-made, calm}
 use Rattle.history.proofs.LoansAdd.{kinds-same}
 
@@ -68,25 +67,8 @@ nonzero-pad (suc n) (x ∷ xs) = rw (nonzero-pad n xs) refl
 
 -- ---- rows while items are lent
 system-kind : (e : ℕ) → 0 < e → (rs : List Row) (k : ℕ) → rowOf (map (toSystem e) rs) k .kind ≡ rowOf rs k .kind
-unfolding rowOf
-system-kind e lo rs k = ap (λ r. r .kind) (first-map (λ r. r .number) noRow (toSystem e) number none rs k) ∙ kind (rowOf rs k)
-  where
-    number : (r : Row) → toSystem e r .number ≡ r .number
-    number r = unfold toSystem in pick (eqb (r .number) e)
-      where
-        pick : (b : Bool) → (cond b (placedIn withSystem r) r) .number ≡ r .number
-        pick true = unfold placedIn in refl
-        pick false = refl
-
-    kind : (r : Row) → toSystem e r .kind ≡ r .kind
-    kind r = unfold toSystem in pick (eqb (r .number) e)
-      where
-        pick : (b : Bool) → (cond b (placedIn withSystem r) r) .kind ≡ r .kind
-        pick true = unfold placedIn in refl
-        pick false = refl
-
-    none : toSystem e noRow ≡ noRow
-    none = unfold toSystem noRow in rw (ne-eqb 0 e (λ z. omega arith)) refl
+unfolding toSystem
+system-kind e lo = moved-kind (toSystem e) (moves-if (λ r. eqb (r .number) e) (λ r. withSystem) (unfold noRow in ne-eqb 0 e (λ z. omega arith)))
 
 row-here : (r : Row) (rs : List Row) (n : ℕ) → r .number ≡ n → rowOf (r ∷ rs) n ≡ r
 unfolding rowOf

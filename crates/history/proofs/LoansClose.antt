@@ -1,6 +1,6 @@
 -- Closing, and the ends on loan: what the requests of the tables list after it is what the history leaves on loan.
 use Prim.Native.Nat.{ℕ}
-use mathlib.Core.Bool.{Bool, true, false, not, cond, _&&_, _||_}
+use mathlib.Core.Bool.{Bool, true, false, not, cond, _&&_, _||_, Bool·not-not}
 use mathlib.Core.List.{List, [], _∷_, _++_, map}
 use mathlib.Core.Path.{_≡_, refl, sym, ap, _∙_}
 use lib.Dec.{eqb}
@@ -8,14 +8,14 @@ use borrow.Author.Tests.{eqb-true}
 use Rattle.rows.specs.declared.Row.{Row}
 use Rattle.rows.specs.declared.Request.{Request}
 use Rattle.rows.specs.Lists.{if_then_else_, filter, all, any, firstWith, rises, member, some, nonzero}
-use Rattle.rows.specs.Codes.{isEnd, inClist, isClient, isServer, clientEnd, serverEnd}
+use Rattle.rows.specs.Codes.{isEnd, inClist}
 use Rattle.rows.specs.Tables.{State, noRow, noRequest, rowOf, requestOf, numbers, marked, bears, lists}
 use Rattle.rows.specs.Sound.{same, requestsRise}
-use Rattle.rows.proofs.Bools.{false-of, clash, and-l, and-r, not-f, or-map, or-r, eqb-sym-f, eqb-sym, bool-eq}
-use Rattle.rows.proofs.Keyed.{first-key, first-map, first-filter, keys-map, keys-filter, rises-rest, rises-fresh}
+use Rattle.rows.proofs.Bools.{false-of, clash, and-l, and-r, or-map, or-r, eqb-sym-f, eqb-sym}
+use Rattle.rows.proofs.Keyed.{first-key, first-filter, keys-map, keys-filter, rises-rest, rises-fresh}
 use Rattle.rows.proofs.Picked.{all-found}
 use Rattle.rows.proofs.Sound.{Sound}
-use Rattle.closing.specs.Closing.{oldestListing, placedIn, returned, listedIn, leaves, withItems, trimmed, remaining, settled, closes, closing, closeRequest, isEndOf, closePort, isRow, dropRow}
+use Rattle.closing.specs.Closing.{oldestListing, returned, listedIn, leaves, withItems, trimmed, remaining, settled, closes, closing, closeRequest, isEndOf, closePort, isRow, dropRow}
 use Rattle.calls.specs.declared.Call.the-variants.{Drop, Close, Reply, Refuse, Revoke}
 use Rattle.calls.specs.Calls.{doDrop, doClose, doReply, doRefuse, doRevoke}
 use Rattle.history.specs.Notes.{History, stands, loansLeft, noteDrop, noteClose, noteRevoke, noteEnd}
@@ -24,26 +24,9 @@ use Rattle.history.proofs.Inv.{Inv, Lends, endsListed, loansIn}
 use Rattle.history.proofs.Keeps.{Keeps}
 use Rattle.history.proofs.LoansKept.{LendsAfter, unless, taken-done, Settles}
 use Rattle.history.proofs.Find.{in-tables}
-use Rattle.history.proofs.Loans.{and-false-r, and-true-r, closedNumber, shut, staysLent, left-closed, left-open, filter-both, shut-first, end-listed, open-numbers, end-there}
+use Rattle.history.proofs.Loans.{and-false-r, and-true-r, closedNumber, shut, staysLent, left-closed, left-open, filter-both, shut-first, end-listed, open-numbers, end-there, Moves, moves-if, moved-row}
 
 -- ---- rows that are left
-module _ (f : Request → Bool) (vs : List Request) where
-  returned-number : (r : Row) → returned f vs r .number ≡ r .number
-  unfolding returned placedIn
-  returned-number r = pick (some (oldestListing f (r .number) vs .number))
-    where
-      pick : (b : Bool) → (cond b (placedIn (inClist (oldestListing f (r .number) vs .asker)) r) r) .number ≡ r .number
-      pick true = refl
-      pick false = refl
-
-  returned-kind : (r : Row) → returned f vs r .kind ≡ r .kind
-  unfolding returned placedIn
-  returned-kind r = pick (some (oldestListing f (r .number) vs .number))
-    where
-      pick : (b : Bool) → (cond b (placedIn (inClist (oldestListing f (r .number) vs .asker)) r) r) .kind ≡ r .kind
-      pick true = refl
-      pick false = refl
-
 -- 0 is listed nowhere
 none-lists : (f : Request → Bool) (vs : List Request) → oldestListing f 0 vs ≡ noRequest
 unfolding oldestListing lists some
@@ -54,9 +37,9 @@ none-lists f (v ∷ vs) = rw (none-lists f vs) (pick (f v))
     pick true = unfold some noRequest in refl
     pick false = unfold some noRequest in refl
 
-returned-none : (f : Request → Bool) (vs : List Request) → returned f vs noRow ≡ noRow
+returned-moves : (f : Request → Bool) (vs : List Request) → Moves (returned f vs)
 unfolding returned noRow noRequest some
-returned-none f vs = ap (λ w. if some (w .number) then placedIn (inClist (w .asker)) noRow else noRow) (none-lists f vs)
+returned-moves f vs = moves-if (λ r. some (oldestListing f (r .number) vs .number)) (λ r. inClist (oldestListing f (r .number) vs .asker)) (ap (λ w. some (w .number)) (none-lists f vs))
 
 module _ (f : Request → Bool) (vs : List Request) (g : List ℕ) (rs : List Row) where
   abbrev pub rowsLeft : List Row
@@ -65,17 +48,17 @@ module _ (f : Request → Bool) (vs : List Request) (g : List ℕ) (rs : List Ro
   pub row-left : (e : ℕ) → member e g ≡ false → rowOf rowsLeft e ≡ returned f vs (rowOf rs e)
   unfolding rowOf
   row-left e out =
-      first-map (λ r. r .number) noRow (returned f vs) (returned-number f vs) (returned-none f vs) (filter (λ r. not (member (r .number) g)) rs) e
+      moved-row (returned f vs) (returned-moves f vs) (filter (λ r. not (member (r .number) g)) rs) e
       ∙ ap (returned f vs) (first-filter (λ r. r .number) noRow (λ n. not (member n g)) rs e (ap not out))
 
   pub numbers-left : (e : ℕ) → member e (numbers rowsLeft) ≡ member e (numbers rs) && not (member e g)
   unfolding numbers
   numbers-left e =
-      ap (member e) (keys-map (λ r. r .number) (returned f vs) (returned-number f vs) (filter (λ r. not (member (r .number) g)) rs))
+      ap (member e) (keys-map (λ r. r .number) (returned f vs) (returned-moves f vs .number) (filter (λ r. not (member (r .number) g)) rs))
       ∙ keys-filter (λ r. r .number) (λ n. not (member n g)) rs e
 
   kind-left : (e : ℕ) → member e g ≡ false → isEnd (rowOf rowsLeft e .kind) ≡ isEnd (rowOf rs e .kind)
-  kind-left e out = ap isEnd (ap (λ r. r .kind) (row-left e out) ∙ returned-kind f vs (rowOf rs e))
+  kind-left e out = ap isEnd (ap (λ r. r .kind) (row-left e out) ∙ returned-moves f vs .kind (rowOf rs e))
 
 -- ---- items that leave
 nonzero-map : (t : ℕ → Bool) (ns : List ℕ) → nonzero (map (λ e. if t e then 0 else e) ns) ≡ filter (λ e. not (t e)) (nonzero ns)
@@ -180,17 +163,13 @@ module _ (h h′ : History) (st : State) (g : List ℕ) (f : Request → Bool) (
   pub closed-now : (n : ℕ) → member n (map (λ v. v .number) (st .requests)) ≡ true → closedNumber h′ n ≡ f (requestOf (st .requests) n)
   unfolding settled
   closed-now n t =
-      not-same (closedNumber h′ n) (f (requestOf (st .requests) n))
+      sym (Bool·not-not (closedNumber h′ n))
+      ∙ ap not
       (
       ap (λ b. b && not (closedNumber h′ n)) (sym (ap (λ vs. member n (map (λ v. v .number) vs)) asked ∙ and-l _ (not (closedNumber h n)) (sym (open-numbers h st i n) ∙ t)))
       ∙ sym (open-numbers h′ (settled g f st) i′ n) ∙ remaining-numbers f g (st .requests) (unfold requestsRise in s .requests-rise) n t
       )
-    where
-      not-same : (a b : Bool) → not a ≡ not b → a ≡ b
-      not-same true true e = refl
-      not-same true false e = sym e
-      not-same false true e = sym e
-      not-same false false e = refl
+      ∙ Bool·not-not (f (requestOf (st .requests) n))
 
   pub closing-lends : loansIn (settled g f st .rows) (settled g f st .requests) ≡ loansLeft h′ (loansIn (st .rows) (st .requests))
   unfolding settled

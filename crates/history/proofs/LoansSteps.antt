@@ -1,5 +1,5 @@
 -- After every call on sound tables, accepted or refused, the ends that the requests list are those that the history has on loan.
-use mathlib.Core.Bool.{Bool, true, false}
+use mathlib.Core.Bool.{false}
 use mathlib.Core.Path.{_≡_, refl}
 use Rattle.rows.specs.Tables.{State}
 use Rattle.rows.proofs.Sound.{Sound}

@@ -1,17 +1,17 @@
 -- After an accepted revoke, a surviving end that a closed request had on loan is with the lender of the oldest such request.
-use Prim.Native.Nat.{ℕ, _<_, _≤_}
+use Prim.Native.Nat.{ℕ, _≤_}
 use mathlib.Core.Bool.{Bool, true, false, not, cond, _&&_, _||_}
-use mathlib.Core.List.{List, [], _∷_, _++_, map}
-use mathlib.Core.Path.{_≡_, refl, sym, ap, _∙_, subst}
+use mathlib.Core.List.{List, [], _∷_, map}
+use mathlib.Core.Path.{_≡_, refl, sym, ap, _∙_}
 use mathlib.Core.Logic.{_↔_}
 use lib.Dec.{eqb}
 use native.Mathlib.Omega.{arith}
 use borrow.Author.Tests.{eqb-true}
 use Rattle.rows.specs.declared.Row.{Row}
 use Rattle.rows.specs.declared.Request.{Request}
-use Rattle.rows.specs.Lists.{if_then_else_, filter, any, firstWith, rises, member, some, nonzero}
+use Rattle.rows.specs.Lists.{if_then_else_, any, firstWith, rises, member, some, nonzero}
 use Rattle.rows.specs.Codes.{isEnd, inClist}
-use Rattle.rows.specs.Tables.{State, noRow, noRequest, rowOf, requestOf, numbers, marked, bears, lists}
+use Rattle.rows.specs.Tables.{State, noRequest, rowOf, requestOf, numbers, marked, bears, lists}
 use Rattle.rows.specs.Sound.{requestsRise}
 use Rattle.rows.proofs.Bools.{clash, and-l, and-r, and-i, not-t, any-append, pos-some, eqb-sym, eqb-sym-f, member-here, member-there}
 use Rattle.rows.proofs.Keyed.{first-key, rises-rest, rises-first, rises-older, rises-fresh, rises-range}
@@ -20,19 +20,19 @@ use Rattle.rows.proofs.Sound.{Sound}
 use Rattle.closing.specs.Closing.{closes, oldestListing, placedIn, returned, settled, closing, closeRequest}
 use Rattle.calls.specs.declared.Answer.the-variants.{Done}
 use Rattle.calls.specs.declared.Call.the-variants.{Revoke}
-use Rattle.calls.specs.Answers.{refusalOf, valuesOf}
+use Rattle.calls.specs.Answers.{refusalOf}
 use Rattle.calls.specs.Calls.{doRevoke}
 use Rattle.history.specs.Notes.{OnLoan, History, noLoan, loanOf, stands, isClosed, withLoans, settled as settling, noteRevoke}
 use Rattle.history.specs.Reading.{noteCall}
-use Rattle.history.specs.Chains.{aRequest, AskedOver, Gone, Stands, HasOnLoan}
+use Rattle.history.specs.Chains.{aRequest, Gone, HasOnLoan}
 use Rattle.history.specs.Demand3.{ClosedWith, Returned}
-use Rattle.history.proofs.Inv.{Inv, Lends, endsListed, loansIn, ofRequest, ofLoan, firstValue, noteAnswer}
+use Rattle.history.proofs.Inv.{Inv, Lends, endsListed, loansIn, ofRequest, ofLoan, noteAnswer}
 use Rattle.history.proofs.Keeps.{settled-inv}
 use Rattle.history.proofs.Standing.{stands-chains, request-closed}
 use Rattle.history.proofs.Find.{row-number}
 use Rattle.history.proofs.Loans.{and-false-r, closedNumber, member-filter, end-listed, open-numbers, request-loan}
 use Rattle.history.proofs.LoansClose.{row-left, stands-left, closed-now}
-use Rattle.history.proofs.Vanish.{Revoked, revoked}
+use Rattle.history.proofs.Vanish.{revoked}
 
 -- ---- the oldest of the requests that pass a test and list e
 module _ (f : Request → Bool) (e : ℕ) where
@@ -175,21 +175,29 @@ module _ (h h′ : History) (st : State) (g : List ℕ) (f : Request → Bool) (
   unfolding returned placedIn
   returned-place r n z = ap (λ k. (let w = oldestListing f k (st .requests) in if some (w .number) then placedIn (inClist (w .asker)) r else r) .place) n ∙ rw z refl
 
+  -- the oldest of them in the tables is the oldest in the history
+  oldest : (q : ℕ) → ClosedWith h h′ e q → ((v : ℕ) → ClosedWith h h′ e v → q ≤ v) → (some (oldestListing f e (st .requests) .number) ≡ true) × (oldestListing f e (st .requests) ≡ requestOf (st .requests) q)
+  oldest q c least =
+      let k = closed-in q c in
+      let (is, le) = oldest-least f e (st .requests) rise q (k .there) (k .passes) in
+      let o : Oldest f e (st .requests) (oldestListing f e (st .requests)) = oldest-is f e (st .requests) rise is in
+      let ge : q ≤ oldestListing f e (st .requests) .number = least _ (closed-out _ (record { there = o .there; isEnd′ = k .isEnd′; passes = ap (takes f e) (o .found) ∙ o .passes })) in
+      (is, sym (o .found) ∙ ap (requestOf (st .requests)) (omega arith))
+
+  lender-is : (q : ℕ) → member q (map (λ v. v .number) (st .requests)) ≡ true → requestOf (st .requests) q .asker ≡ loanOf (h .requests) q .lender
+  unfolding ofRequest ofLoan
+  lender-is q t = ap (λ o. o .asker) (request-loan h st i q t)
+
   placed : (q : ℕ) → stands h′ e ≡ true → ClosedWith h h′ e q → ((v : ℕ) → ClosedWith h h′ e v → q ≤ v) → rowOf (settled g f st .rows) e .place ≡ inClist (loanOf (h .requests) q .lender)
   unfolding settled
   placed q up c least =
-      let w = oldestListing f e (st .requests) in
       let both : member e (numbers (st .rows)) && not (member e g) ≡ true = sym (stands-left h h′ st g f i s i′ asked e) ∙ up in
-      let k = closed-in q c in
-      let (is, le) = oldest-least f e (st .requests) rise q (k .there) (k .passes) in
-      let o : Oldest f e (st .requests) w = oldest-is f e (st .requests) rise is in
-      let ge : q ≤ w .number = least (w .number) (closed-out (w .number) (record { there = o .there; isEnd′ = k .isEnd′; passes = ap (takes f e) (o .found) ∙ o .passes })) in
-      let same : w .number ≡ q = omega arith in
-      let number : rowOf (st .rows) e .number ≡ e = row-number st s e (and-l (member e (numbers (st .rows))) _ both) in
-      ap (λ r. r .place) (row-left f (st .requests) g (st .rows) e (not-t (member e g) (and-r (member e (numbers (st .rows))) _ both)))
-      ∙ returned-place (rowOf (st .rows) e) number is
-      ∙ ap (λ v. inClist (v .asker)) (sym (o .found) ∙ ap (requestOf (st .requests)) same)
-      ∙ ap inClist (unfold ofRequest ofLoan in ap (λ o. o .asker) (request-loan h st i q (k .there)))
+      let t : member e (numbers (st .rows)) ≡ true = and-l (member e (numbers (st .rows))) (not (member e g)) both in
+      let out : member e g ≡ false = not-t (member e g) (and-r (member e (numbers (st .rows))) (not (member e g)) both) in
+      let (is, same) = oldest q c least in
+      ap (λ r. r .place) (row-left f (st .requests) g (st .rows) e out)
+      ∙ returned-place (rowOf (st .rows) e) (row-number st s e t) is
+      ∙ ap inClist (ap (λ v. v .asker) same ∙ lender-is q (closed-in q c .there))
 
 -- ---- the theorem
 pub revoke-returned : (h : History) (st : State) → Inv h st → Lends h st → Sound st → (p q : ℕ) → doRevoke st p q .answer ≡ Done → Returned h (noteAnswer h (Revoke p q) Done) (doRevoke st p q .after)

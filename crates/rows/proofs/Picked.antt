@@ -1,12 +1,12 @@
 -- Keyed lists whose keys rise: each element is found by its key, also among those that a test picks.
 use Prim.Native.Nat.{ℕ}
-use mathlib.Core.Bool.{Bool, true, false, not, cond, _&&_, _||_}
+use mathlib.Core.Bool.{Bool, true, false, cond, _&&_, _||_}
 use mathlib.Core.List.{List, [], _∷_, map}
 use mathlib.Core.Path.{_≡_, refl, sym, ap, _∙_}
 use lib.Dec.{eqb}
 use borrow.Author.Tests.{eqb-true, ne-eqb}
 use Rattle.rows.specs.Lists.{filter, all, firstWith, rises, member}
-use Rattle.rows.proofs.Bools.{false-of, clash, and-l, and-i, or-r, or-map, eqb-sym-f, eqb-sym, eqb-self, member-here, member-there}
+use Rattle.rows.proofs.Bools.{false-of, clash, and-i, or-r, or-map, eqb-sym-f, eqb-sym, eqb-self, member-here, member-there}
 use Rattle.rows.proofs.Keyed.{rises-rest, rises-fresh}
 
 module _ {A : Type 0} (key : A → ℕ) where
