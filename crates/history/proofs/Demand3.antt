@@ -1,7 +1,7 @@
 -- Demand 3: the history of the text, the lines and their answers tells the tables after every list of lines.
 use Prim.Native.Nat.{ℕ, _<_}
 use native.Mathlib.Omega.{arith}
-use mathlib.Core.Bool.{Bool, true, false, cond, _&&_, _||_}
+use mathlib.Core.Bool.{Bool, true, false, not, cond, _||_}
 use mathlib.Core.List.{List, [], _∷_}
 use mathlib.Core.Path.{_≡_, refl, sym, ap, _∙_, subst}
 use mathlib.Core.Logic.{_↔_}
@@ -19,6 +19,7 @@ use Rattle.closing.specs.Closing.{closeRequest}
 use Rattle.calls.specs.declared.Call.{Call}
 use Rattle.calls.specs.declared.Call.the-variants.{Go, Hold, Register, Drop, Port, Close, Ask, Fetch, Reply, Refuse, Revoke, Comes}
 use Rattle.calls.specs.declared.Answer.the-variants.{Done, Refused}
+use Rattle.calls.specs.Answers.{refusalOf}
 use Rattle.calls.specs.Rules.{Out, refusedIf}
 use Rattle.calls.specs.Calls.{callerOf, done, doRevoke, perform}
 use Rattle.text.specs.declared.Reading.{Reading}
@@ -33,7 +34,7 @@ use Rattle.text.specs.Opening.{linesOf}
 use Rattle.history.specs.Notes.{History, notedOf, stands}
 use Rattle.history.specs.Reading.{begun, accepts, noteLine, historyAfter}
 use Rattle.history.specs.Chains.{IsPort, Gone, aPort}
-use Rattle.history.specs.Demand3.{lentAfter, repliesTo, stateIn, InTables, TwoEnds, Holds, Revoked, Demand3}
+use Rattle.history.specs.Demand3.{lentAfter, repliesTo, stateIn, InTables, Holds, Vanished, Returned, Revoked, Demand3}
 use Rattle.history.proofs.Inv.{Inv, Lends, view, noteAnswer}
 use Rattle.history.proofs.Find.{in-tables, row-noted}
 use Rattle.history.proofs.Standing.{stands-chains, port-open, request-closed}
@@ -166,24 +167,52 @@ unfolding stateIn replyWith
 state-in w reply st s e = ap (λ x. stateOf (x .tables) (x .processes)) e ∙ state-words st s
 
 -- ---- 3
+not-refused : (k : ℕ) → 0 < k → accepts (printed (Refused k)) ≡ true → ⊥
+unfolding refusalOf
+not-refused k h e = clash e (read-refused (Refused k) h)
+
 -- a revoke that is accepted answers Done
-accepted-revoke : (st : State) (p q : ℕ) → accepts (printed (answered st (Asks (Revoke p q)) .answer)) ≡ true → (doRevoke st p q .answer ≡ Done) × (answered st (Asks (Revoke p q)) ≡ doRevoke st p q)
-unfolding answered perform
-accepted-revoke st p q a = listed (callerUnlisted st (Revoke p q)) a
+owned : (st : State) (p q : ℕ) → accepts (printed (doRevoke st p q .answer)) ≡ true → doRevoke st p q .answer ≡ Done
+unfolding doRevoke refusedIf done
+owned st p q a = pick (eqb (requestOf (st .requests) q .number) 0 || not (eqb (requestOf (st .requests) q .asker) p)) a
   where
-    no : (k : ℕ) → 0 < k → accepts (printed (Refused k)) ≡ true → ⊥
-    no k h e = clash e (read-refused (Refused k) (unfold Rattle.calls.specs.Answers.refusalOf in h))
+    turned : Out
+    turned = record { answer = Refused 7; after = st }
 
-    owned : (b : Bool) → accepts (printed (refusedIf st b 7 (done (closeRequest q st)) .answer)) ≡ true → refusedIf st b 7 (done (closeRequest q st)) .answer ≡ Done
-    owned true e = absurd (no 7 (omega arith) (unfold refusedIf in e))
-    owned false e = unfold refusedIf done in refl
+    taken : Out
+    taken = record { answer = Done; after = closeRequest q st }
 
-    listed : (b : Bool) → accepts (printed (refusedIf st b 5 (doRevoke st p q) .answer)) ≡ true → (doRevoke st p q .answer ≡ Done) × (refusedIf st b 5 (doRevoke st p q) ≡ doRevoke st p q)
-    listed true e = absurd (no 5 (omega arith) (unfold refusedIf in e))
-    listed false e = (unfold refusedIf doRevoke in (owned _ e), unfold refusedIf in refl)
+    pick : (b : Bool) → accepts (printed (cond b turned taken .answer)) ≡ true → cond b turned taken .answer ≡ Done
+    pick true e = absurd (not-refused 7 (omega arith) e)
+    pick false e = refl
+
+accepted-revoke : (st : State) (p q : ℕ) → accepts (printed (answered st (Asks (Revoke p q)) .answer)) ≡ true → answered st (Asks (Revoke p q)) ≡ doRevoke st p q
+unfolding answered perform refusedIf
+accepted-revoke st p q a = pick (callerUnlisted st (Revoke p q)) a
+  where
+    pick : (b : Bool) → accepts (printed (cond b (record { answer = Refused 5; after = st }) (doRevoke st p q) .answer)) ≡ true → cond b (record { answer = Refused 5; after = st }) (doRevoke st p q) ≡ doRevoke st p q
+    pick true e = absurd (not-refused 5 (omega arith) e)
+    pick false e = refl
 
 revoked : (h : History) (w : Replied) → Along h w → (line : List ℕ) (p q : ℕ) → readingOf line ≡ Asks (Revoke p q) → accepts (callEntry (w .tables) (w .processes) line .reply) ≡ true → Revoked h w line q
-revoked h w a line p q e acc = ?
+unfolding Revoked callOn replyWith
+revoked h w a line p q e acc =
+    let st = a .st in
+    let s = a .sound in
+    let o = doRevoke st p q in
+    let w′ = callEntry (w .tables) (w .processes) line in
+    let called : w′ ≡ replyWith (printed (callOn st line .answer)) (callOn st line .after) = ap (λ x. callEntry (x .tables) (x .processes) line) (a .is) ∙ call-on-words (a .reply) st s line in
+    let read : callOn st line ≡ answered st (Asks (Revoke p q)) = ap (answered st) e in
+    let acc′ : accepts (printed (answered st (Asks (Revoke p q)) .answer)) ≡ true = sym (ap (λ x. accepts (x .reply)) called ∙ ap (λ x. accepts (printed (x .answer))) read) ∙ acc in
+    let is : callOn st line ≡ o = read ∙ accepted-revoke st p q acc′ in
+    let fin : o .answer ≡ Done = owned st p q (sym (ap (λ x. accepts (printed (x .answer))) (accepted-revoke st p q acc′)) ∙ acc′) in
+    let before : stateIn w ≡ st = state-in w (a .reply) st s (a .is) in
+    let after : stateIn w′ ≡ o .after = state-in w′ _ (callOn st line .after) (call-kept st s line) called ∙ ap (λ x. x .after) is in
+    let noted : noteLine h line (w′ .reply) ≡ noteAnswer h (Revoke p q) Done =
+    ap (λ x. noteLine h line (x .reply)) called ∙ note-asked h line (Revoke p q) st (callOn st line) e (call-spoken st s line) ∙ ap (λ x. noteAnswer h (Revoke p q) (x .answer)) is ∙ ap (noteAnswer h (Revoke p q)) fin in (
+      subst (λ x. Vanished h x (stateIn w′) q) (sym before) (subst (λ x. Vanished h st x q) (sym after) (revoke-vanished h st (a .inv) s p q fin)),
+      subst (λ x. Returned h x (stateIn w′)) (sym noted) (subst (λ x. Returned h (noteAnswer h (Revoke p q) Done) x) (sym after) (revoke-returned h st (a .inv) (a .lends) s p q fin)),
+    )
 
 pub demand3 : Demand3
 unfolding Demand3
