@@ -45,17 +45,18 @@ closed q s = isClosed (s .history) (loanOf (s .history .requests) q)
 unfoldable pub isWith : ℕ → ℕ → Seen → Bool
 isWith e p s = eqb (rowOf (s .state .rows) e .place) (inClist p)
 
--- ---- an end lent twice goes back to the first lender: 1 lends the ends 7 and 5 to 2 by request 9, and 2 lends 7 over port 5 by request 10
+-- ---- an end lent twice goes back to the first lender: 1 lends the end 7 and the operation 6 to 2 by request 9; 2 makes port 11 from the copy 10
+-- and lends 7 on over it by request 13. The revoke of 9 closes both.
 unfoldable pub lentTwice : Seen
 lentTwice =
-    seen "(node 1 (op 2 1 7))\n(process 1 1)\n(process 2 1)\n(open)\n(1 hold 1)\n(1 port 2)\n(1 port 2)\n(1 port 2)\n(1 ask 3 (7 0) (5 0))\n(2 fetch 4)\n(2 ask 5 (7 0))\n"
+    seen "(node 1 (op 2 1 7) (op 3 1 7))\n(process 1 1)\n(process 2 1)\n(process 3 1)\n(open)\n(1 hold 1)\n(1 port 3)\n(1 hold 2)\n(1 port 6)\n(1 ask 4 (7 0) (6 3))\n(2 fetch 5)\n(2 port 10)\n(2 ask 11 (7 0))\n"
 
 unfoldable pub lentTwiceRevoked : Seen
 lentTwiceRevoked = afterLines lentTwice (bytes "(1 revoke 9)\n" ∷ [])
 
 pub goes-back-to-first-lender :
-    T (all (λ test. test lentTwice) (hasOnLoan 9 7 ∷ hasOnLoan 10 7 ∷ hasOnLoan 9 5 ∷ (λ s. not (closed 9 s)) ∷ [])
-    && all (λ test. test lentTwiceRevoked) (closed 9 ∷ (λ s. not (closed 10 s)) ∷ (λ s. stands (s .history) 7) ∷ isWith 7 1 ∷ isWith 5 1 ∷ (λ s. not (hasOnLoan 10 7 s)) ∷ []))
+    T (all (λ test. test lentTwice) (hasOnLoan 9 7 ∷ hasOnLoan 13 7 ∷ (λ s. not (closed 9 s)) ∷ (λ s. not (closed 13 s)) ∷ [])
+    && all (λ test. test lentTwiceRevoked) (closed 9 ∷ closed 13 ∷ (λ s. stands (s .history) 7) ∷ isWith 7 1 ∷ (λ s. not (hasOnLoan 9 7 s)) ∷ (λ s. not (hasOnLoan 13 7 s)) ∷ []))
 unfolding seen afterLines afterOpening inTables hasOnLoan closed isWith lentTwice lentTwiceRevoked Rattle.rows.specs.Computes.computes Rattle.closing.specs.Computes.computes Rattle.calls.specs.Computes.computes Rattle.text.specs.Computes.computes Rattle.history.specs.Computes.computes
 goes-back-to-first-lender = tt
 
