@@ -42,3 +42,6 @@ pub enum Found {
     At(usize),
     Nothing,
 }
+
+// ---- functions
+pub mod layout;
