@@ -7,6 +7,8 @@ pub mod Keyed
 pub mod Sound
 -- words in padded columns: lengths, and what stands where
 pub mod LayoutColumns
+-- searches of a column, and the slot of what they find
+pub mod Searches
 -- each source of a sound row is 0 or an older row's number
 pub mod RowSources
 -- rows read back from the words in which they lie

@@ -44,4 +44,5 @@ pub enum Found {
 }
 
 // ---- functions
+pub mod find;
 pub mod layout;
