@@ -17,9 +17,19 @@ pub mod LayoutRows
 pub mod LayoutRequests
 -- a sound state and the words in which it lies
 pub mod LayoutWords
+-- slots over any key: where an element stands
+pub mod KeySlots
+-- the words in which a state lies
+pub mod LiesWords
+-- the words of a request's slot
+pub mod RequestSlots
+-- slots of rows, requests and sources, and what the words of a slot are
+pub mod Slots
 -- functions that agree on the elements of a list; the keys that a test keeps
 pub mod Agree
 -- what is marked is the least set closed under "a source is marked"
 pub mod Marking
 -- standing rows of sound tables: shapes, sources, rights; rows in nodes stay
 pub mod Standing
+-- what the searches find where a state lies in the words
+pub mod Lookups

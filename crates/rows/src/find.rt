@@ -2,6 +2,7 @@
 use crate::Found;
 use crate::layout::KIND;
 use crate::layout::NUMBER;
+use crate::layout::Q_ASKER;
 use crate::layout::Q_NUMBER;
 use crate::layout::Q_PORT;
 ghost use mathlib.Core.Path.{_≡_};
@@ -87,4 +88,37 @@ pub fn requests_in(t: &[u32]) -> usize
     ensures within { λ r. ⌜ r ≤ 128 ⌝ }
 {
     leading_in(&t[Q_NUMBER..Q_PORT])
+}
+
+// The slot of the row numbered n.
+// Ruled out: the slot of another row; a slot for a number that no row has, 0 too.
+pub fn row_slot(t: &[u32], n: u32) -> Found
+    requires { ⌜ length (now t) ≡ 11265 ⌝ }
+    ensures within { λ r. ⌜ Within (rowsIn (now (t .entry))) r ⌝ }
+    ensures found { λ r. ⌜ ((st : State) → Lies st (now (t .entry)) → r ≡ foundSlot (rowSlot (st .rows) n)) ⌝ }
+{
+    let count = rows_in(t);
+    search(&t[NUMBER..KIND], count, n)
+}
+
+// The slot of the request numbered q.
+// Ruled out: the slot of another request; one past the requests in use.
+pub fn request_slot(t: &[u32], q: u32) -> Found
+    requires { ⌜ length (now t) ≡ 11265 ⌝ }
+    ensures within { λ r. ⌜ Within (requestsIn (now (t .entry))) r ⌝ }
+    ensures found { λ r. ⌜ ((st : State) → Lies st (now (t .entry)) → r ≡ foundSlot (requestSlot (st .requests) q)) ⌝ }
+{
+    let count = requests_in(t);
+    search(&t[Q_NUMBER..Q_PORT], count, q)
+}
+
+// The slot of the newest request on the port whose client end is c.
+// Ruled out: an older request on that port; nothing where one is open.
+pub fn open_on(t: &[u32], c: u32) -> Found
+    requires { ⌜ length (now t) ≡ 11265 ⌝ }
+    ensures within { λ r. ⌜ Within (requestsIn (now (t .entry))) r ⌝ }
+    ensures found { λ r. ⌜ ((st : State) → Lies st (now (t .entry)) → r ≡ foundSlot (openSlot (st .requests) c)) ⌝ }
+{
+    let count = requests_in(t);
+    search_back(&t[Q_PORT..Q_ASKER], count, c)
 }
