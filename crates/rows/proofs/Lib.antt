@@ -7,6 +7,8 @@ pub mod Keyed
 pub mod Sound
 -- words in padded columns: lengths, and what stands where
 pub mod LayoutColumns
+-- searches of a column, and the slot of what they find
+pub mod Searches
 -- each source of a sound row is 0 or an older row's number
 pub mod RowSources
 -- rows read back from the words in which they lie
@@ -15,6 +17,14 @@ pub mod LayoutRows
 pub mod LayoutRequests
 -- a sound state and the words in which it lies
 pub mod LayoutWords
+-- slots over any key: where an element stands
+pub mod KeySlots
+-- the words in which a state lies
+pub mod LiesWords
+-- the words of a request's slot
+pub mod RequestSlots
+-- slots of rows, requests and sources, and what the words of a slot are
+pub mod Slots
 -- functions that agree on the elements of a list; the keys that a test keeps
 pub mod Agree
 -- what is marked is the least set closed under "a source is marked"
@@ -23,3 +33,5 @@ pub mod Marking
 pub mod Standing
 -- keys that rise: each element is found by its key, also among those that a test picks
 pub mod Picked
+-- what the searches find where a state lies in the words
+pub mod Lookups

@@ -1,0 +1,149 @@
+-- Searches of a column: by halves over numbers that rise, and from the last word back. What is found is the slot of the element.
+use Prim.Native.Nat.{ℕ, zero, suc, _+_, _-_, _<_, _≤_, zero-le, suc-le-suc}
+use mathlib.Core.Bool.{Bool, true, false, cond}
+use mathlib.Core.List.{List, [], _∷_, _++_, append-assoc, map}
+use mathlib.Core.Path.{_≡_, refl, ap, sym, subst, _∙_}
+use mathlib.Core.Logic.{_⊎_, inl, inr, ⊎-elim}
+use native.Mathlib.Nat.{eq-or-lt-of-le, le-of-suc-le-suc}
+use native.Mathlib.Decide.{decLt}
+use native.Mathlib.Omega.{arith}
+use borrow.Author.Tests.{eqb-true, eqb-false}
+use borrow.Author.Count.{below-more}
+use lib.Dec.{eqb}
+use lib.ListN.{length, getD, take, drop, length-append}
+use lib.Seq.{getD-take, getD-drop}
+use Rattle.rows.specs.declared.Found.{Found}
+use Rattle.rows.specs.declared.Found.the-variants.{At, Nothing}
+use Rattle.rows.specs.Lists.{rises, member, some}
+use Rattle.rows.specs.Layout.{leading}
+use Rattle.rows.specs.Lies.{Within, foundSlot, slotWith}
+use Rattle.rows.specs.Searches.{Ups, Placed}
+use Rattle.rows.proofs.Bools.{pos-some, member-here, member-there}
+use Rattle.rows.proofs.Keyed.{rises-rest, rises-older}
+
+lt-or-ge : (a b : ℕ) → (a < b) ⊎ (b ≤ a)
+lt-or-ge a b = elim (decLt a b) [ yes h ↦ inl h | no h ↦ inr (omega arith) ]
+
+module _ (l : List ℕ) (k n : ℕ) where
+  -- ---- by halves: what is before lo is less, and what is from hi on is more
+  pub record Bracket (lo hi : ℕ) : Type 0 where
+    pub below : (j : ℕ) → j < lo → getD l j 0 < n
+    pub above : (j : ℕ) → hi ≤ j → j < k → n < getD l j 0
+
+  pub bracket : Bracket 0 k
+  bracket = record { below = λ j h. absurd (omega arith); above = λ j h g. absurd (omega arith) }
+
+  pub half-up : Ups k l → (lo hi mid : ℕ) → mid < k → getD l mid 0 < n → Bracket lo hi → Bracket (mid + 1) hi
+  unfolding Ups
+  half-up u lo hi mid h x b =
+      record { below = below-more (λ j. getD l j 0 < n) mid (λ j j<. let y : getD l j 0 < getD l mid 0 = u j mid j< h in omega arith) x; above = b .above }
+
+  pub half-down : Ups k l → (lo hi mid : ℕ) → n < getD l mid 0 → Bracket lo hi → Bracket lo mid
+  unfolding Ups
+  half-down u lo hi mid x b =
+      record {
+        below = b .below;
+        above =
+            λ j m≤j j<k.
+            ⊎-elim (λ e. rw (← e) x) (λ lt. let y : getD l mid 0 < getD l j 0 = u mid j lt j<k in omega arith) (eq-or-lt-of-le m≤j);
+      }
+
+  pub half-hit : Ups k l → (mid : ℕ) → mid < k → getD l mid 0 ≡ n → Placed l k n (At mid)
+  unfolding Ups Placed
+  half-hit u mid h e = (h, e, (λ j lt g d. let y : getD l mid 0 < getD l j 0 = u mid j lt g in omega arith))
+
+  pub half-none : (lo hi : ℕ) → hi ≤ lo → Bracket lo hi → Placed l k n Nothing
+  unfolding Placed
+  half-none lo hi h b =
+      λ j j<k e.
+      ⊎-elim (λ lt. let y : getD l j 0 < n = b .below j lt in omega arith) (λ ge. let y : n < getD l j 0 = b .above j (omega arith) j<k in omega arith) (lt-or-ge j lo)
+
+  -- ---- from the last word back: n is none of the words from i on
+  abbrev pub FreeFrom : ℕ → Type 0
+  FreeFrom i = (j : ℕ) → i ≤ j → j < k → getD l j 0 ≡ n → ⊥
+
+  pub back-more : (i : ℕ) → 0 < i → FreeFrom i → (getD l (i - 1) 0 ≡ n → ⊥) → FreeFrom (i - 1)
+  back-more i h free x j g j<k e = ⊎-elim (λ d. x (rw d e)) (λ lt. free j (omega arith) j<k e) (eq-or-lt-of-le g)
+
+  pub back-hit : (i : ℕ) → 0 < i → i ≤ k → FreeFrom i → getD l (i - 1) 0 ≡ n → Placed l k n (At (i - 1))
+  unfolding Placed
+  back-hit i h g free e = (omega arith, e, (λ j lt. free j (omega arith)))
+
+  pub back-none : (i : ℕ) → i ≤ 0 → FreeFrom i → Placed l k n Nothing
+  unfolding Placed
+  back-none i h free = λ j. free j (omega arith)
+
+-- ---- the words before the first 0
+pub leading-is : (l : List ℕ) (i : ℕ) → ((j : ℕ) → j < i → getD l j 0 ≡ 0 → ⊥) → getD l i 0 ≡ 0 → leading l ≡ i
+unfolding leading some
+leading-is [] zero h e = refl
+leading-is [] (suc i) h e = absurd (h 0 (omega arith) refl)
+leading-is (w ∷ l) zero h e = rw e refl
+leading-is (w ∷ l) (suc i) h e =
+    let x : w ≡ 0 → ⊥ = h 0 (omega arith) in
+    rw (pos-some w (pos w x)) (ap suc (leading-is l i (λ j g. h (suc j) (suc-le-suc g)) e))
+  where
+    pos : (m : ℕ) → (m ≡ 0 → ⊥) → 0 < m
+    pos m x = omega arith
+
+pub leading-le : (l : List ℕ) → leading l ≤ length l
+unfolding leading
+leading-le [] = zero-le
+leading-le (w ∷ l) = pick (leading-le l) (some w)
+  where
+    pick : leading l ≤ length l → (b : Bool) → cond b (suc (leading l)) 0 ≤ suc (length l)
+    pick h true = suc-le-suc h
+    pick h false = zero-le
+
+-- ---- what is found is the slot of the element with that key
+module _ {A : Type 0} (key : A → ℕ) where
+  -- the first words of l are the keys of the elements, the oldest first
+  abbrev pub Keys : List ℕ → List A → Type 0
+  Keys l [] = Unit {0}
+  Keys l (x ∷ xs) = (getD l (length xs) 0 ≡ key x) × Keys l xs
+
+  pub placed-slot : (l : List ℕ) (n : ℕ) (xs : List A) (r : Found) → Keys l xs → Placed l (length xs) n r → r ≡ foundSlot (slotWith key xs n)
+  unfolding Placed foundSlot slotWith
+  placed-slot l n [] (At i) ks p = absurd (omega (arith, p .0))
+  placed-slot l n [] Nothing ks p = refl
+  placed-slot l n (x ∷ xs) (At i) ks p = pick (placed-slot l n xs (At i) (ks .1)) (eqb (key x) n) refl
+    where
+      pick : (Placed l (length xs) n (At i) → At i ≡ foundSlot (slotWith key xs n)) → (b : Bool) → eqb (key x) n ≡ b → At i ≡ foundSlot (cond b (suc (length xs)) (slotWith key xs n))
+      pick ih true q =
+          ⊎-elim (λ e. ap At e) (λ lt. absurd (p .2 (length xs) lt (omega arith) (ks .0 ∙ eqb-true (key x) n q))) (eq-or-lt-of-le (le-of-suc-le-suc (p .0)))
+      pick ih false q =
+          ⊎-elim (λ e. absurd (eqb-false (key x) n q (sym (ks .0) ∙ ap (λ (j : ℕ). getD l j 0) (sym e) ∙ p .1)))
+          (λ lt. ih (lt, p .1, (λ j g h. p .2 j g (omega arith)))) (eq-or-lt-of-le (le-of-suc-le-suc (p .0)))
+  placed-slot l n (x ∷ xs) Nothing ks p = pick (placed-slot l n xs Nothing (ks .1)) (eqb (key x) n) refl
+    where
+      pick : (Placed l (length xs) n Nothing → Nothing ≡ foundSlot (slotWith key xs n)) → (b : Bool) → eqb (key x) n ≡ b → Nothing ≡ foundSlot (cond b (suc (length xs)) (slotWith key xs n))
+      pick ih true q = absurd (p (length xs) (omega arith) (ks .0 ∙ eqb-true (key x) n q))
+      pick ih false q = ih (λ j h. p j (omega arith))
+
+  -- each of these words is a key
+  keys-member : (l : List ℕ) (xs : List A) → Keys l xs → (i : ℕ) → i < length xs → member (getD l i 0) (map key xs) ≡ true
+  keys-member l [] ks i h = absurd (omega arith)
+  keys-member l (x ∷ xs) ks i h =
+      ⊎-elim
+      (λ e. subst (λ (n : ℕ). member n (key x ∷ map key xs) ≡ true) (sym (ap (λ (j : ℕ). getD l j 0) e ∙ ks .0)) (member-here (key x) (map key xs)))
+      (λ lt. member-there (getD l i 0) (key x) (map key xs) (keys-member l xs (ks .1) i lt)) (eq-or-lt-of-le (le-of-suc-le-suc h))
+
+  pub keys-rise : (l : List ℕ) (xs : List A) → Keys l xs → rises key xs ≡ true → Ups (length xs) l
+  unfolding Ups
+  keys-rise l [] ks up = λ i j lt h. absurd (omega arith)
+  keys-rise l (x ∷ xs) ks up =
+      λ i j lt h.
+      ⊎-elim
+      (λ e. let d : getD l j 0 ≡ key x = ap (λ (k : ℕ). getD l k 0) e ∙ ks .0 in omega (arith, rises-older key x xs up (getD l i 0) (keys-member l xs (ks .1) i (omega arith))))
+      (λ g. keys-rise l xs (ks .1) (rises-rest key x xs up) i j lt g) (eq-or-lt-of-le (le-of-suc-le-suc h))
+
+  -- the keys in a part of the words, known where each stands
+  pub keys-part : (t : List ℕ) (a k : ℕ) (xs : List A) → length xs ≤ k → ((new : List A) (x : A) (old : List A) → xs ≡ new ++ (x ∷ old) → getD t (a + length old) 0 ≡ key x) → Keys (take k (drop a t)) xs
+  keys-part t a k xs few at = along [] xs refl
+    where
+      along : (new old : List A) → xs ≡ new ++ old → Keys (take k (drop a t)) old
+      along new [] e = tt
+      along new (x ∷ old) e = (
+        getD-take k (drop a t) (length old) 0 (omega (arith, ap length e, length-append new (x ∷ old))) ∙ getD-drop a t (length old) 0 ∙ at new x old e,
+        along (new ++ (x ∷ [])) old (e ∙ sym (append-assoc new (x ∷ []) old)),
+      )
