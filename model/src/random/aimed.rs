@@ -370,7 +370,12 @@ fn system_holds(rng: &mut Rng, t: &mut Tables) -> Option<()> {
         0 => row(rng, t, |r| r.place == Place::System)?.place = Place::CList(p),
         1 => row(rng, t, |r| matches!(r.place, Place::CList(_)))?.place = Place::System,
         _ => {
-            let altered = request(rng, t, |q| q.listed().next().is_some())?;
+            let before = t.clone();
+            let newest = |q: &Request| {
+                let mut listing = q.listed().filter_map(|i| newest_listing(&before, i));
+                listing.any(|other| other.number == q.number)
+            };
+            let altered = request(rng, t, newest)?;
             altered.fetched = 1 - altered.fetched;
         }
     }
