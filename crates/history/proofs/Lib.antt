@@ -63,3 +63,5 @@ pub mod Vanish
 pub mod Returns
 -- demand 3
 pub mod Demand3
+-- rows of nodes never vanish; rights of copies within
+pub mod Laws
