@@ -57,14 +57,14 @@ starred =
       opening = registry;
       opened = "(ok 0)";
       calls =
-        "(1 hold 1)" ⇒ "(ok 4)"
-        ∷ "(1 port 4)" ⇒ "(ok 5)"
-        ∷ "(1 ask 5 (4 3))" ⇒ "(ok 7)"
-        ∷ "(2 fetch 6)" ⇒ "(ok 7 8)"
-        ∷ "(2 port 8)" ⇒ "(ok 9)"
-        ∷ "(1 revoke 7)" ⇒ "(ok 0)"
-        ∷ "(2 ask 9)" ⇒ "(no 7)"
-        ∷ [];
+          "(1 hold 1)" ⇒ "(ok 4)"
+          ∷ "(1 port 4)" ⇒ "(ok 5)"
+          ∷ "(1 ask 5 (4 3))" ⇒ "(ok 7)"
+          ∷ "(2 fetch 6)" ⇒ "(ok 7 8)"
+          ∷ "(2 port 8)" ⇒ "(ok 9)"
+          ∷ "(1 revoke 7)" ⇒ "(ok 0)"
+          ∷ "(2 ask 9)" ⇒ "(no 7)"
+          ∷ [];
     }
     ∷ record {
       name = "rights 7 accepted";
@@ -89,96 +89,96 @@ starred =
       opening = loop;
       opened = "(ok 0)";
       calls =
-        "(1 hold 1)" ⇒ "(ok 2)"
-        ∷ "(1 go 2)" ⇒ "(ok 0)"
-        ∷ "(1 hold 1)" ⇒ "(ok 3)"
-        ∷ "(1 go 3)" ⇒ "(ok 0)"
-        ∷ "(1 hold 1)" ⇒ "(ok 4)"
-        ∷ "(1 go 4)" ⇒ "(ok 0)"
-        ∷ "(1 hold 1)" ⇒ "(ok 5)"
-        ∷ "(1 go 5)" ⇒ "(ok 0)"
-        ∷ "(1 hold 1)" ⇒ "(ok 6)"
-        ∷ "(1 go 6)" ⇒ "(ok 0)"
-        ∷ "(1 hold 1)" ⇒ "(ok 7)"
-        ∷ "(1 go 7)" ⇒ "(ok 0)"
-        ∷ "(1 hold 1)" ⇒ "(ok 8)"
-        ∷ "(1 go 8)" ⇒ "(ok 0)"
-        ∷ "(1 hold 1)" ⇒ "(ok 9)"
-        ∷ "(1 go 9)" ⇒ "(ok 0)"
-        ∷ "(1 hold 1)" ⇒ "(ok 10)"
-        ∷ "(1 go 10)" ⇒ "(ok 0)"
-        ∷ "(1 hold 1)" ⇒ "(ok 11)"
-        ∷ "(1 go 11)" ⇒ "(ok 0)"
-        ∷ "(1 hold 1)" ⇒ "(ok 12)"
-        ∷ "(1 go 12)" ⇒ "(ok 0)"
-        ∷ "(1 hold 1)" ⇒ "(no 15)"
-        ∷ [];
+          "(1 hold 1)" ⇒ "(ok 2)"
+          ∷ "(1 go 2)" ⇒ "(ok 0)"
+          ∷ "(1 hold 1)" ⇒ "(ok 3)"
+          ∷ "(1 go 3)" ⇒ "(ok 0)"
+          ∷ "(1 hold 1)" ⇒ "(ok 4)"
+          ∷ "(1 go 4)" ⇒ "(ok 0)"
+          ∷ "(1 hold 1)" ⇒ "(ok 5)"
+          ∷ "(1 go 5)" ⇒ "(ok 0)"
+          ∷ "(1 hold 1)" ⇒ "(ok 6)"
+          ∷ "(1 go 6)" ⇒ "(ok 0)"
+          ∷ "(1 hold 1)" ⇒ "(ok 7)"
+          ∷ "(1 go 7)" ⇒ "(ok 0)"
+          ∷ "(1 hold 1)" ⇒ "(ok 8)"
+          ∷ "(1 go 8)" ⇒ "(ok 0)"
+          ∷ "(1 hold 1)" ⇒ "(ok 9)"
+          ∷ "(1 go 9)" ⇒ "(ok 0)"
+          ∷ "(1 hold 1)" ⇒ "(ok 10)"
+          ∷ "(1 go 10)" ⇒ "(ok 0)"
+          ∷ "(1 hold 1)" ⇒ "(ok 11)"
+          ∷ "(1 go 11)" ⇒ "(ok 0)"
+          ∷ "(1 hold 1)" ⇒ "(ok 12)"
+          ∷ "(1 go 12)" ⇒ "(ok 0)"
+          ∷ "(1 hold 1)" ⇒ "(no 15)"
+          ∷ [];
     }
     ∷ record {
       name = "four items accepted, five give 6; one item twice gives 4; an empty ask accepted";
       opening = registry;
       opened = "(ok 0)";
       calls =
-        "(1 hold 1)" ⇒ "(ok 4)"
-        ∷ "(1 hold 1)" ⇒ "(ok 5)"
-        ∷ "(1 hold 1)" ⇒ "(ok 6)"
-        ∷ "(1 hold 1)" ⇒ "(ok 7)"
-        ∷ "(1 hold 1)" ⇒ "(ok 8)"
-        ∷ "(1 port 4)" ⇒ "(ok 9)"
-        ∷ "(1 ask 9 (4 7) (5 7) (6 7) (7 7) (8 7))" ⇒ "(no 6)"
-        ∷ "(1 ask 9 (4 7) (5 7) (4 3))" ⇒ "(no 4)"
-        ∷ "(1 ask 9 (4 7) (5 7) (6 7) (7 7))" ⇒ "(ok 11)"
-        ∷ "(2 fetch 10)" ⇒ "(ok 11 12 13 14 15)"
-        ∷ "(2 reply 10)" ⇒ "(ok 0)"
-        ∷ "(1 ask 9)" ⇒ "(ok 16)"
-        ∷ [];
+          "(1 hold 1)" ⇒ "(ok 4)"
+          ∷ "(1 hold 1)" ⇒ "(ok 5)"
+          ∷ "(1 hold 1)" ⇒ "(ok 6)"
+          ∷ "(1 hold 1)" ⇒ "(ok 7)"
+          ∷ "(1 hold 1)" ⇒ "(ok 8)"
+          ∷ "(1 port 4)" ⇒ "(ok 9)"
+          ∷ "(1 ask 9 (4 7) (5 7) (6 7) (7 7) (8 7))" ⇒ "(no 6)"
+          ∷ "(1 ask 9 (4 7) (5 7) (4 3))" ⇒ "(no 4)"
+          ∷ "(1 ask 9 (4 7) (5 7) (6 7) (7 7))" ⇒ "(ok 11)"
+          ∷ "(2 fetch 10)" ⇒ "(ok 11 12 13 14 15)"
+          ∷ "(2 reply 10)" ⇒ "(ok 0)"
+          ∷ "(1 ask 9)" ⇒ "(ok 16)"
+          ∷ [];
     }
     ∷ record {
       name = "revoke by another process gives 7; a second revoke gives 7";
       opening = registry;
       opened = "(ok 0)";
       calls =
-        "(1 hold 1)" ⇒ "(ok 4)"
-        ∷ "(1 port 4)" ⇒ "(ok 5)"
-        ∷ "(1 ask 5 (4 7))" ⇒ "(ok 7)"
-        ∷ "(2 revoke 7)" ⇒ "(no 7)"
-        ∷ "(1 revoke 7)" ⇒ "(ok 0)"
-        ∷ "(1 revoke 7)" ⇒ "(no 7)"
-        ∷ [];
+          "(1 hold 1)" ⇒ "(ok 4)"
+          ∷ "(1 port 4)" ⇒ "(ok 5)"
+          ∷ "(1 ask 5 (4 7))" ⇒ "(ok 7)"
+          ∷ "(2 revoke 7)" ⇒ "(no 7)"
+          ∷ "(1 revoke 7)" ⇒ "(ok 0)"
+          ∷ "(1 revoke 7)" ⇒ "(no 7)"
+          ∷ [];
     }
     ∷ record {
       name = "drop of a row with a copy out gives 13; without, it is accepted";
       opening = registry;
       opened = "(ok 0)";
       calls =
-        "(1 hold 1)" ⇒ "(ok 4)"
-        ∷ "(1 hold 1)" ⇒ "(ok 5)"
-        ∷ "(1 port 5)" ⇒ "(ok 6)"
-        ∷ "(1 ask 6 (4 7))" ⇒ "(ok 8)"
-        ∷ "(1 drop 4)" ⇒ "(no 13)"
-        ∷ "(1 revoke 8)" ⇒ "(ok 0)"
-        ∷ "(1 drop 4)" ⇒ "(ok 0)"
-        ∷ "(1 drop 4)" ⇒ "(no 7)"
-        ∷ [];
+          "(1 hold 1)" ⇒ "(ok 4)"
+          ∷ "(1 hold 1)" ⇒ "(ok 5)"
+          ∷ "(1 port 5)" ⇒ "(ok 6)"
+          ∷ "(1 ask 6 (4 7))" ⇒ "(ok 8)"
+          ∷ "(1 drop 4)" ⇒ "(no 13)"
+          ∷ "(1 revoke 8)" ⇒ "(ok 0)"
+          ∷ "(1 drop 4)" ⇒ "(ok 0)"
+          ∷ "(1 drop 4)" ⇒ "(no 7)"
+          ∷ [];
     }
     ∷ record {
       name = "reply while a lent end's port has an open request gives 10; afterwards it is accepted";
       opening = offices;
       opened = "(ok 0)";
       calls =
-        "(1 hold 1)" ⇒ "(ok 7)"
-        ∷ "(1 port 7)" ⇒ "(ok 8)"
-        ∷ "(1 hold 2)" ⇒ "(ok 10)"
-        ∷ "(1 port 10)" ⇒ "(ok 11)"
-        ∷ "(1 ask 8 (11 0))" ⇒ "(ok 13)"
-        ∷ "(2 fetch 9)" ⇒ "(ok 13 11)"
-        ∷ "(2 ask 11)" ⇒ "(ok 14)"
-        ∷ "(2 reply 9)" ⇒ "(no 10)"
-        ∷ "(3 fetch 12)" ⇒ "(ok 14)"
-        ∷ "(3 reply 12)" ⇒ "(ok 0)"
-        ∷ "(2 reply 9)" ⇒ "(ok 0)"
-        ∷ "(1 close 11)" ⇒ "(ok 0)"
-        ∷ [];
+          "(1 hold 1)" ⇒ "(ok 7)"
+          ∷ "(1 port 7)" ⇒ "(ok 8)"
+          ∷ "(1 hold 2)" ⇒ "(ok 10)"
+          ∷ "(1 port 10)" ⇒ "(ok 11)"
+          ∷ "(1 ask 8 (11 0))" ⇒ "(ok 13)"
+          ∷ "(2 fetch 9)" ⇒ "(ok 13 11)"
+          ∷ "(2 ask 11)" ⇒ "(ok 14)"
+          ∷ "(2 reply 9)" ⇒ "(no 10)"
+          ∷ "(3 fetch 12)" ⇒ "(ok 14)"
+          ∷ "(3 reply 12)" ⇒ "(ok 0)"
+          ∷ "(2 reply 9)" ⇒ "(ok 0)"
+          ∷ "(1 close 11)" ⇒ "(ok 0)"
+          ∷ [];
     }
     ∷ []
 
@@ -190,125 +190,125 @@ misreadings =
       opening = offices;
       opened = "(ok 0)";
       calls =
-        "(1 hold 1)" ⇒ "(ok 7)"
-        ∷ "(1 port 7)" ⇒ "(ok 8)"
-        ∷ "(1 hold 2)" ⇒ "(ok 10)"
-        ∷ "(1 port 10)" ⇒ "(ok 11)"
-        -- 1 lends the server end of its port 8 to 3; 1 lends its row 7 over port 8 to whoever serves it, 3
-        ∷ "(2 hold 4)" ⇒ "(ok 13)"
-        ∷ "(2 port 13)" ⇒ "(ok 14)"
-        ∷ "(2 ask 14 (9 0))" ⇒ "(ok 16)"
-        ∷ "(3 fetch 15)" ⇒ "(ok 16 9)"
-        ∷ "(1 ask 8 (7 3))" ⇒ "(ok 17)"
-        ∷ "(3 fetch 9)" ⇒ "(ok 17 18)"
-        ∷ "(comes 18 16)" ⇒ "(ok 0)"
-        ∷ "(2 revoke 16)" ⇒ "(ok 0)"
-        ∷ "(comes 18 17)" ⇒ "(ok 1)"
-        ∷ "(3 port 18)" ⇒ "(ok 19)"
-        ∷ "(3 fetch 9)" ⇒ "(no 7)"
-        ∷ "(2 reply 9)" ⇒ "(ok 0)"
-        ∷ "(3 ask 19)" ⇒ "(no 7)"
-        ∷ [];
+          "(1 hold 1)" ⇒ "(ok 7)"
+          ∷ "(1 port 7)" ⇒ "(ok 8)"
+          ∷ "(1 hold 2)" ⇒ "(ok 10)"
+          ∷ "(1 port 10)" ⇒ "(ok 11)"
+          -- 1 lends the server end of its port 8 to 3; 1 lends its row 7 over port 8 to whoever serves it, 3
+          ∷ "(2 hold 4)" ⇒ "(ok 13)"
+          ∷ "(2 port 13)" ⇒ "(ok 14)"
+          ∷ "(2 ask 14 (9 0))" ⇒ "(ok 16)"
+          ∷ "(3 fetch 15)" ⇒ "(ok 16 9)"
+          ∷ "(1 ask 8 (7 3))" ⇒ "(ok 17)"
+          ∷ "(3 fetch 9)" ⇒ "(ok 17 18)"
+          ∷ "(comes 18 16)" ⇒ "(ok 0)"
+          ∷ "(2 revoke 16)" ⇒ "(ok 0)"
+          ∷ "(comes 18 17)" ⇒ "(ok 1)"
+          ∷ "(3 port 18)" ⇒ "(ok 19)"
+          ∷ "(3 fetch 9)" ⇒ "(no 7)"
+          ∷ "(2 reply 9)" ⇒ "(ok 0)"
+          ∷ "(3 ask 19)" ⇒ "(no 7)"
+          ∷ [];
     }
     ∷ record {
       name = "an end lent twice goes back to its first lender when the first loan is closed";
       opening = offices;
       opened = "(ok 0)";
       calls =
-        "(1 hold 1)" ⇒ "(ok 7)"
-        ∷ "(1 port 7)" ⇒ "(ok 8)"
-        ∷ "(1 hold 2)" ⇒ "(ok 10)"
-        ∷ "(1 port 10)" ⇒ "(ok 11)"
-        ∷ "(2 hold 4)" ⇒ "(ok 13)"
-        ∷ "(2 port 13)" ⇒ "(ok 14)"
-        -- 1 lends the client end 11 to 2, and 2 lends it to 3
-        ∷ "(1 ask 8 (11 0))" ⇒ "(ok 16)"
-        ∷ "(2 fetch 9)" ⇒ "(ok 16 11)"
-        ∷ "(2 ask 14 (11 0))" ⇒ "(ok 17)"
-        ∷ "(3 fetch 15)" ⇒ "(ok 17 11)"
-        ∷ "(1 close 11)" ⇒ "(no 7)"
-        ∷ "(1 revoke 16)" ⇒ "(ok 0)"
-        ∷ "(2 ask 11)" ⇒ "(no 7)"
-        ∷ "(3 ask 11)" ⇒ "(no 7)"
-        ∷ "(1 ask 11)" ⇒ "(ok 18)"
-        ∷ "(3 reply 15)" ⇒ "(ok 0)"
-        ∷ "(1 close 11)" ⇒ "(ok 0)"
-        ∷ [];
+          "(1 hold 1)" ⇒ "(ok 7)"
+          ∷ "(1 port 7)" ⇒ "(ok 8)"
+          ∷ "(1 hold 2)" ⇒ "(ok 10)"
+          ∷ "(1 port 10)" ⇒ "(ok 11)"
+          ∷ "(2 hold 4)" ⇒ "(ok 13)"
+          ∷ "(2 port 13)" ⇒ "(ok 14)"
+          -- 1 lends the client end 11 to 2, and 2 lends it to 3
+          ∷ "(1 ask 8 (11 0))" ⇒ "(ok 16)"
+          ∷ "(2 fetch 9)" ⇒ "(ok 16 11)"
+          ∷ "(2 ask 14 (11 0))" ⇒ "(ok 17)"
+          ∷ "(3 fetch 15)" ⇒ "(ok 17 11)"
+          ∷ "(1 close 11)" ⇒ "(no 7)"
+          ∷ "(1 revoke 16)" ⇒ "(ok 0)"
+          ∷ "(2 ask 11)" ⇒ "(no 7)"
+          ∷ "(3 ask 11)" ⇒ "(no 7)"
+          ∷ "(1 ask 11)" ⇒ "(ok 18)"
+          ∷ "(3 reply 15)" ⇒ "(ok 0)"
+          ∷ "(1 close 11)" ⇒ "(ok 0)"
+          ∷ [];
     }
     ∷ record {
       name = "an end lent twice goes back to its second lender when the second loan is closed";
       opening = offices;
       opened = "(ok 0)";
       calls =
-        "(1 hold 1)" ⇒ "(ok 7)"
-        ∷ "(1 port 7)" ⇒ "(ok 8)"
-        ∷ "(1 hold 2)" ⇒ "(ok 10)"
-        ∷ "(1 port 10)" ⇒ "(ok 11)"
-        ∷ "(2 hold 4)" ⇒ "(ok 13)"
-        ∷ "(2 port 13)" ⇒ "(ok 14)"
-        ∷ "(1 ask 8 (11 0))" ⇒ "(ok 16)"
-        ∷ "(2 fetch 9)" ⇒ "(ok 16 11)"
-        ∷ "(2 ask 14 (11 0))" ⇒ "(ok 17)"
-        ∷ "(3 fetch 15)" ⇒ "(ok 17 11)"
-        ∷ "(2 revoke 17)" ⇒ "(ok 0)"
-        ∷ "(1 ask 11)" ⇒ "(no 7)"
-        ∷ "(2 ask 11)" ⇒ "(ok 18)"
-        ∷ [];
+          "(1 hold 1)" ⇒ "(ok 7)"
+          ∷ "(1 port 7)" ⇒ "(ok 8)"
+          ∷ "(1 hold 2)" ⇒ "(ok 10)"
+          ∷ "(1 port 10)" ⇒ "(ok 11)"
+          ∷ "(2 hold 4)" ⇒ "(ok 13)"
+          ∷ "(2 port 13)" ⇒ "(ok 14)"
+          ∷ "(1 ask 8 (11 0))" ⇒ "(ok 16)"
+          ∷ "(2 fetch 9)" ⇒ "(ok 16 11)"
+          ∷ "(2 ask 14 (11 0))" ⇒ "(ok 17)"
+          ∷ "(3 fetch 15)" ⇒ "(ok 17 11)"
+          ∷ "(2 revoke 17)" ⇒ "(ok 0)"
+          ∷ "(1 ask 11)" ⇒ "(no 7)"
+          ∷ "(2 ask 11)" ⇒ "(ok 18)"
+          ∷ [];
     }
     ∷ record {
       name = "an end lent on over a port that goes with the loan goes to the lender of the oldest request closed";
       opening = offices;
       opened = "(ok 0)";
       calls =
-        "(1 hold 1)" ⇒ "(ok 7)"
-        ∷ "(1 port 7)" ⇒ "(ok 8)"
-        ∷ "(1 hold 2)" ⇒ "(ok 10)"
-        ∷ "(1 port 10)" ⇒ "(ok 11)"
-        -- 1 lends the end 11 and the operation 10 to 2; 2 makes port 15 from the copy 14 and lends 11 on over it
-        ∷ "(1 ask 8 (11 0) (10 3))" ⇒ "(ok 13)"
-        ∷ "(2 fetch 9)" ⇒ "(ok 13 11 14)"
-        ∷ "(2 port 14)" ⇒ "(ok 15)"
-        ∷ "(2 ask 15 (11 0))" ⇒ "(ok 17)"
-        ∷ "(3 fetch 16)" ⇒ "(ok 17 11)"
-        ∷ "(1 revoke 13)" ⇒ "(ok 0)"
-        ∷ "(2 revoke 17)" ⇒ "(no 7)"
-        ∷ "(3 ask 11)" ⇒ "(no 7)"
-        ∷ "(2 ask 11)" ⇒ "(no 7)"
-        ∷ "(1 ask 11)" ⇒ "(ok 18)"
-        ∷ [];
+          "(1 hold 1)" ⇒ "(ok 7)"
+          ∷ "(1 port 7)" ⇒ "(ok 8)"
+          ∷ "(1 hold 2)" ⇒ "(ok 10)"
+          ∷ "(1 port 10)" ⇒ "(ok 11)"
+          -- 1 lends the end 11 and the operation 10 to 2; 2 makes port 15 from the copy 14 and lends 11 on over it
+          ∷ "(1 ask 8 (11 0) (10 3))" ⇒ "(ok 13)"
+          ∷ "(2 fetch 9)" ⇒ "(ok 13 11 14)"
+          ∷ "(2 port 14)" ⇒ "(ok 15)"
+          ∷ "(2 ask 15 (11 0))" ⇒ "(ok 17)"
+          ∷ "(3 fetch 16)" ⇒ "(ok 17 11)"
+          ∷ "(1 revoke 13)" ⇒ "(ok 0)"
+          ∷ "(2 revoke 17)" ⇒ "(no 7)"
+          ∷ "(3 ask 11)" ⇒ "(no 7)"
+          ∷ "(2 ask 11)" ⇒ "(no 7)"
+          ∷ "(1 ask 11)" ⇒ "(ok 18)"
+          ∷ [];
     }
     ∷ record {
       name = "a borrower of a subdirectory may not take the subdirectories in it";
       opening = offices;
       opened = "(ok 0)";
       calls =
-        "(1 hold 3)" ⇒ "(ok 7)"
-        ∷ "(1 hold 1)" ⇒ "(ok 8)"
-        ∷ "(1 port 8)" ⇒ "(ok 9)"
-        ∷ "(1 ask 9 (7 7))" ⇒ "(ok 11)"
-        ∷ "(2 fetch 10)" ⇒ "(ok 11 12)"
-        ∷ "(2 go 12)" ⇒ "(ok 0)"
-        ∷ "(2 hold 6)" ⇒ "(no 12)"
-        ∷ "(2 hold 4)" ⇒ "(ok 13)"
-        ∷ "(1 go 7)" ⇒ "(ok 0)"
-        ∷ "(1 hold 6)" ⇒ "(ok 14)"
-        ∷ [];
+          "(1 hold 3)" ⇒ "(ok 7)"
+          ∷ "(1 hold 1)" ⇒ "(ok 8)"
+          ∷ "(1 port 8)" ⇒ "(ok 9)"
+          ∷ "(1 ask 9 (7 7))" ⇒ "(ok 11)"
+          ∷ "(2 fetch 10)" ⇒ "(ok 11 12)"
+          ∷ "(2 go 12)" ⇒ "(ok 0)"
+          ∷ "(2 hold 6)" ⇒ "(no 12)"
+          ∷ "(2 hold 4)" ⇒ "(ok 13)"
+          ∷ "(1 go 7)" ⇒ "(ok 0)"
+          ∷ "(1 hold 6)" ⇒ "(ok 14)"
+          ∷ [];
     }
     ∷ record {
       name = "the lowest refusal that applies: 7 before 8, 2 before 3, 3 before 4, 4 before 5, 5 before 6";
       opening = registry;
       opened = "(ok 0)";
       calls =
-        "(1 hold 1)" ⇒ "(ok 4)"
-        ∷ "(2 go 4)" ⇒ "(no 7)"
-        ∷ "(1 go 4)" ⇒ "(no 8)"
-        ∷ "(2 close 4)" ⇒ "(no 7)"
-        ∷ "(65 hold 01)" ⇒ "(no 2)"
-        ∷ "(65 ask 5 (4 1) (4 1))" ⇒ "(no 3)"
-        ∷ "(9 ask 5 (4 1) (4 1))" ⇒ "(no 4)"
-        ∷ "(9 ask 5 (4 1) (5 1) (6 1) (7 1) (8 1))" ⇒ "(no 5)"
-        ∷ "(1 ask 5 (4 1) (5 1) (6 1) (7 1) (8 1))" ⇒ "(no 6)"
-        ∷ [];
+          "(1 hold 1)" ⇒ "(ok 4)"
+          ∷ "(2 go 4)" ⇒ "(no 7)"
+          ∷ "(1 go 4)" ⇒ "(no 8)"
+          ∷ "(2 close 4)" ⇒ "(no 7)"
+          ∷ "(65 hold 01)" ⇒ "(no 2)"
+          ∷ "(65 ask 5 (4 1) (4 1))" ⇒ "(no 3)"
+          ∷ "(9 ask 5 (4 1) (4 1))" ⇒ "(no 4)"
+          ∷ "(9 ask 5 (4 1) (5 1) (6 1) (7 1) (8 1))" ⇒ "(no 5)"
+          ∷ "(1 ask 5 (4 1) (5 1) (6 1) (7 1) (8 1))" ⇒ "(no 6)"
+          ∷ [];
     }
     ∷ []
 

@@ -21,3 +21,7 @@ pub mod Agree
 pub mod Marking
 -- standing rows of sound tables: shapes, sources, rights; rows in nodes stay
 pub mod Standing
+-- stores in the words of a state, at any column and slot
+pub mod Put
+-- a state that lies in words, with one change
+pub mod Changes

@@ -42,3 +42,7 @@ pub enum Found {
     At(usize),
     Nothing,
 }
+
+// ---- functions
+pub mod change;
+pub mod layout;
