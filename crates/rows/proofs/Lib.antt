@@ -25,3 +25,5 @@ pub mod Standing
 pub mod Put
 -- a state that lies in words, with one change
 pub mod Changes
+-- process records in their words, one after the other
+pub mod ProcessRecords

@@ -46,3 +46,4 @@ pub enum Found {
 // ---- functions
 pub mod change;
 pub mod layout;
+pub mod records;
