@@ -27,3 +27,5 @@ pub mod Put
 pub mod Changes
 -- process records in their words, one after the other
 pub mod ProcessRecords
+-- one right within others
+pub mod RightsWithin

@@ -44,6 +44,7 @@ pub enum Found {
 }
 
 // ---- functions
+pub mod capcaps;
 pub mod change;
 pub mod layout;
 pub mod records;
