@@ -7,7 +7,7 @@ use mathlib.Core.Logic.{inl, inr, ⊎-elim}
 use native.Mathlib.Nat.{add-assoc}
 use native.Mathlib.Omega.{arith}
 use lib.Dec.{eqb}
-use borrow.Author.Tests.{eqb-true, eqb-false, eq-eqb, ne-eqb, leb-true, le-leb}
+use borrow.Author.Tests.{eqb-true, eqb-false, eq-eqb, ne-eqb, le-leb}
 use lib.ListN.{length, getD, set, length-map, length-set}
 use lib.Seq.{getD-set-other}
 use Rattle.rows.specs.declared.Row.{Row}
@@ -19,35 +19,26 @@ use Rattle.rows.specs.Sound.{rowsRise, requestsRise, rowsFit, requestsFi
 use Rattle.rows.specs.Layout.{rowColumns, requestColumns, requestsAt, nextAt, slotOf, sourceSlot, rowWord, requestWord, wordsOf}
 use Rattle.rows.specs.Lies.{sourcesOlder, laidWell, Lies, rowSlot, requestSlot, numberOfSlot, withSources, named, withRows, withRequests, withNext, changeRow, changeRequest}
 use Rattle.rows.specs.Changes.{placed, itemCleared, asFetched}
-use Rattle.rows.proofs.Bools.{and-l, and-r, and-i, eqb-self, some-pos, pos-some, member-here, member-there}
+use Rattle.rows.proofs.Bools.{and-i, eqb-self, some-pos, pos-some, member-here, member-there}
 use Rattle.rows.proofs.Keyed.{keys-map, rises-rest, rises-cons, rises-range, rises-older, rises-map}
 use Rattle.rows.proofs.RowSources.{Among}
-use Rattle.rows.proofs.Put.{runs, words, words-of, column, length-column, put-row, put-request, put-next, changed, slot-low, put-column, same-column, grown, grown-none, grown-all, stored, grow}
+use Rattle.rows.proofs.KeySlots.{slot-le}
+use Rattle.rows.proofs.LiesWords.{Well, well-open}
+use Rattle.rows.proofs.Put.{runs, words, words-of, column, length-column, put-row, put-request, put-next, changed, put-column, same-column, grown, grown-none, grown-all, stored, grow}
 
--- ---- what `laidWell` asks, part by part
-pub record Well (st : State) : Type 0 where
-  pub rows-rise : rises (λ r. r .number) (st .rows) ≡ true
-  pub requests-rise : rises (λ v. v .number) (st .requests) ≡ true
-  pub few-rows : length (st .rows) ≤ rowSlots
-  pub few-requests : length (st .requests) ≤ requestSlots
-  pub items-four : all (λ v. eqb (length (v .items)) mostItems) (st .requests) ≡ true
-  pub older : sourcesOlder (st .rows) ≡ true
+-- ---- the parts of `laidWell`
+rows-few : (st : State) → Well st → length (st .rows) ≤ rowSlots
+unfolding rowSlots
+rows-few st w = w .rows-fit
 
-pub well-open : (st : State) → laidWell st ≡ true → Well st
-unfolding laidWell rowsRise requestsRise rowsFit requestsFit itemsFew
-well-open st e =
-    let a : rowsRise st ≡ true = search and-l in
-    let b : requestsRise st ≡ true = search (and-l, and-r) in
-    let c : rowsFit st ≡ true = search (and-l, and-r) in
-    let d : requestsFit st ≡ true = search (and-l, and-r) in
-    let f : itemsFew st ≡ true = search (and-l, and-r) in
-    let o : sourcesOlder (st .rows) ≡ true = search (and-l, and-r) in
-    record { rows-rise = a; requests-rise = b; few-rows = leb-true (length (st .rows)) rowSlots c; few-requests = leb-true (length (st .requests)) requestSlots d; items-four = f; older = o }
+requests-few : (st : State) → Well st → length (st .requests) ≤ requestSlots
+unfolding requestSlots
+requests-few st w = w .requests-fit
 
 pub well-close : (st : State) → Well st → laidWell st ≡ true
-unfolding laidWell rowsRise requestsRise rowsFit requestsFit itemsFew
+unfolding laidWell rowsRise requestsRise rowsFit requestsFit
 well-close st w =
-    rw (w .rows-rise, w .requests-rise, le-leb (length (st .rows)) rowSlots (w .few-rows), le-leb (length (st .requests)) requestSlots (w .few-requests), w .items-four, w .older) refl
+    rw (w .rows-rise, w .requests-rise, le-leb (length (st .rows)) rowSlots (rows-few st w), le-leb (length (st .requests)) requestSlots (requests-few st w), w .items-few, w .sources-old) refl
 
 -- ---- rows
 abbrev rowsOf : List Row → ℕ → List ℕ
@@ -100,14 +91,14 @@ module _ (n : ℕ) (g : Row → Row) (number : (r : Row) → g r .number ≡ r .
       pick false = refl
 
   row-well : (st : State) → Well st → Well (changeRow n g st)
-  unfolding changeRow withRows
+  unfolding changeRow withRows rowSlots itemsFew
   row-well st w = record {
     rows-rise = rises-map (λ r. r .number) rowTo to-number (st .rows) ∙ w .rows-rise;
     requests-rise = w .requests-rise;
-    few-rows = rw (length-map (st .rows) rowTo) (w .few-rows);
-    few-requests = w .few-requests;
-    items-four = w .items-four;
-    older = older-same rowTo to-number to-sources (st .rows) ∙ w .older;
+    rows-fit = rw (length-map (st .rows) rowTo) (w .rows-fit);
+    requests-fit = w .requests-fit;
+    items-few = w .items-few;
+    sources-old = older-same rowTo to-number to-sources (st .rows) ∙ w .sources-old;
   }
 
   pub row-changed : (c v : ℕ) → ((r : Row) (rs : List Row) → rowWord c (g r) rs ≡ v) → ((d : ℕ) → (d ≡ c → ⊥) → (r : Row) (rs : List Row) → rowWord d (g r) rs ≡ rowWord d r rs)
@@ -116,13 +107,13 @@ module _ (n : ℕ) (g : Row → Row) (number : (r : Row) → g r .number ≡ r .
   row-changed c v to kept hc st t i l e =
       let w = well-open st (l .well) in
       let same = word-same rowTo to-number in
-      let low = slot-low (λ r. r .number) n g (st .rows) in
+      let low = slot-le (λ r. r .number) (st .rows) n in
       record {
         well = well-close (changeRow n g st) (row-well st w);
         words =
             ap (λ (s : List ℕ). set s (c * rowSlots + i) v) (l .words ∙ words-of st)
-            ∙ put-row (rowsOf (st .rows)) (requestsOf (st .requests)) (st .next) (length-column rowSlots rowWord (st .rows) (w .few-rows)) (rowsOf (map rowTo (st .rows))) c i v hc
-            (omega (arith, w .few-rows))
+            ∙ put-row (rowsOf (st .rows)) (requestsOf (st .requests)) (st .next) (length-column rowSlots rowWord (st .rows) (rows-few st w)) (rowsOf (map rowTo (st .rows))) c i v hc
+            (omega (arith, rows-few st w))
             (put-column (λ r. r .number) n g rowSlots rowWord same (st .rows) c v to (w .rows-rise) i e)
             (λ d ne. same-column (λ r. r .number) n g rowSlots rowWord same (st .rows) d (kept d ne))
             ∙ sym (words-of (changeRow n g st));
@@ -178,14 +169,14 @@ module _ (q : ℕ) (g : Request → Request) (number : (v : Request) → g v .nu
   all-four (v ∷ vs) = rw (to-four v, all-four vs) refl
 
   request-well : (st : State) → Well st → Well (changeRequest q g st)
-  unfolding changeRequest withRequests
+  unfolding changeRequest withRequests requestSlots itemsFew
   request-well st w = record {
     rows-rise = w .rows-rise;
     requests-rise = rises-map (λ v. v .number) requestTo to-number-2 (st .requests) ∙ w .requests-rise;
-    few-rows = w .few-rows;
-    few-requests = rw (length-map (st .requests) requestTo) (w .few-requests);
-    items-four = all-four (st .requests) ∙ w .items-four;
-    older = w .older;
+    rows-fit = w .rows-fit;
+    requests-fit = rw (length-map (st .requests) requestTo) (w .requests-fit);
+    items-few = all-four (st .requests) ∙ w .items-few;
+    sources-old = w .sources-old;
   }
 
   pub request-changed : (c x : ℕ) → ((v : Request) (vs : List Request) → requestWord c (g v) vs ≡ x)
@@ -195,13 +186,13 @@ module _ (q : ℕ) (g : Request → Request) (number : (v : Request) → g v .nu
   request-changed c x to kept hc st t i l e =
       let w = well-open st (l .well) in
       let same = request-same requestTo in
-      let low = slot-low (λ v. v .number) q g (st .requests) in
+      let low = slot-le (λ v. v .number) (st .requests) q in
       record {
         well = well-close (changeRequest q g st) (request-well st w);
         words =
             ap (λ (s : List ℕ). set s (requestsAt + (c * requestSlots + i)) x) (l .words ∙ words-of st)
-            ∙ put-request (rowsOf (st .rows)) (requestsOf (st .requests)) (st .next) (length-column rowSlots rowWord (st .rows) (w .few-rows)) (length-column requestSlots requestWord (st .requests) (w .few-requests))
-            (requestsOf (map requestTo (st .requests))) c i x hc (omega (arith, w .few-requests))
+            ∙ put-request (rowsOf (st .rows)) (requestsOf (st .requests)) (st .next) (length-column rowSlots rowWord (st .rows) (rows-few st w)) (length-column requestSlots requestWord (st .requests) (requests-few st w))
+            (requestsOf (map requestTo (st .requests))) c i x hc (omega (arith, requests-few st w))
             (put-column (λ v. v .number) q g requestSlots requestWord same (st .requests) c x to (w .requests-rise) i e)
             (λ d ne. same-column (λ v. v .number) q g requestSlots requestWord same (st .requests) d (kept d ne))
             ∙ sym (words-of (changeRequest q g st));
@@ -239,14 +230,14 @@ item-cleared q p hp =
 
 -- ---- the next number
 pub next-set : (n : ℕ) (st : State) (t : List ℕ) → Lies st t → Lies (withNext n st) (set t nextAt n)
-unfolding withNext
+unfolding withNext itemsFew
 next-set n st t l =
     let w = well-open st (l .well) in
     record {
-      well = well-close (withNext n st) (record { rows-rise = w .rows-rise; requests-rise = w .requests-rise; few-rows = w .few-rows; few-requests = w .few-requests; items-four = w .items-four; older = w .older });
+      well = well-close (withNext n st) (record { rows-rise = w .rows-rise; requests-rise = w .requests-rise; rows-fit = w .rows-fit; requests-fit = w .requests-fit; items-few = w .items-few; sources-old = w .sources-old });
       words =
           ap (λ (s : List ℕ). set s nextAt n) (l .words ∙ words-of st)
-          ∙ put-next (rowsOf (st .rows)) (requestsOf (st .requests)) (st .next) (length-column rowSlots rowWord (st .rows) (w .few-rows)) (length-column requestSlots requestWord (st .requests) (w .few-requests)) n
+          ∙ put-next (rowsOf (st .rows)) (requestsOf (st .requests)) (st .next) (length-column rowSlots rowWord (st .rows) (rows-few st w)) (length-column requestSlots requestWord (st .requests) (requests-few st w)) n
           ∙ sym (words-of (withNext n st));
     }
 
@@ -322,17 +313,17 @@ module _ (st : State) (well : Well st) (w : Row) (room : length (st .rows) < row
   row-fields (suc (suc (suc (suc (suc (suc (suc (suc (suc (suc j)))))))))) h = absurd (omega arith)
 
   added-well : topOf (λ r. r .number) (st .rows) < w .number → Well withNew
-  unfolding withRows named withSources sourcesOlder each sources nonzero all filter
+  unfolding withRows named withSources sourcesOlder each sources nonzero all filter rowSlots itemsFew
   added-well top = record {
     rows-rise = rises-cons (λ r. r .number) newRow (st .rows) top (well .rows-rise);
     requests-rise = well .requests-rise;
-    few-rows = room;
-    few-requests = well .few-requests;
-    items-four = well .items-four;
-    older =
+    rows-fit = room;
+    requests-fit = well .requests-fit;
+    items-few = well .items-few;
+    sources-old =
         and-i (all (λ s. member s (numbers (st .rows))) (filter some (newRow .source ∷ newRow .via ∷ []))) (sourcesOlder (st .rows))
         (among-kept (st .rows) (newRow .source) (newRow .via ∷ []) (among-number (st .rows) (well .rows-rise) (w .source) source)
-        (among-kept (st .rows) (newRow .via) [] (among-number (st .rows) (well .rows-rise) (w .via) via) none)) (well .older);
+        (among-kept (st .rows) (newRow .via) [] (among-number (st .rows) (well .rows-rise) (w .via) via) none)) (well .sources-old);
   }
     where
       none : all (λ s. member s (numbers (st .rows))) (filter some []) ≡ true
@@ -383,21 +374,21 @@ module _ (st : State) (well : Well st) (v : Request) (room : length (st .request
   request-fields (suc (suc (suc (suc (suc (suc (suc (suc j)))))))) h = absurd (omega arith)
 
   asked-well : length (v .items) ≡ 4 → topOf (λ v. v .number) (st .requests) < v .number → Well withAsked
-  unfolding withRequests all mostItems
+  unfolding withRequests all mostItems requestSlots itemsFew
   asked-well four top = record {
     rows-rise = well .rows-rise;
     requests-rise = rises-cons (λ v. v .number) v (st .requests) top (well .requests-rise);
-    few-rows = well .few-rows;
-    few-requests = room;
-    items-four = and-i (eqb (length (v .items)) 4) (all (λ v. eqb (length (v .items)) 4) (st .requests)) (eq-eqb (length (v .items)) 4 four) (well .items-four);
-    older = well .older;
+    rows-fit = well .rows-fit;
+    requests-fit = room;
+    items-few = and-i (eqb (length (v .items)) 4) (all (λ v. eqb (length (v .items)) 4) (st .requests)) (eq-eqb (length (v .items)) 4 four) (well .items-few);
+    sources-old = well .sources-old;
   }
 
   request-grown : stored (λ j. requestsAt + j * requestSlots + length (st .requests)) (λ j. getD (requestFields v) j 0) requestColumns (wordsOf st) ≡ wordsOf withAsked
   unfolding withRequests words
   request-grown =
       let f = rowsOf (st .rows) in
-      let long = length-column rowSlots rowWord (st .rows) (well .few-rows) in
+      let long = length-column rowSlots rowWord (st .rows) (rows-few st well) in
       let W : (ℕ → List ℕ) → List ℕ = λ g. words f g (st .next) in
       let at : ℕ → ℕ = λ j. requestsAt + j * requestSlots + length (st .requests) in
       let first : wordsOf st ≡ W (grown requestSlots requestWord v (st .requests) 0) = words-of st ∙ ap (λ (l : List ℕ). runs f rowColumns ++ (l ++ (st .next ∷ []))) (grown-none requestSlots requestWord v (st .requests) requestColumns) in

@@ -21,6 +21,10 @@ pub mod Agree
 pub mod Marking
 -- standing rows of sound tables: shapes, sources, rights; rows in nodes stay
 pub mod Standing
+-- slots over any key: where an element stands
+pub mod KeySlots
+-- the words in which a state lies
+pub mod LiesWords
 -- stores in the words of a state, at any column and slot
 pub mod Put
 -- a state that lies in words, with one change

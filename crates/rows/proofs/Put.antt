@@ -17,6 +17,7 @@ use Rattle.rows.specs.Layout.{rowColumns, requestColumns, requestsAt, ne
 use Rattle.rows.specs.Lies.{slotWith}
 use Rattle.rows.proofs.Bools.{bool-eq, eqb-sym-f, or-fl, or-fr}
 use Rattle.rows.proofs.Keyed.{rises-rest, rises-fresh}
+use Rattle.rows.proofs.KeySlots.{slot-le}
 use Rattle.rows.proofs.LayoutColumns.{columns, length-columns}
 use Rattle.rows.proofs.LayoutRows.{row-columns}
 use Rattle.rows.proofs.LayoutRequests.{request-columns}
@@ -145,15 +146,6 @@ module _ {A : Type 0} (key : A → ℕ) (n : ℕ) (g : A → A) where
   unchanged (x ∷ xs) e =
       rw (eqb-sym-f n (key x) (or-fl (eqb n (key x)) (member n (map key xs)) e)) (ap (λ (l : List A). x ∷ l) (unchanged xs (or-fr (eqb n (key x)) (member n (map key xs)) e)))
 
-  pub slot-low : (xs : List A) → slotWith key xs n ≤ length xs
-  unfolding slotWith
-  slot-low [] = omega arith
-  slot-low (x ∷ xs) = pick (slot-low xs) (eqb (key x) n)
-    where
-      pick : slotWith key xs n ≤ length xs → (b : Bool) → cond b (suc (length xs)) (slotWith key xs n) ≤ suc (length xs)
-      pick ih true = omega arith
-      pick ih false = omega arith
-
   -- words that the change of older elements leaves as they are
   module _ (w : A → List A → ℕ) (same : (x : A) (xs : List A) → w x (map changed xs) ≡ w x xs) where
     pub put-laid : (v : ℕ) → ((x : A) (xs : List A) → w (g x) xs ≡ v) → (xs : List A) → rises key xs ≡ true → (i : ℕ) → slotWith key xs n ≡ suc i
@@ -169,7 +161,7 @@ module _ {A : Type 0} (key : A → ℕ) (n : ℕ) (g : A → A) where
             let at : length (laid w xs) ≡ i = omega (arith, length-laid w xs) in
             set-at (laid w xs) (w x xs) [] v i at ∙ (λ j. laid w (sym (unchanged xs fresh) j) ++ (sym (to x (map changed xs)) j ∷ []))
         pick ih false q e =
-            set-append-left (laid w xs) (w x xs ∷ []) i v (omega (arith, length-laid w xs, slot-low xs)) ∙ (λ j. ih e j ++ (sym (same x xs) j ∷ []))
+            set-append-left (laid w xs) (w x xs ∷ []) i v (omega (arith, length-laid w xs, slot-le key xs n)) ∙ (λ j. ih e j ++ (sym (same x xs) j ∷ []))
 
     pub same-laid : ((x : A) (xs : List A) → w (g x) xs ≡ w x xs) → (xs : List A) → laid w xs ≡ laid w (map changed xs)
     unfolding laid
@@ -184,7 +176,7 @@ module _ {A : Type 0} (key : A → ℕ) (n : ℕ) (g : A → A) where
     pub put-column : (c v : ℕ) → ((x : A) (xs : List A) → w c (g x) xs ≡ v) → rises key xs ≡ true → (i : ℕ) → slotWith key xs n ≡ suc i
         → set (column k w xs c) i v ≡ column k w (map changed xs) c
     put-column c v to up i e =
-        set-pad k (laid (w c) xs) i v (omega (arith, length-laid (w c) xs, slot-low xs)) ∙ ap (pad 0 k) (put-laid (w c) (same c) v to xs up i e)
+        set-pad k (laid (w c) xs) i v (omega (arith, length-laid (w c) xs, slot-le key xs n)) ∙ ap (pad 0 k) (put-laid (w c) (same c) v to xs up i e)
 
     pub same-column : (d : ℕ) → ((x : A) (xs : List A) → w d (g x) xs ≡ w d x xs) → column k w xs d ≡ column k w (map changed xs) d
     same-column d kept = ap (pad 0 k) (same-laid (w d) (same d) kept xs)
