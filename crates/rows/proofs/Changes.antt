@@ -149,15 +149,15 @@ module _ (q : ℕ) (g : Request → Request) (number : (v : Request) → g v .nu
   abbrev requestTo : Request → Request
   requestTo = changed (λ v. v .number) q g
 
-  to-number-2 : (v : Request) → requestTo v .number ≡ v .number
-  to-number-2 v = pick (eqb (v .number) q)
+  same-number : (v : Request) → requestTo v .number ≡ v .number
+  same-number v = pick (eqb (v .number) q)
     where
       pick : (b : Bool) → cond b (g v) v .number ≡ v .number
       pick true = number v
       pick false = refl
 
-  to-four : (v : Request) → length (requestTo v .items) ≡ length (v .items)
-  to-four v = pick (eqb (v .number) q)
+  same-four : (v : Request) → length (requestTo v .items) ≡ length (v .items)
+  same-four v = pick (eqb (v .number) q)
     where
       pick : (b : Bool) → length (cond b (g v) v .items) ≡ length (v .items)
       pick true = four v
@@ -166,13 +166,13 @@ module _ (q : ℕ) (g : Request → Request) (number : (v : Request) → g v .nu
   all-four : (vs : List Request) → all (λ v. eqb (length (v .items)) mostItems) (map requestTo vs) ≡ all (λ v. eqb (length (v .items)) mostItems) vs
   unfolding all
   all-four [] = refl
-  all-four (v ∷ vs) = rw (to-four v, all-four vs) refl
+  all-four (v ∷ vs) = rw (same-four v, all-four vs) refl
 
   request-well : (st : State) → Well st → Well (changeRequest q g st)
   unfolding changeRequest withRequests requestSlots itemsFew
   request-well st w = record {
     rows-rise = w .rows-rise;
-    requests-rise = rises-map (λ v. v .number) requestTo to-number-2 (st .requests) ∙ w .requests-rise;
+    requests-rise = rises-map (λ v. v .number) requestTo same-number (st .requests) ∙ w .requests-rise;
     rows-fit = w .rows-fit;
     requests-fit = rw (length-map (st .requests) requestTo) (w .requests-fit);
     items-few = all-four (st .requests) ∙ w .items-few;

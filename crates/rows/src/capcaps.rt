@@ -18,7 +18,7 @@ impl Rights {
         self.0 == 0
     }
 
-    // Each right is one of the other's. Ruled out: a right that the other lacks; the sides swapped.
+    // Each right is one of the other's: the three low bits decide. Ruled out: a right that the other lacks; the sides swapped.
     pub fn within(self, other: Rights) -> bool
         ensures { λ r. ⌜ r ≡ isWithin (self .0) (other .0) ⌝ }
     {
