@@ -21,3 +21,11 @@ pub mod Agree
 pub mod Marking
 -- standing rows of sound tables: shapes, sources, rights; rows in nodes stay
 pub mod Standing
+-- a column compacted: the loops, and what laid words become
+pub mod Keep
+-- the slots that rows move to, and source columns renumbered
+pub mod Renumber
+-- columns of which one or all are lent and come back
+pub mod Parts
+-- rows and requests removed
+pub mod Removed

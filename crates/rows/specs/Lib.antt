@@ -6,4 +6,5 @@ pub mod Tables
 pub mod Sound
 pub mod Layout
 pub mod Lies
+pub mod Marks
 pub mod Computes

@@ -42,3 +42,7 @@ pub enum Found {
     At(usize),
     Nothing,
 }
+
+// ---- functions
+pub mod layout;
+pub mod remove;

@@ -1,0 +1,84 @@
+use borrow.Author.Needs.{needs}
+use Prim.Native.Nat.{ℕ, _≤_, _<_, _-_, _+_}
+use native.Mathlib.Omega.{arith}
+use mathlib.Core.Path.{_≡_, refl, sym, ap, _∙_}
+use mathlib.Core.Logic.{⊎-elim}
+use borrow.Author.Tests.{not-true, not-false}
+use denote.Ref.{now}
+use lib.ListN.{set}
+use Rattle.rows.proofs.Renumber.{Ranked, rank-start, rank-left, rank-marked, lefts-le}
+use Rattle.rows.proofs.remove.ranks.Statement.{statement}
+use Rattle.rows.proofs.remove.ranks.Tie as tie
+use Rattle.rows.proofs.remove.ranks.Reads as reads
+use Rattle.rows.proofs.remove.ranks.Lts as lts
+
+abbrev Inv-loop : tie.InvT-loop
+Inv-loop marks count to₀ i₀ j₀ to i j = (i ≤ count) × (j ≤ i + 1) × Ranked marks 1025 to i j
+
+abbrev μ-loop : tie.MeasureT-loop
+μ-loop marks count to₀ i₀ j₀ to i j = count - i
+
+-- src/remove.rt:82:5
+loop-holds : tie.Need-loop-holds Inv-loop μ-loop
+loop-holds c = (search needs, search needs, rank-start (now (c .args .marks)) 1025 (omega arith))
+
+-- src/remove.rt:83:12
+add-to : tie.Need-add-to Inv-loop μ-loop
+add-to c = search needs
+
+-- src/remove.rt:83:9
+mul-to : tie.Need-mul-to Inv-loop μ-loop
+mul-to c = search needs
+
+-- src/remove.rt:83:9
+array-write-to : tie.Need-array-write-to Inv-loop μ-loop
+array-write-to c = search needs
+
+-- src/remove.rt:84:13
+element-copy-out-if1 : tie.Need-element-copy-out-if1 Inv-loop μ-loop
+element-copy-out-if1 c = search needs
+
+-- src/remove.rt:85:13
+add-j : tie.Need-add-j Inv-loop μ-loop
+add-j c = search needs
+
+-- src/remove.rt:87:9
+add-i : tie.Need-add-i Inv-loop μ-loop
+add-i c = search needs
+
+-- src/remove.rt:82:5
+loop-less : tie.Need-loop-less Inv-loop μ-loop
+loop-less c = search needs
+
+-- src/remove.rt:82:5
+loop-again : tie.Need-loop-again Inv-loop μ-loop
+loop-again c =
+    let b = c .before .before .before in
+    let ms = now (b .before .args .marks) in
+    let h : b .loop .i + 1 < 1025 = omega (arith, c .before .before .loop-test .taken, b .before .pre) in
+    let r : Ranked ms 1025 (set (b .loop .to) (b .loop .i + 1) (b .loop .j)) (b .loop .i + 1) (c .if1 .j) =
+    ⊎-elim (λ w. rw (w .1) (rank-left ms 1025 (b .loop .to) (b .loop .i) (b .loop .j) (b .loop .inv .2) h (not-true _ (w .0 .taken))))
+    (λ w. rw (w .1) (rank-marked ms 1025 (b .loop .to) (b .loop .i) (b .loop .j) (b .loop .inv .2) h (not-false _ (w .0 .left))))
+    (c .if1 .came) in
+    (search needs, omega (arith, r .next, lefts-le ms (b .loop .i + 1)), r)
+
+-- src/remove.rt:75:1
+returns : tie.Need-returns Inv-loop μ-loop
+returns c = λ s h. c .before .loop .inv .2 .right s (omega (arith, c .loop-test .left))
+
+pub ranks-spec : {M : Type 1} → statement M
+ranks-spec =
+    tie.close
+    (tie.spec
+    Inv-loop
+    μ-loop
+    loop-holds
+    add-to
+    mul-to
+    array-write-to
+    element-copy-out-if1
+    add-j
+    add-i
+    loop-less
+    loop-again
+    returns)
