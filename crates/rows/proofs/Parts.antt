@@ -28,6 +28,9 @@ module _ (a b c t : List ℕ) (i k : ℕ) (e : t ≡ a ++ (b ++ c)) (la : length
       ∙ ap (λ (l : List ℕ). l ++ (ys ++ drop k (drop i (a ++ (b ++ c))))) (take-at a (b ++ c) i la)
       ∙ ap (λ (l : List ℕ). a ++ (ys ++ l)) (ap (drop k) (drop-at a (b ++ c) i la) ∙ drop-at b c k lb)
 
+pub part-long : (i k : ℕ) (t : List ℕ) → i + k ≤ length t → length (take k (drop i t)) ≡ k
+part-long i k t h = length-take-le k (drop i t) (omega (arith, length-drop i t))
+
 -- ---- one column
 -- the words w, with f in the column c
 unfoldable pub put : {A : Type 0} → (ℕ → A → List A → ℕ) → ℕ → (A → List A → ℕ) → ℕ → A → List A → ℕ
@@ -66,16 +69,21 @@ module _ {A : Type 0} (k : ℕ) (xs : List A) (few : length xs ≤ k) where
   around w c zero rest h = absurd (not-suc-le-zero h)
   around w c (suc m) rest h =
       ⊎-elim
-      (λ e. (rest, (λ w′ same.
-      subst (λ (d : ℕ). columns k w′ (suc m) xs ++ rest ≡ columns k w d xs ++ (column (w′ d) ++ rest)) (sym e)
-      (append-assoc (columns k w′ m xs) (column (w′ m)) rest
-      ∙ ap (λ (l : List ℕ). l ++ (column (w′ m) ++ rest)) (columns-same w w′ m (λ d lt. same d (λ q. omega arith)))))))
+      (λ e. (
+        rest,
+        (λ w′ same.
+            subst (λ (d : ℕ). columns k w′ (suc m) xs ++ rest ≡ columns k w d xs ++ (column (w′ d) ++ rest)) (sym e)
+            (append-assoc (columns k w′ m xs) (column (w′ m)) rest
+            ∙ ap (λ (l : List ℕ). l ++ (column (w′ m) ++ rest)) (columns-same w w′ m (λ d lt. same d (λ q. omega arith))))),
+      ))
       (λ lt.
-      let (more, is) = around w c m (column (w m) ++ rest) lt in
-      (more, (λ w′ same.
-      append-assoc (columns k w′ m xs) (column (w′ m)) rest
-      ∙ ap (λ (f : A → List A → ℕ). columns k w′ m xs ++ (column f ++ rest)) (same m (λ q. omega arith))
-      ∙ is w′ same))) (eq-or-lt-of-le (le-of-suc-le-suc h))
+      let (more, is) = around w c m (column (w m) ++ rest) lt in (
+        more,
+        (λ w′ same.
+            append-assoc (columns k w′ m xs) (column (w′ m)) rest
+            ∙ ap (λ (f : A → List A → ℕ). columns k w′ m xs ++ (column f ++ rest)) (same m (λ q. omega arith))
+            ∙ is w′ same),
+      )) (eq-or-lt-of-le (le-of-suc-le-suc h))
 
   module _ (w : ℕ → A → List A → ℕ) (c m : ℕ) (rest : List ℕ) (h : c < m) (t : List ℕ) (e : t ≡ columns k w m xs ++ rest) where
     split : t ≡ columns k w c xs ++ (column (w c) ++ around w c m rest h .0)
@@ -105,15 +113,12 @@ unfolding compactedParts
 parts-start ms n k l₀ = let e : 0 ≡ 0 * k = omega arith in ap (λ (i : ℕ). drop i l₀) e
 
 module _ (ms : List Bool) (n k : ℕ) (l₀ : List ℕ) (few : n ≤ k) where
-  part-long : (c : ℕ) → c * k + k ≤ length l₀ → length (take k (drop (c * k) l₀)) ≡ k
-  part-long c h = length-take-le k (drop (c * k) l₀) (omega (arith, length-drop (c * k) l₀))
-
   length-parts : (c : ℕ) → c * k ≤ length l₀ → length (compactedParts ms n k c l₀) ≡ c * k
   unfolding compactedParts
   length-parts zero h = omega arith
   length-parts (suc c) h =
       length-append (compactedParts ms n k c l₀) (compacted ms n (take k (drop (c * k) l₀)))
-      ∙ omega (arith, length-parts c (omega (arith, suc-mul c k)), length-compacted ms n (take k (drop (c * k) l₀)) (omega (arith, part-long c (omega (arith, suc-mul c k)))), part-long c (omega (arith, suc-mul c k)), suc-mul c k)
+      ∙ omega (arith, length-parts c (omega (arith, suc-mul c k)), length-compacted ms n (take k (drop (c * k) l₀)) (omega (arith, part-long (c * k) k l₀ (omega (arith, suc-mul c k)))), part-long (c * k) k l₀ (omega (arith, suc-mul c k)), suc-mul c k)
 
   -- the column c is lent, and comes back compacted
   module _ (l : List ℕ) (c : ℕ) (h : c * k + k ≤ length l₀) (e : Done ms n k l₀ l c) where
@@ -121,7 +126,7 @@ module _ (ms : List Bool) (n k : ℕ) (l₀ : List ℕ) (few : n ≤ k) where
     rest-of = ap (drop (c * k)) e ∙ drop-at (compactedParts ms n k c l₀) (drop (c * k) l₀) (c * k) (length-parts c (omega arith))
 
     pub parts-long : length (take k (drop (c * k) l)) ≡ k
-    parts-long = ap (λ (r : List ℕ). length (take k r)) rest-of ∙ part-long c h
+    parts-long = ap (λ (r : List ℕ). length (take k r)) rest-of ∙ part-long (c * k) k l₀ h
 
     pub parts-turn : (ys : List ℕ) → ys ≡ compacted ms n (take k (drop (c * k) l)) → Done ms n k l₀ (take (c * k) l ++ (ys ++ drop k (drop (c * k) l))) (c + 1)
     unfolding compactedParts

@@ -1,6 +1,10 @@
 use borrow.Author.Needs.{needs}
 use Prim.Native.Nat.{ℕ, _≤_, _<_, _-_, _+_}
 use native.Mathlib.Omega.{arith}
+use denote.Ref.{now}
+use Rattle.rows.specs.Limits.{rowSlots, requestSlots}
+use Rattle.rows.specs.Layout.{rowColumns, requestColumns, requestsAt}
+use Rattle.rows.proofs.Removed.{requests-removed}
 use Rattle.rows.proofs.remove.remove_requests.Statement.{statement}
 use Rattle.rows.proofs.remove.remove_requests.Tie as tie
 use Rattle.rows.proofs.remove.remove_requests.Reads as reads
@@ -29,7 +33,11 @@ same-length c = search needs
 
 -- src/remove.rt:129:1
 returns : tie.Need-returns
-returns c = search needs
+unfolding requestSlots requestColumns requestsAt rowColumns rowSlots
+returns c = λ st f lies marks.
+    let s = c .before .before .before .before .before .before in
+    let called = c .before .before .compact-columns in
+    requests-removed st f (now (s .args .t)) (now (s .args .marks)) (called .last .0) (called .ensures) lies marks
 
 pub remove-requests-spec : {M : Type 1} → statement M
 remove-requests-spec =

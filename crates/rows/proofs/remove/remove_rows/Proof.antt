@@ -1,6 +1,15 @@
 use borrow.Author.Needs.{needs}
 use Prim.Native.Nat.{ℕ, _≤_, _<_, _-_, _+_}
 use native.Mathlib.Omega.{arith}
+use mathlib.Core.Path.{_≡_, refl, sym, ap, _∙_}
+use mathlib.Core.List.{List}
+use borrow.Rule.Slice.PartMut.{midOf, same-len-mid}
+use denote.Ref.{now}
+use lib.ListN.{length}
+use Rattle.rows.specs.Limits.{rowSlots}
+use Rattle.rows.specs.Layout.{rowColumns}
+use Rattle.rows.proofs.Parts.{part-long}
+use Rattle.rows.proofs.Removed.{back, rows-removed}
 use Rattle.rows.proofs.remove.remove_rows.Statement.{statement}
 use Rattle.rows.proofs.remove.remove_rows.Tie as tie
 use Rattle.rows.proofs.remove.remove_rows.Reads as reads
@@ -8,6 +17,11 @@ use Rattle.rows.proofs.remove.remove_rows.Lts as lts
 use Rattle.rows.proofs.remove.compact_columns.Reads as compact-columns-reads
 use Rattle.rows.proofs.remove.ranks.Reads as ranks-reads
 use Rattle.rows.proofs.remove.remap.Reads as remap-reads
+
+-- two columns were lent and came back
+long-twice : (t ys zs : List ℕ) → length t ≡ 11265 → length ys ≡ length (midOf 6144 1024 t) → length zs ≡ length (midOf 7168 1024 (back 6144 1024 t ys))
+    → length (back 7168 1024 (back 6144 1024 t ys) zs) ≡ 11265
+long-twice t ys zs e y z = same-len-mid 7168 1024 (back 6144 1024 t ys) zs z ∙ same-len-mid 6144 1024 t ys y ∙ e
 
 -- src/remove.rt:121:14
 ranks-requires : tie.Need-ranks-requires
@@ -51,7 +65,12 @@ slice-aggregate-remap-2 c = search needs
 
 -- src/remove.rt:123:5
 remap-requires-2 : tie.Need-remap-requires-2
-remap-requires-2 c κs = search needs
+remap-requires-2 c κs =
+    let s = c .before .before .before .before .before .before .before .before .before in
+    let t = now (s .args .t) in
+    let first = c .before .before .before .before .remap in
+    let long : length (back 6144 1024 t (first .last .0)) ≡ 11265 = same-len-mid 6144 1024 t (first .last .0) (first .kept .0) ∙ s .pre .0 in
+    omega (arith, part-long 7168 1024 (back 6144 1024 t (first .last .0)) (omega arith), s .pre .1)
 
 -- src/remove.rt:124:21
 sub-compact-columns : tie.Need-sub-compact-columns
@@ -63,19 +82,45 @@ part-compact-columns-start c = search needs
 
 -- src/remove.rt:124:21
 part-compact-columns-end : tie.Need-part-compact-columns-end
-part-compact-columns-end c = search needs
+part-compact-columns-end c =
+    let s = c .before .before .before .before .before .before .before .before .before .before .before .before in
+    let t = now (s .args .t) in
+    let first = c .before .before .before .before .before .before .before .remap in
+    let second = c .before .before .remap2 in
+    omega (arith, long-twice t (first .last .0) (second .last .0) (s .pre .0) (first .kept .0) (second .kept .0))
 
 -- src/remove.rt:124:5
 compact-columns-requires : tie.Need-compact-columns-requires
-compact-columns-requires c κs = search needs
+compact-columns-requires c κs =
+    let s = c .before .before .before .before .before .before .before .before .before .before .before .before .before .before in
+    let t = now (s .args .t) in
+    let first = c .before .before .before .before .before .before .before .before .before .remap in
+    let second = c .before .before .before .before .remap2 in
+    let long = long-twice t (first .last .0) (second .last .0) (s .pre .0) (first .kept .0) (second .kept .0) in
+    (part-long 0 10240 (back 7168 1024 (back 6144 1024 t (first .last .0)) (second .last .0)) (omega arith), s .pre .1, omega (arith, c .compact-columns-arg2 .given, s .pre .1))
 
 -- src/remove.rt:117:1
 same-length : tie.Need-same-length
-same-length c = search needs
+same-length c =
+    let s = c .before .before .before .before .before .before .before .before .before .before .before .before .before .before .before .before .before in
+    let t = now (s .args .t) in
+    let first = c .before .before .before .before .before .before .before .before .before .before .before .before .remap in
+    let second = c .before .before .before .before .before .before .before .remap2 in
+    let third = c .before .before .compact-columns in
+    let long = long-twice t (first .last .0) (second .last .0) (s .pre .0) (first .kept .0) (second .kept .0) in
+    same-len-mid 0 10240 (back 7168 1024 (back 6144 1024 t (first .last .0)) (second .last .0)) (third .last .0) (third .kept .0) ∙ long ∙ sym (s .pre .0)
 
 -- src/remove.rt:117:1
 returns : tie.Need-returns
-returns c = search needs
+unfolding rowSlots rowColumns
+returns c = λ st g.
+    let s = c .before .before .before .before .before .before .before .before .before .before .before .before .before .before .before .before .before in
+    let t = now (s .args .t) in
+    let called = c .before .before .before .before .before .before .before .before .before .before .before .before .before .before .before .ranks in
+    let first = c .before .before .before .before .before .before .before .before .before .before .before .before .remap in
+    let second = c .before .before .before .before .before .before .before .remap2 in
+    let third = c .before .before .compact-columns in
+    rows-removed st g t (s .args .count) (now (s .args .marks)) (called .result) (first .last .0) (second .last .0) (third .last .0) (called .ensures) (first .ensures) (second .ensures) (third .ensures)
 
 pub remove-rows-spec : {M : Type 1} → statement M
 remove-rows-spec =
