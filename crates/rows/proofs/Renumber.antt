@@ -10,7 +10,7 @@ use native.Mathlib.Numerals.{add-one}
 use native.Mathlib.Omega.{arith}
 use lib.Dec.{eqb}
 use borrow.Author.Tests.{eqb-true}
-use lib.ListN.{length, getD, take, drop, set, replicate, length-set, length-map, length-replicate, List·getD-append}
+use lib.ListN.{length, getD, take, drop, set, length-set, length-map}
 use lib.Seq.{getD-set-same, getD-set-other, drop-cons, take-suc, set-at, getD-at, length-take-le}
 use Rattle.rows.specs.declared.Row.{Row}
 use Rattle.rows.specs.Lists.{any, all, filter, pad, laid, member, some, nonzero}
@@ -37,14 +37,13 @@ module _ (ms : List Bool) where
     pub next : j ≡ suc (lefts ms i)
     pub right : (s : ℕ) → s ≤ i → getD to s 0 ≡ movedTo ms s
 
-  pub rank-start : (n : ℕ) → 0 < n → Ranked n (replicate n 0) 0 1
+  pub rank-start : (to : List ℕ) → 0 < length to → Ranked (length (set to 0 0)) (set to 0 0) 0 1
   unfolding lefts movedTo
-  rank-start n h = record { len = length-replicate {A = ℕ} n 0; next = refl; right = zeroth n h }
+  rank-start to h = record { len = refl; next = refl; right = zeroth }
     where
-      zeroth : (n : ℕ) → 0 < n → (s : ℕ) → s ≤ 0 → getD (replicate n 0) s 0 ≡ movedTo ms s
-      zeroth zero h s k = absurd (not-suc-le-zero h)
-      zeroth (suc n) h zero k = refl
-      zeroth (suc n) h (suc s) k = absurd (not-suc-le-zero k)
+      zeroth : (s : ℕ) → s ≤ 0 → getD (set to 0 0) s 0 ≡ movedTo ms s
+      zeroth zero k = getD-set-same to 0 0 0 h
+      zeroth (suc s) k = absurd (not-suc-le-zero k)
 
   module _ (n : ℕ) (to : List ℕ) (i j : ℕ) (p : Ranked n to i j) (h : i + 1 < n) where
     more : (s : ℕ) → s ≤ suc i → getD (set to (suc i) j) s 0 ≡ movedTo ms s

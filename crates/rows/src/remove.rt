@@ -71,12 +71,12 @@ fn compact_columns(part: &mut [u32], size: usize, columns: usize, marks: &[bool]
     }
 }
 
-// What each slot plus 1 of the first slots becomes.
-fn ranks(marks: &[bool; 1024], count: usize) -> [u32; 1025]
-    requires { ⌜ count ≤ 1024 ⌝ }
-    ensures { λ r. ⌜ ((s : ℕ) → s ≤ count → getD r s 0 ≡ movedTo (now (marks .entry)) s) ⌝ }
+// Writes what each slot plus 1 of the first slots becomes; 0 stays 0.
+fn ranks(to: &mut [u32], marks: &[bool], count: usize)
+    requires { ⌜ (count ≤ 1024) × (count < length (now to)) × (count ≤ length (now marks)) ⌝ }
+    ensures { λ _. ⌜ ((s : ℕ) → s ≤ count → getD (now (to .exit)) s 0 ≡ movedTo (now (marks .entry)) s) ⌝ }
 {
-    let mut to = [0u32; 1025];
+    to[0] = 0;
     let mut i = 0;
     let mut j = 1;
     while i < count {
@@ -86,7 +86,6 @@ fn ranks(marks: &[bool; 1024], count: usize) -> [u32; 1025]
         }
         i += 1;
     }
-    to
 }
 
 // The word of a table, 0 past its end.
@@ -118,7 +117,8 @@ pub fn remove_rows(t: &mut [u32], count: usize, marks: &[bool; 1024])
     requires { ⌜ (length (now t) ≡ 11265) × (count ≤ 1024) ⌝ }
     ensures { λ _. ⌜ ((st : State) (g : List ℕ) → Lies st (now (t .entry)) → count ≡ length (st .rows) → now (marks .entry) ≡ pad false 1024 (marksOf g (st .rows)) → closedUnder g (st .rows) ≡ true → Lies (withRows (filter (λ r. not (member (r .number) g)) (st .rows)) st) (now (t .exit))) ⌝ }
 {
-    let to = ranks(marks, count);
+    let mut to = [0u32; 1025];
+    ranks(&mut to, marks, count);
     remap(&mut t[SOURCE..VIA], &to, count);
     remap(&mut t[VIA..DEPTH], &to, count);
     compact_columns(&mut t[0..Q_NUMBER], ROWS, 10, marks, count);

@@ -5,7 +5,7 @@ use mathlib.Core.Path.{_≡_, refl, sym, ap, _∙_}
 use mathlib.Core.Logic.{⊎-elim}
 use borrow.Author.Tests.{not-true, not-false}
 use denote.Ref.{now}
-use lib.ListN.{set}
+use lib.ListN.{length, set, length-set}
 use Rattle.rows.proofs.Renumber.{Ranked, rank-start, rank-left, rank-marked, lefts-le}
 use Rattle.rows.proofs.remove.ranks.Statement.{statement}
 use Rattle.rows.proofs.remove.ranks.Tie as tie
@@ -13,14 +13,18 @@ use Rattle.rows.proofs.remove.ranks.Reads as reads
 use Rattle.rows.proofs.remove.ranks.Lts as lts
 
 abbrev Inv-loop : tie.InvT-loop
-Inv-loop marks count to₀ i₀ j₀ to i j = (i ≤ count) × (j ≤ i + 1) × Ranked marks 1025 to i j
+Inv-loop to₀ marks count i₀ j₀ to i j = (i ≤ count) × (j ≤ i + 1) × Ranked marks (length to₀) to i j
 
 abbrev μ-loop : tie.MeasureT-loop
-μ-loop marks count to₀ i₀ j₀ to i j = count - i
+μ-loop to₀ marks count i₀ j₀ to i j = count - i
+
+-- src/remove.rt:79:5
+slice-write-to : tie.Need-slice-write-to Inv-loop μ-loop
+slice-write-to c = search needs
 
 -- src/remove.rt:82:5
 loop-holds : tie.Need-loop-holds Inv-loop μ-loop
-loop-holds c = (search needs, search needs, rank-start (now (c .args .marks)) 1025 (omega arith))
+loop-holds c = (search needs, search needs, rank-start (now (c .args .marks)) (now (c .args .to)) (omega (arith, c .pre .1)))
 
 -- src/remove.rt:83:12
 add-to : tie.Need-add-to Inv-loop μ-loop
@@ -31,12 +35,12 @@ mul-to : tie.Need-mul-to Inv-loop μ-loop
 mul-to c = search needs
 
 -- src/remove.rt:83:9
-array-write-to : tie.Need-array-write-to Inv-loop μ-loop
-array-write-to c = search needs
+slice-write-to-2 : tie.Need-slice-write-to-2 Inv-loop μ-loop
+slice-write-to-2 c = let s = c .before .before in omega (arith, c .before .loop .inv .2 .len, length-set (now (s .args .to)) 0 0, s .pre .1, c .loop-test .taken)
 
 -- src/remove.rt:84:13
-element-copy-out-if1 : tie.Need-element-copy-out-if1 Inv-loop μ-loop
-element-copy-out-if1 c = search needs
+shared-slice-read-if1 : tie.Need-shared-slice-read-if1 Inv-loop μ-loop
+shared-slice-read-if1 c = search needs
 
 -- src/remove.rt:85:13
 add-j : tie.Need-add-j Inv-loop μ-loop
@@ -54,13 +58,19 @@ loop-less c = search needs
 loop-again : tie.Need-loop-again Inv-loop μ-loop
 loop-again c =
     let b = c .before .before .before in
-    let ms = now (b .before .args .marks) in
-    let h : b .loop .i + 1 < 1025 = omega (arith, c .before .before .loop-test .taken, b .before .pre) in
-    let r : Ranked ms 1025 (set (b .loop .to) (b .loop .i + 1) (b .loop .j)) (b .loop .i + 1) (c .if1 .j) =
-    ⊎-elim (λ w. rw (w .1) (rank-left ms 1025 (b .loop .to) (b .loop .i) (b .loop .j) (b .loop .inv .2) h (not-true _ (w .0 .taken))))
-    (λ w. rw (w .1) (rank-marked ms 1025 (b .loop .to) (b .loop .i) (b .loop .j) (b .loop .inv .2) h (not-false _ (w .0 .left))))
+    let s = b .before in
+    let ms = now (s .args .marks) in
+    let n : ℕ = length (set (now (s .args .to)) 0 0) in
+    let h : b .loop .i + 1 < n = omega (arith, c .before .before .loop-test .taken, s .pre .1, length-set (now (s .args .to)) 0 0) in
+    let r : Ranked ms n (set (b .loop .to) (b .loop .i + 1) (b .loop .j)) (b .loop .i + 1) (c .if1 .j) =
+    ⊎-elim (λ w. rw (w .1) (rank-left ms n (b .loop .to) (b .loop .i) (b .loop .j) (b .loop .inv .2) h (not-true _ (w .0 .taken))))
+    (λ w. rw (w .1) (rank-marked ms n (b .loop .to) (b .loop .i) (b .loop .j) (b .loop .inv .2) h (not-false _ (w .0 .left))))
     (c .if1 .came) in
     (search needs, omega (arith, r .next, lefts-le ms (b .loop .i + 1)), r)
+
+-- src/remove.rt:75:1
+same-length : tie.Need-same-length Inv-loop μ-loop
+same-length c = c .before .loop .inv .2 .len ∙ length-set (now (c .before .before .args .to)) 0 0
 
 -- src/remove.rt:75:1
 returns : tie.Need-returns Inv-loop μ-loop
@@ -72,13 +82,15 @@ ranks-spec =
     (tie.spec
     Inv-loop
     μ-loop
+    slice-write-to
     loop-holds
     add-to
     mul-to
-    array-write-to
-    element-copy-out-if1
+    slice-write-to-2
+    shared-slice-read-if1
     add-j
     add-i
     loop-less
     loop-again
+    same-length
     returns)

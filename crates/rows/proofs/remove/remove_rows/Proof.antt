@@ -23,7 +23,11 @@ long-twice : (t ys zs : List ℕ) → length t ≡ 11265 → length ys ≡ lengt
     → length (back 7168 1024 (back 6144 1024 t ys) zs) ≡ 11265
 long-twice t ys zs e y z = same-len-mid 7168 1024 (back 6144 1024 t ys) zs z ∙ same-len-mid 6144 1024 t ys y ∙ e
 
--- src/remove.rt:121:14
+-- src/remove.rt:121:11
+slice-aggregate-ranks : tie.Need-slice-aggregate-ranks
+slice-aggregate-ranks c = search needs
+
+-- src/remove.rt:121:5
 ranks-requires : tie.Need-ranks-requires
 ranks-requires c κs = search needs
 
@@ -66,7 +70,7 @@ slice-aggregate-remap-2 c = search needs
 -- src/remove.rt:123:5
 remap-requires-2 : tie.Need-remap-requires-2
 remap-requires-2 c κs =
-    let s = c .before .before .before .before .before .before .before .before .before in
+    let s = c .before .before .before .before .before .before .before .before .before .before .before .before in
     let t = now (s .args .t) in
     let first = c .before .before .before .before .remap in
     let long : length (back 6144 1024 t (first .last .0)) ≡ 11265 = same-len-mid 6144 1024 t (first .last .0) (first .kept .0) ∙ s .pre .0 in
@@ -83,7 +87,7 @@ part-compact-columns-start c = search needs
 -- src/remove.rt:124:21
 part-compact-columns-end : tie.Need-part-compact-columns-end
 part-compact-columns-end c =
-    let s = c .before .before .before .before .before .before .before .before .before .before .before .before in
+    let s = c .before .before .before .before .before .before .before .before .before .before .before .before .before .before .before in
     let t = now (s .args .t) in
     let first = c .before .before .before .before .before .before .before .remap in
     let second = c .before .before .remap2 in
@@ -92,17 +96,17 @@ part-compact-columns-end c =
 -- src/remove.rt:124:5
 compact-columns-requires : tie.Need-compact-columns-requires
 compact-columns-requires c κs =
-    let s = c .before .before .before .before .before .before .before .before .before .before .before .before .before .before in
+    let s = c .before .before .before .before .before .before .before .before .before .before .before .before .before .before .before .before .before in
     let t = now (s .args .t) in
     let first = c .before .before .before .before .before .before .before .before .before .remap in
     let second = c .before .before .before .before .remap2 in
     let long = long-twice t (first .last .0) (second .last .0) (s .pre .0) (first .kept .0) (second .kept .0) in
     (part-long 0 10240 (back 7168 1024 (back 6144 1024 t (first .last .0)) (second .last .0)) (omega arith), s .pre .1, omega (arith, c .compact-columns-arg2 .given, s .pre .1))
 
--- src/remove.rt:117:1
+-- src/remove.rt:116:1
 same-length : tie.Need-same-length
 same-length c =
-    let s = c .before .before .before .before .before .before .before .before .before .before .before .before .before .before .before .before .before in
+    let s = c .before .before .before .before .before .before .before .before .before .before .before .before .before .before .before .before .before .before .before .before in
     let t = now (s .args .t) in
     let first = c .before .before .before .before .before .before .before .before .before .before .before .before .remap in
     let second = c .before .before .before .before .before .before .before .remap2 in
@@ -110,22 +114,23 @@ same-length c =
     let long = long-twice t (first .last .0) (second .last .0) (s .pre .0) (first .kept .0) (second .kept .0) in
     same-len-mid 0 10240 (back 7168 1024 (back 6144 1024 t (first .last .0)) (second .last .0)) (third .last .0) (third .kept .0) ∙ long ∙ sym (s .pre .0)
 
--- src/remove.rt:117:1
+-- src/remove.rt:116:1
 returns : tie.Need-returns
 unfolding rowSlots rowColumns
 returns c = λ st g.
-    let s = c .before .before .before .before .before .before .before .before .before .before .before .before .before .before .before .before .before in
+    let s = c .before .before .before .before .before .before .before .before .before .before .before .before .before .before .before .before .before .before .before .before in
     let t = now (s .args .t) in
-    let called = c .before .before .before .before .before .before .before .before .before .before .before .before .before .before .before .ranks in
+    let to = c .before .before .before .before .before .before .before .before .before .before .before .before .before .before .before .before .ranks in
     let first = c .before .before .before .before .before .before .before .before .before .before .before .before .remap in
     let second = c .before .before .before .before .before .before .before .remap2 in
     let third = c .before .before .compact-columns in
-    rows-removed st g t (s .args .count) (now (s .args .marks)) (called .result) (first .last .0) (second .last .0) (third .last .0) (called .ensures) (first .ensures) (second .ensures) (third .ensures)
+    rows-removed st g t (s .args .count) (now (s .args .marks)) (to .last .0) (first .last .0) (second .last .0) (third .last .0) (to .ensures) (first .ensures) (second .ensures) (third .ensures)
 
 pub remove-rows-spec : {M : Type 1} → statement M
 remove-rows-spec =
     tie.close
     (tie.spec
+    slice-aggregate-ranks
     ranks-requires
     sub-remap
     part-remap-start
