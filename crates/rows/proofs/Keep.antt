@@ -7,7 +7,7 @@ use native.Mathlib.Nat.{add-zero, zero-add, suc-add, not-suc-le-zero, le-of-suc-
 use native.Mathlib.Numerals.{add-one}
 use native.Mathlib.Omega.{arith}
 use lib.ListN.{length, getD, take, drop, set, length-append, length-set, take-append-drop}
-use lib.Seq.{take-suc, take-all, take-at, drop-at, drop-cons, drop-drop, take-suc-set, take-set-le, drop-set-lt, getD-drop, set-at, length-take-le}
+use lib.Seq.{take-suc, take-at, drop-at, drop-cons, drop-drop, take-suc-set, take-set-le, drop-set-lt, getD-drop, set-at, length-take-le}
 use Rattle.rows.specs.Lists.{filter, pad, laid}
 use Rattle.rows.specs.Marks.{tested, keep, compacted}
 
@@ -179,7 +179,7 @@ length-compacted ms n l h =
     ∙ omega (arith, length-pad 0 n (keep ms (take n l)) (omega (arith, length-keep ms (take n l), length-take-le n l h)), ap length (take-append-drop n l), length-append (take n l) (drop n l), length-take-le n l h)
 
 -- ---- a column of laid words
--- n slots at least are in use, m are past those that are looked at
+-- a padded column, of which the first n words are looked at and hold all that is not padding
 compacted-more : (ms : List Bool) (n m : ℕ) (l : List ℕ) → length l ≤ n → compacted ms n (pad 0 (n + m) l) ≡ pad 0 (n + m) (keep ms l)
 unfolding compacted
 compacted-more ms n m l h =

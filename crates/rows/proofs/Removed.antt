@@ -1,32 +1,34 @@
 -- Rows and requests removed: the state that is left lies well, and the words that the functions leave are its words.
-use Prim.Native.Nat.{ℕ, zero, suc, _+_, _*_, _<_, _≤_, zero-le, suc-le-suc}
-use mathlib.Core.Bool.{Bool, true, false, not, cond, _&&_, _||_}
-use mathlib.Core.List.{List, [], _∷_, _++_, append-assoc, map}
+use Prim.Native.Nat.{ℕ, zero, suc, _*_, _<_, _≤_, zero-le, suc-le-suc}
+use mathlib.Core.Bool.{Bool, true, false, not, cond, _||_}
+use mathlib.Core.List.{List, [], _∷_, _++_, map}
 use mathlib.Core.Path.{_≡_, refl, ap, sym, subst, _∙_}
 use native.Mathlib.Nat.{le-refl, le-step}
 use native.Mathlib.Decide.{ℕ-discrete}
 use native.Mathlib.Omega.{arith}
-use lib.Dec.{leb, ltb, eqb}
+use lib.Dec.{leb, eqb}
 use borrow.Author.Tests.{leb-true, le-leb}
-use lib.ListN.{length, getD, take, drop, length-append}
+use lib.ListN.{length, getD, take, drop}
 use lib.Seq.{take-at, drop-at}
 use Rattle.rows.specs.declared.Row.{Row}
 use Rattle.rows.specs.declared.Request.{Request}
-use Rattle.rows.specs.Lists.{filter, any, all, each, topOf, rises, pad, laid, member}
+use Rattle.rows.specs.Lists.{filter, any, all, each, firstWith, topOf, rises, pad, laid, member}
 use Rattle.rows.specs.Limits.{rowSlots, requestSlots, mostItems}
-use Rattle.rows.specs.Tables.{State, numbers, sources}
+use Rattle.rows.specs.Tables.{State, noRow, rowOf, numbers, sources, marked}
 use Rattle.rows.specs.Sound.{rowsRise, requestsRise, rowsFit, requestsFit, itemsFew}
-use Rattle.rows.specs.Layout.{rowColumns, requestColumns, requestsAt, nextAt, tablesLength, sourceSlot, rowWord, requestWord, rowWords, requestWords, wordsOf}
+use Rattle.rows.specs.Layout.{rowColumns, requestColumns, requestsAt, sourceSlot, rowWord, requestWord, rowWords, requestWords, wordsOf}
 use Rattle.rows.specs.Lies.{sourcesOlder, laidWell, Lies, withRows, withRequests}
 use Rattle.rows.specs.Marks.{tested, marksOf, closedUnder, compacted, compactedParts, movedTo, remapped}
-use Rattle.rows.proofs.Bools.{clash, and-l, and-r, and-i, not-t, all-filter, all-not, all-and}
-use Rattle.rows.proofs.Keyed.{keys-filter, rises-first, rises-rest, rises-cons}
+use Rattle.rows.proofs.Bools.{and-l, and-r, and-i, or-l, or-r, all-filter, all-not, all-and}
+use Rattle.rows.proofs.Keyed.{first-key, keys-filter, rises-first, rises-rest, rises-cons}
+use Rattle.rows.proofs.Agree.{Agree, agree-found}
+use Rattle.rows.proofs.Marking.{marked-closed}
 use Rattle.rows.proofs.LayoutColumns.{columns, length-columns}
 use Rattle.rows.proofs.LayoutRows.{row-columns}
 use Rattle.rows.proofs.LayoutRequests.{request-columns}
 use Rattle.rows.proofs.Keep.{left, Fits, compacted-laid, fits-plain}
 use Rattle.rows.proofs.Renumber.{remapped-laid, Begins, pad-begins, goes, fits-source, first-out, second-out}
-use Rattle.rows.proofs.Parts.{part-lent, part-back, put, put-here, put-else, column, column-lent, column-back, columns-compacted}
+use Rattle.rows.proofs.Parts.{part-lent, part-back, put, put-here, put-else, column-lent, column-back, columns-compacted}
 
 -- ---- what is left lies well
 module _ {A : Type 0} (p : A → Bool) where
@@ -310,3 +312,31 @@ requests-removed st f t ms ys y lies marks =
         ap (λ (l : List Bool). compacted l requestSlots (pad 0 requestSlots (laid (requestWord c) vs))) marks
         ∙ compacted-laid f (requestWord c) (requestWord c) requestSlots requestSlots requestSlots vs few (le-refl requestSlots) (fits-plain f (requestWord c) (request-plain c) vs))
         ∙ sym (request-columns requestColumns (left f vs)))
+
+-- ---- what is marked is closed, and marks that agree are the same
+pub tested-agree : {A : Type 0} (f g : A → Bool) (xs : List A) → Agree f g xs → tested f xs ≡ tested g xs
+unfolding tested
+tested-agree f g [] a = refl
+tested-agree f g (x ∷ xs) a = rw (a .0, tested-agree f g xs (a .1)) refl
+
+all-agree : {A : Type 0} (f : A → Bool) (xs : List A) → Agree f (λ x. true) xs → all f xs ≡ true
+unfolding all
+all-agree f [] a = refl
+all-agree f (x ∷ xs) a = and-i (f x) (all f xs) (a .0) (all-agree f xs (a .1))
+
+pub marked-under : (f : Row → Bool) (rs : List Row) → rises (λ r. r .number) rs ≡ true → sourcesOlder rs ≡ true → closedUnder (marked f rs) rs ≡ true
+unfolding closedUnder rowOf numbers
+marked-under f rs up old =
+    all-agree spared rs
+    (agree-found (λ r. r .number) noRow spared (λ r. true) rs up
+    (λ n t.
+    let x = firstWith (λ r. r .number) noRow rs n in
+    pick x (f x) (any (λ s. member s (marked f rs)) (sources x)) refl (ap (λ (k : ℕ). member k (marked f rs)) (first-key (λ r. r .number) noRow rs n t) ∙ marked-closed f rs up old n t)))
+  where
+    spared : Row → Bool
+    spared r = member (r .number) (marked f rs) || not (any (λ s. member s (marked f rs)) (sources r))
+
+    pick : (x : Row) (a b : Bool) → any (λ s. member s (marked f rs)) (sources x) ≡ b → member (x .number) (marked f rs) ≡ a || b
+        → member (x .number) (marked f rs) || not (any (λ s. member s (marked f rs)) (sources x)) ≡ true
+    pick x a true q e = or-l (member (x .number) (marked f rs)) _ (e ∙ or-r a true refl)
+    pick x a false q e = or-r (member (x .number) (marked f rs)) _ (ap not q)

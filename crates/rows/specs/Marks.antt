@@ -1,6 +1,6 @@
 -- Marks of what is to be removed, one for each slot, oldest first; what is left, and the slots that it moves to.
 use Prim.Native.Nat.{ℕ, zero, suc, _*_}
-use mathlib.Core.Bool.{Bool, true, false, not, _&&_, _||_}
+use mathlib.Core.Bool.{Bool, false, not, _||_}
 use mathlib.Core.List.{List, [], _∷_, _++_, map}
 use lib.ListN.{getD, take, drop}
 use Rattle.rows.specs.declared.Row.{Row}

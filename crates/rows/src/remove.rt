@@ -11,7 +11,6 @@ ghost use mathlib.Core.Bool.{Bool, true, false, not};
 ghost use mathlib.Core.List.{List, _++_};
 ghost use Prim.Native.Nat.{ℕ, _≤_, _<_, _*_};
 ghost use lib.ListN.{length, getD, take, drop};
-ghost use Rattle.rows.specs.declared.Row.{Row};
 ghost use Rattle.rows.specs.declared.Request.{Request};
 ghost use Rattle.rows.specs.Lists.{filter, pad, member};
 ghost use Rattle.rows.specs.Tables.{State};

@@ -1,16 +1,15 @@
+-- The words from one place to another become 0: the invariant says the whole column.
 use borrow.Author.Needs.{needs}
-use Prim.Native.Nat.{ℕ, _≤_, _<_, _-_, _+_}
+use Prim.Native.Nat.{_≤_, _-_}
 use native.Mathlib.Omega.{arith}
-use mathlib.Core.List.{List, _++_}
-use mathlib.Core.Path.{_≡_, refl, sym, ap, _∙_}
+use mathlib.Core.List.{_++_}
+use mathlib.Core.Path.{_≡_, refl, _∙_}
 use denote.Ref.{now}
 use lib.ListN.{length, take, drop, length-set}
 use Rattle.rows.specs.Lists.{pad}
 use Rattle.rows.proofs.Keep.{clear-start, clear-turn}
 use Rattle.rows.proofs.remove.clear.Statement.{statement}
 use Rattle.rows.proofs.remove.clear.Tie as tie
-use Rattle.rows.proofs.remove.clear.Reads as reads
-use Rattle.rows.proofs.remove.clear.Lts as lts
 
 abbrev Inv-loop : tie.InvT-loop
 Inv-loop column₀ from to i₀ column i = (from ≤ i) × (i ≤ to) × (length column ≡ length column₀) × (column ≡ pad 0 i (take from column₀) ++ drop i column₀)
@@ -18,27 +17,21 @@ Inv-loop column₀ from to i₀ column i = (from ≤ i) × (i ≤ to) × (length
 abbrev μ-loop : tie.MeasureT-loop
 μ-loop column₀ from to i₀ column i = to - i
 
--- src/remove.rt:46:5
 loop-holds : tie.Need-loop-holds Inv-loop μ-loop
 loop-holds c = (search needs, search needs, refl, clear-start 0 _ _ (omega arith))
 
--- src/remove.rt:47:9
 mul-column : tie.Need-mul-column Inv-loop μ-loop
 mul-column c = search needs
 
--- src/remove.rt:47:9
 slice-write-column : tie.Need-slice-write-column Inv-loop μ-loop
 slice-write-column c = search needs
 
--- src/remove.rt:48:9
 add-i : tie.Need-add-i Inv-loop μ-loop
 add-i c = search needs
 
--- src/remove.rt:46:5
 loop-less : tie.Need-loop-less Inv-loop μ-loop
 loop-less c = search needs
 
--- src/remove.rt:46:5
 loop-again : tie.Need-loop-again Inv-loop μ-loop
 loop-again c =
     let b = c .before in
@@ -47,11 +40,9 @@ loop-again c =
     let room : s .args .from ≤ length column = omega (arith, s .pre .0, s .pre .1) in
     (search needs, search needs, length-set (b .loop .column) (b .loop .i) 0 ∙ b .loop .inv .2, clear-turn 0 column (s .args .from) room (b .loop .column) (b .loop .i) (b .loop .inv .0) (omega (arith, c .loop-test .taken, s .pre .1)) (b .loop .inv .3))
 
--- src/remove.rt:41:1
 same-length : tie.Need-same-length Inv-loop μ-loop
 same-length c = search needs
 
--- src/remove.rt:41:1
 returns : tie.Need-returns Inv-loop μ-loop
 returns c =
     let b = c .before in

@@ -1,28 +1,19 @@
+-- The two loops one after the other.
 use borrow.Author.Needs.{needs}
-use Prim.Native.Nat.{ℕ, _≤_, _<_, _-_, _+_}
-use native.Mathlib.Omega.{arith}
 use denote.Ref.{now}
 use Rattle.rows.proofs.Keep.{compacted-is}
 use Rattle.rows.proofs.remove.compact_column.Statement.{statement}
 use Rattle.rows.proofs.remove.compact_column.Tie as tie
-use Rattle.rows.proofs.remove.compact_column.Reads as reads
-use Rattle.rows.proofs.remove.compact_column.Lts as lts
-use Rattle.rows.proofs.remove.clear.Reads as clear-reads
-use Rattle.rows.proofs.remove.gather.Reads as gather-reads
 
--- src/remove.rt:56:9
 gather-requires : tie.Need-gather-requires
 gather-requires c κs = search needs
 
--- src/remove.rt:57:5
 clear-requires : tie.Need-clear-requires
 clear-requires c κs = search needs
 
--- src/remove.rt:52:1
 same-length : tie.Need-same-length
 same-length c = search needs
 
--- src/remove.rt:52:1
 returns : tie.Need-returns
 returns c =
     let s = c .before .before .before .before .before .before .before .before .before .before in

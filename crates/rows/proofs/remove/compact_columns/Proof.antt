@@ -1,7 +1,8 @@
+-- The columns passed are compacted, the others are as they were.
 use borrow.Author.Needs.{needs}
-use Prim.Native.Nat.{ℕ, _≤_, _<_, _-_, _+_}
+use Prim.Native.Nat.{ℕ, _≤_, _-_, _+_}
 use native.Mathlib.Omega.{arith}
-use mathlib.Core.Path.{_≡_, refl, sym, ap, _∙_}
+use mathlib.Core.Path.{_≡_, refl, _∙_}
 use Prim.Native.Nat.{_*_}
 use borrow.Rule.Slice.PartMut.{same-len-mid}
 use denote.Ref.{now}
@@ -9,9 +10,6 @@ use lib.ListN.{length}
 use Rattle.rows.proofs.Parts.{Done, column-end, parts-start, parts-long, parts-turn, parts-end}
 use Rattle.rows.proofs.remove.compact_columns.Statement.{statement}
 use Rattle.rows.proofs.remove.compact_columns.Tie as tie
-use Rattle.rows.proofs.remove.compact_columns.Reads as reads
-use Rattle.rows.proofs.remove.compact_columns.Lts as lts
-use Rattle.rows.proofs.remove.compact_column.Reads as compact-column-reads
 
 abbrev Inv-loop : tie.InvT-loop
 Inv-loop part₀ size columns marks count c₀ part c = (c ≤ columns) × (length part ≡ length part₀) × Done marks count size part₀ part c
@@ -19,35 +17,27 @@ Inv-loop part₀ size columns marks count c₀ part c = (c ≤ columns) × (leng
 abbrev μ-loop : tie.MeasureT-loop
 μ-loop part₀ size columns marks count c₀ part c = columns - c
 
--- src/remove.rt:66:5
 loop-holds : tie.Need-loop-holds Inv-loop μ-loop
 loop-holds c = let s = c .before .before in (search needs, refl, parts-start (now (s .args .marks)) (s .args .count) (s .args .size) (now (s .args .part)))
 
--- src/remove.rt:67:17
 mul-a : tie.Need-mul-a Inv-loop μ-loop
 mul-a c = let s = c .before .before .before .before in omega (arith, column-end (s .args .size) (c .before .loop .c) (s .args .columns) (c .loop-test .taken))
 
--- src/remove.rt:68:17
 add-e : tie.Need-add-e Inv-loop μ-loop
 add-e c = let s = c .before .before .before .before in omega (arith, column-end (s .args .size) (c .before .loop .c) (s .args .columns) (c .loop-test .taken))
 
--- src/remove.rt:69:24
 mul-compact-column : tie.Need-mul-compact-column Inv-loop μ-loop
 mul-compact-column c = let s = c .before .before .before .before in let h = column-end (s .args .size) (c .before .loop .c) (s .args .columns) (c .loop-test .taken) in search needs
 
--- src/remove.rt:69:24
 sub-compact-column : tie.Need-sub-compact-column Inv-loop μ-loop
 sub-compact-column c = search needs
 
--- src/remove.rt:69:24
 part-compact-column-start : tie.Need-part-compact-column-start Inv-loop μ-loop
 part-compact-column-start c = let s = c .before .before .before .before in omega (arith, column-end (s .args .size) (c .before .loop .c) (s .args .columns) (c .loop-test .taken))
 
--- src/remove.rt:69:24
 part-compact-column-end : tie.Need-part-compact-column-end Inv-loop μ-loop
 part-compact-column-end c = let s = c .before .before .before .before in omega (arith, column-end (s .args .size) (c .before .loop .c) (s .args .columns) (c .loop-test .taken))
 
--- src/remove.rt:69:9
 compact-column-requires : tie.Need-compact-column-requires Inv-loop μ-loop
 compact-column-requires c κs =
     let b = c .before .before in
@@ -60,15 +50,12 @@ compact-column-requires c κs =
     let long = parts-long (now (s .args .marks)) (s .args .count) k part (s .pre .1) (b .loop .part) (b .loop .c) ends (b .loop .inv .2) in
     (rw w (omega (arith, long, s .pre .1)), s .pre .2)
 
--- src/remove.rt:70:9
 add-c : tie.Need-add-c Inv-loop μ-loop
 add-c c = search needs
 
--- src/remove.rt:66:5
 loop-less : tie.Need-loop-less Inv-loop μ-loop
 loop-less c = search needs
 
--- src/remove.rt:66:5
 loop-again : tie.Need-loop-again Inv-loop μ-loop
 loop-again c =
     let b = c .before .before .before .before .before in
@@ -84,11 +71,9 @@ loop-again c =
       rw w (parts-turn (now (s .args .marks)) (s .args .count) k part (s .pre .1) (b .loop .part) (b .loop .c) ends (b .loop .inv .2) (called .last .0) (rw w at (called .ensures))),
     )
 
--- src/remove.rt:61:1
 same-length : tie.Need-same-length Inv-loop μ-loop
 same-length c = search needs
 
--- src/remove.rt:61:1
 returns : tie.Need-returns Inv-loop μ-loop
 returns c =
     let b = c .before in

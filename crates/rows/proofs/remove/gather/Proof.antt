@@ -1,7 +1,8 @@
+-- What is kept of the words passed stands in front, and what is not passed is as it was.
 use borrow.Author.Needs.{needs}
-use Prim.Native.Nat.{ℕ, _≤_, _<_, _-_, _+_}
+use Prim.Native.Nat.{_≤_, _<_, _-_, _+_}
 use native.Mathlib.Omega.{arith}
-use mathlib.Core.Path.{_≡_, refl, sym, ap, _∙_}
+use mathlib.Core.Path.{_≡_}
 use mathlib.Core.Logic.{⊎-elim}
 use borrow.Author.Tests.{not-true, not-false}
 use denote.Ref.{now}
@@ -9,8 +10,6 @@ use lib.ListN.{length, getD, set}
 use Rattle.rows.proofs.Keep.{Passed, gather-start, gather-left, gather-marked}
 use Rattle.rows.proofs.remove.gather.Statement.{statement}
 use Rattle.rows.proofs.remove.gather.Tie as tie
-use Rattle.rows.proofs.remove.gather.Reads as reads
-use Rattle.rows.proofs.remove.gather.Lts as lts
 
 abbrev Inv-loop : tie.InvT-loop
 Inv-loop column₀ marks count i₀ j₀ column i j = (i ≤ count) × (j ≤ i) × Passed 0 marks column₀ column i j
@@ -18,43 +17,33 @@ Inv-loop column₀ marks count i₀ j₀ column i j = (i ≤ count) × (j ≤ i)
 abbrev μ-loop : tie.MeasureT-loop
 μ-loop column₀ marks count i₀ j₀ column i j = count - i
 
--- src/remove.rt:30:5
 loop-holds : tie.Need-loop-holds Inv-loop μ-loop
 loop-holds c = (search needs, search needs, gather-start 0 _ _)
 
--- src/remove.rt:31:21
 mul-column : tie.Need-mul-column Inv-loop μ-loop
 mul-column c = search needs
 
--- src/remove.rt:31:21
 slice-read-column : tie.Need-slice-read-column Inv-loop μ-loop
 slice-read-column c = search needs
 
--- src/remove.rt:31:9
 mul-column-2 : tie.Need-mul-column-2 Inv-loop μ-loop
 mul-column-2 c = search needs
 
--- src/remove.rt:31:9
 slice-write-column : tie.Need-slice-write-column Inv-loop μ-loop
 slice-write-column c = search needs
 
--- src/remove.rt:32:13
 shared-slice-read-if1 : tie.Need-shared-slice-read-if1 Inv-loop μ-loop
 shared-slice-read-if1 c = search needs
 
--- src/remove.rt:33:13
 add-j : tie.Need-add-j Inv-loop μ-loop
 add-j c = search needs
 
--- src/remove.rt:35:9
 add-i : tie.Need-add-i Inv-loop μ-loop
 add-i c = search needs
 
--- src/remove.rt:30:5
 loop-less : tie.Need-loop-less Inv-loop μ-loop
 loop-less c = search needs
 
--- src/remove.rt:30:5
 loop-again : tie.Need-loop-again Inv-loop μ-loop
 loop-again c =
     let b = c .before .before .before .before in
@@ -66,11 +55,9 @@ loop-again c =
     (c .if1 .came) in
     (search needs, omega (arith, p .back), p)
 
--- src/remove.rt:22:1
 same-length : tie.Need-same-length Inv-loop μ-loop
 same-length c = search needs
 
--- src/remove.rt:22:1
 returns : tie.Need-returns Inv-loop μ-loop
 returns c =
     let b = c .before in

@@ -1,7 +1,8 @@
+-- The slots passed have their new numbers, and j is the next.
 use borrow.Author.Needs.{needs}
 use Prim.Native.Nat.{ℕ, _≤_, _<_, _-_, _+_}
 use native.Mathlib.Omega.{arith}
-use mathlib.Core.Path.{_≡_, refl, sym, ap, _∙_}
+use mathlib.Core.Path.{_∙_}
 use mathlib.Core.Logic.{⊎-elim}
 use borrow.Author.Tests.{not-true, not-false}
 use denote.Ref.{now}
@@ -9,8 +10,6 @@ use lib.ListN.{length, set, length-set}
 use Rattle.rows.proofs.Renumber.{Ranked, rank-start, rank-left, rank-marked, lefts-le}
 use Rattle.rows.proofs.remove.ranks.Statement.{statement}
 use Rattle.rows.proofs.remove.ranks.Tie as tie
-use Rattle.rows.proofs.remove.ranks.Reads as reads
-use Rattle.rows.proofs.remove.ranks.Lts as lts
 
 abbrev Inv-loop : tie.InvT-loop
 Inv-loop to₀ marks count i₀ j₀ to i j = (i ≤ count) × (j ≤ i + 1) × Ranked marks (length to₀) to i j
@@ -18,43 +17,33 @@ Inv-loop to₀ marks count i₀ j₀ to i j = (i ≤ count) × (j ≤ i + 1) × 
 abbrev μ-loop : tie.MeasureT-loop
 μ-loop to₀ marks count i₀ j₀ to i j = count - i
 
--- src/remove.rt:79:5
 slice-write-to : tie.Need-slice-write-to Inv-loop μ-loop
 slice-write-to c = search needs
 
--- src/remove.rt:82:5
 loop-holds : tie.Need-loop-holds Inv-loop μ-loop
 loop-holds c = (search needs, search needs, rank-start (now (c .args .marks)) (now (c .args .to)) (omega (arith, c .pre .1)))
 
--- src/remove.rt:83:12
 add-to : tie.Need-add-to Inv-loop μ-loop
 add-to c = search needs
 
--- src/remove.rt:83:9
 mul-to : tie.Need-mul-to Inv-loop μ-loop
 mul-to c = search needs
 
--- src/remove.rt:83:9
 slice-write-to-2 : tie.Need-slice-write-to-2 Inv-loop μ-loop
 slice-write-to-2 c = let s = c .before .before in omega (arith, c .before .loop .inv .2 .len, length-set (now (s .args .to)) 0 0, s .pre .1, c .loop-test .taken)
 
--- src/remove.rt:84:13
 shared-slice-read-if1 : tie.Need-shared-slice-read-if1 Inv-loop μ-loop
 shared-slice-read-if1 c = search needs
 
--- src/remove.rt:85:13
 add-j : tie.Need-add-j Inv-loop μ-loop
 add-j c = search needs
 
--- src/remove.rt:87:9
 add-i : tie.Need-add-i Inv-loop μ-loop
 add-i c = search needs
 
--- src/remove.rt:82:5
 loop-less : tie.Need-loop-less Inv-loop μ-loop
 loop-less c = search needs
 
--- src/remove.rt:82:5
 loop-again : tie.Need-loop-again Inv-loop μ-loop
 loop-again c =
     let b = c .before .before .before in
@@ -68,11 +57,9 @@ loop-again c =
     (c .if1 .came) in
     (search needs, omega (arith, r .next, lefts-le ms (b .loop .i + 1)), r)
 
--- src/remove.rt:75:1
 same-length : tie.Need-same-length Inv-loop μ-loop
 same-length c = c .before .loop .inv .2 .len ∙ length-set (now (c .before .before .args .to)) 0 0
 
--- src/remove.rt:75:1
 returns : tie.Need-returns Inv-loop μ-loop
 returns c = λ s h. c .before .loop .inv .2 .right s (omega (arith, c .loop-test .left))
 

@@ -1,16 +1,14 @@
+-- The words passed are looked up, the others are as they were.
 use borrow.Author.Needs.{needs}
-use Prim.Native.Nat.{ℕ, _≤_, _<_, _-_, _+_}
+use Prim.Native.Nat.{ℕ, _≤_, _-_, _+_}
 use native.Mathlib.Omega.{arith}
-use mathlib.Core.Path.{_≡_, refl, sym, ap, subst, _∙_}
+use mathlib.Core.Path.{_≡_, refl, sym, subst, _∙_}
 use denote.Ref.{now}
 use lib.ListN.{length, getD, set, length-set}
 use Rattle.rows.specs.Marks.{remapped}
 use Rattle.rows.proofs.Renumber.{Mapped, map-turn}
 use Rattle.rows.proofs.remove.remap.Statement.{statement}
 use Rattle.rows.proofs.remove.remap.Tie as tie
-use Rattle.rows.proofs.remove.remap.Reads as reads
-use Rattle.rows.proofs.remove.remap.Lts as lts
-use Rattle.rows.proofs.remove.to_at.Reads as to-at-reads
 
 abbrev Inv-loop : tie.InvT-loop
 Inv-loop column₀ to count i₀ column i = (i ≤ count) × (length column ≡ length column₀) × Mapped (λ (s : ℕ). getD to s 0) column₀ column i
@@ -18,39 +16,30 @@ Inv-loop column₀ to count i₀ column i = (i ≤ count) × (length column ≡ 
 abbrev μ-loop : tie.MeasureT-loop
 μ-loop column₀ to count i₀ column i = count - i
 
--- src/remove.rt:108:5
 loop-holds : tie.Need-loop-holds Inv-loop μ-loop
 loop-holds c = (search needs, refl, refl)
 
--- src/remove.rt:109:17
 mul-s : tie.Need-mul-s Inv-loop μ-loop
 mul-s c = search needs
 
--- src/remove.rt:109:17
 slice-read-s : tie.Need-slice-read-s Inv-loop μ-loop
 slice-read-s c = search needs
 
--- src/remove.rt:110:21
 to-at-requires : tie.Need-to-at-requires Inv-loop μ-loop
 to-at-requires c κs = search needs
 
--- src/remove.rt:110:9
 mul-column : tie.Need-mul-column Inv-loop μ-loop
 mul-column c = search needs
 
--- src/remove.rt:110:9
 slice-write-column : tie.Need-slice-write-column Inv-loop μ-loop
 slice-write-column c = search needs
 
--- src/remove.rt:111:9
 add-i : tie.Need-add-i Inv-loop μ-loop
 add-i c = search needs
 
--- src/remove.rt:108:5
 loop-less : tie.Need-loop-less Inv-loop μ-loop
 loop-less c = search needs
 
--- src/remove.rt:108:5
 loop-again : tie.Need-loop-again Inv-loop μ-loop
 loop-again c =
     let b = c .before .before .before in
@@ -62,11 +51,9 @@ loop-again c =
           (map-turn g (now (s .args .column)) (b .loop .column) (b .loop .i) (omega (arith, c .before .before .loop-test .taken, s .pre)) (b .loop .inv .2)),
     )
 
--- src/remove.rt:103:1
 same-length : tie.Need-same-length Inv-loop μ-loop
 same-length c = search needs
 
--- src/remove.rt:103:1
 returns : tie.Need-returns Inv-loop μ-loop
 unfolding remapped
 returns c =

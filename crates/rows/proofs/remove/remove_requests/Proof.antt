@@ -1,37 +1,27 @@
+-- The requests' columns are lent as one part, and come back compacted.
 use borrow.Author.Needs.{needs}
-use Prim.Native.Nat.{ℕ, _≤_, _<_, _-_, _+_}
-use native.Mathlib.Omega.{arith}
 use denote.Ref.{now}
 use Rattle.rows.specs.Limits.{rowSlots, requestSlots}
 use Rattle.rows.specs.Layout.{rowColumns, requestColumns, requestsAt}
 use Rattle.rows.proofs.Removed.{requests-removed}
 use Rattle.rows.proofs.remove.remove_requests.Statement.{statement}
 use Rattle.rows.proofs.remove.remove_requests.Tie as tie
-use Rattle.rows.proofs.remove.remove_requests.Reads as reads
-use Rattle.rows.proofs.remove.remove_requests.Lts as lts
-use Rattle.rows.proofs.remove.compact_columns.Reads as compact-columns-reads
 
--- src/remove.rt:133:21
 sub-compact-columns : tie.Need-sub-compact-columns
 sub-compact-columns c = search needs
 
--- src/remove.rt:133:21
 part-compact-columns-start : tie.Need-part-compact-columns-start
 part-compact-columns-start c = search needs
 
--- src/remove.rt:133:21
 part-compact-columns-end : tie.Need-part-compact-columns-end
 part-compact-columns-end c = search needs
 
--- src/remove.rt:133:5
 compact-columns-requires : tie.Need-compact-columns-requires
 compact-columns-requires c κs = search needs
 
--- src/remove.rt:129:1
 same-length : tie.Need-same-length
 same-length c = search needs
 
--- src/remove.rt:129:1
 returns : tie.Need-returns
 unfolding requestSlots requestColumns requestsAt rowColumns rowSlots
 returns c = λ st f lies marks.

@@ -1,7 +1,8 @@
+-- The two source columns are lent one after the other, then all columns of the rows; what comes back is the words of the rows that are left.
 use borrow.Author.Needs.{needs}
-use Prim.Native.Nat.{ℕ, _≤_, _<_, _-_, _+_}
+use Prim.Native.Nat.{ℕ}
 use native.Mathlib.Omega.{arith}
-use mathlib.Core.Path.{_≡_, refl, sym, ap, _∙_}
+use mathlib.Core.Path.{_≡_, sym, _∙_}
 use mathlib.Core.List.{List}
 use borrow.Rule.Slice.PartMut.{midOf, same-len-mid}
 use denote.Ref.{now}
@@ -12,62 +13,45 @@ use Rattle.rows.proofs.Parts.{part-long}
 use Rattle.rows.proofs.Removed.{back, rows-removed}
 use Rattle.rows.proofs.remove.remove_rows.Statement.{statement}
 use Rattle.rows.proofs.remove.remove_rows.Tie as tie
-use Rattle.rows.proofs.remove.remove_rows.Reads as reads
-use Rattle.rows.proofs.remove.remove_rows.Lts as lts
-use Rattle.rows.proofs.remove.compact_columns.Reads as compact-columns-reads
-use Rattle.rows.proofs.remove.ranks.Reads as ranks-reads
-use Rattle.rows.proofs.remove.remap.Reads as remap-reads
 
 -- two columns were lent and came back
 long-twice : (t ys zs : List ℕ) → length t ≡ 11265 → length ys ≡ length (midOf 6144 1024 t) → length zs ≡ length (midOf 7168 1024 (back 6144 1024 t ys))
     → length (back 7168 1024 (back 6144 1024 t ys) zs) ≡ 11265
 long-twice t ys zs e y z = same-len-mid 7168 1024 (back 6144 1024 t ys) zs z ∙ same-len-mid 6144 1024 t ys y ∙ e
 
--- src/remove.rt:121:11
 slice-aggregate-ranks : tie.Need-slice-aggregate-ranks
 slice-aggregate-ranks c = search needs
 
--- src/remove.rt:121:5
 ranks-requires : tie.Need-ranks-requires
 ranks-requires c κs = search needs
 
--- src/remove.rt:122:11
 sub-remap : tie.Need-sub-remap
 sub-remap c = search needs
 
--- src/remove.rt:122:11
 part-remap-start : tie.Need-part-remap-start
 part-remap-start c = search needs
 
--- src/remove.rt:122:11
 part-remap-end : tie.Need-part-remap-end
 part-remap-end c = search needs
 
--- src/remove.rt:122:32
 slice-aggregate-remap : tie.Need-slice-aggregate-remap
 slice-aggregate-remap c = search needs
 
--- src/remove.rt:122:5
 remap-requires : tie.Need-remap-requires
 remap-requires c κs = search needs
 
--- src/remove.rt:123:11
 sub-remap-2 : tie.Need-sub-remap-2
 sub-remap-2 c = search needs
 
--- src/remove.rt:123:11
 part-remap-start-2 : tie.Need-part-remap-start-2
 part-remap-start-2 c = search needs
 
--- src/remove.rt:123:11
 part-remap-end-2 : tie.Need-part-remap-end-2
 part-remap-end-2 c = search needs
 
--- src/remove.rt:123:31
 slice-aggregate-remap-2 : tie.Need-slice-aggregate-remap-2
 slice-aggregate-remap-2 c = search needs
 
--- src/remove.rt:123:5
 remap-requires-2 : tie.Need-remap-requires-2
 remap-requires-2 c κs =
     let s = c .before .before .before .before .before .before .before .before .before .before .before .before in
@@ -76,15 +60,12 @@ remap-requires-2 c κs =
     let long : length (back 6144 1024 t (first .last .0)) ≡ 11265 = same-len-mid 6144 1024 t (first .last .0) (first .kept .0) ∙ s .pre .0 in
     omega (arith, part-long 7168 1024 (back 6144 1024 t (first .last .0)) (omega arith), s .pre .1)
 
--- src/remove.rt:124:21
 sub-compact-columns : tie.Need-sub-compact-columns
 sub-compact-columns c = search needs
 
--- src/remove.rt:124:21
 part-compact-columns-start : tie.Need-part-compact-columns-start
 part-compact-columns-start c = search needs
 
--- src/remove.rt:124:21
 part-compact-columns-end : tie.Need-part-compact-columns-end
 part-compact-columns-end c =
     let s = c .before .before .before .before .before .before .before .before .before .before .before .before .before .before .before in
@@ -93,7 +74,6 @@ part-compact-columns-end c =
     let second = c .before .before .remap2 in
     omega (arith, long-twice t (first .last .0) (second .last .0) (s .pre .0) (first .kept .0) (second .kept .0))
 
--- src/remove.rt:124:5
 compact-columns-requires : tie.Need-compact-columns-requires
 compact-columns-requires c κs =
     let s = c .before .before .before .before .before .before .before .before .before .before .before .before .before .before .before .before .before in
@@ -103,7 +83,6 @@ compact-columns-requires c κs =
     let long = long-twice t (first .last .0) (second .last .0) (s .pre .0) (first .kept .0) (second .kept .0) in
     (part-long 0 10240 (back 7168 1024 (back 6144 1024 t (first .last .0)) (second .last .0)) (omega arith), s .pre .1, omega (arith, c .compact-columns-arg2 .given, s .pre .1))
 
--- src/remove.rt:116:1
 same-length : tie.Need-same-length
 same-length c =
     let s = c .before .before .before .before .before .before .before .before .before .before .before .before .before .before .before .before .before .before .before .before in
@@ -114,7 +93,6 @@ same-length c =
     let long = long-twice t (first .last .0) (second .last .0) (s .pre .0) (first .kept .0) (second .kept .0) in
     same-len-mid 0 10240 (back 7168 1024 (back 6144 1024 t (first .last .0)) (second .last .0)) (third .last .0) (third .kept .0) ∙ long ∙ sym (s .pre .0)
 
--- src/remove.rt:116:1
 returns : tie.Need-returns
 unfolding rowSlots rowColumns
 returns c = λ st g.

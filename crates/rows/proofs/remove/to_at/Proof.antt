@@ -1,27 +1,21 @@
+-- A word past the table's end is 0.
 use borrow.Author.Needs.{needs}
-use Prim.Native.Nat.{ℕ, _≤_, _<_, _-_, _+_}
 use native.Mathlib.Omega.{arith}
-use mathlib.Core.Path.{_≡_, sym}
+use mathlib.Core.Path.{sym}
 use denote.Ref.{now}
 use lib.ListN.{List·getD-eq-default}
 use Rattle.rows.proofs.remove.to_at.Statement.{statement}
 use Rattle.rows.proofs.remove.to_at.Tie as tie
-use Rattle.rows.proofs.remove.to_at.Reads as reads
-use Rattle.rows.proofs.remove.to_at.Lts as lts
 
--- src/remove.rt:98:16
 mul-result : tie.Need-mul-result
 mul-result c = search needs
 
--- src/remove.rt:98:16
 shared-slice-read-result : tie.Need-shared-slice-read-result
 shared-slice-read-result c = search needs
 
--- src/remove.rt:98:9
 returns : tie.Need-returns
 returns c = search needs
 
--- src/remove.rt:93:1
 returns-2 : tie.Need-returns-2
 returns-2 c = sym (List·getD-eq-default (now (c .before .args .to)) 0 (omega arith))
 
