@@ -43,3 +43,11 @@ pub mod Changes
 pub mod ProcessRecords
 -- one right within others
 pub mod RightsWithin
+-- a column compacted: the loops, and what laid words become
+pub mod Keep
+-- the slots that rows move to, and source columns renumbered
+pub mod Renumber
+-- columns of which one or all are lent and come back
+pub mod Parts
+-- rows and requests removed
+pub mod Removed

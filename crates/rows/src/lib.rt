@@ -50,3 +50,4 @@ pub mod read;
 pub mod capcaps;
 pub mod change;
 pub mod records;
+pub mod remove;
