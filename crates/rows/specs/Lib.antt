@@ -7,6 +7,4 @@ pub mod Sound
 pub mod Layout
 pub mod Lies
 pub mod Searches
-pub mod Changes
-pub mod Marks
 pub mod Computes

@@ -44,10 +44,8 @@ pub enum Found {
 }
 
 // ---- functions
+pub mod capcaps;
 pub mod find;
 pub mod layout;
 pub mod read;
-pub mod capcaps;
-pub mod change;
 pub mod records;
-pub mod remove;
