@@ -35,3 +35,7 @@ pub mod Standing
 pub mod Picked
 -- what the searches find where a state lies in the words
 pub mod Lookups
+-- what the requests list, in their words
+pub mod Listed
+-- the questions that go back along the sources
+pub mod Questions
