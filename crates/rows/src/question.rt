@@ -85,7 +85,13 @@ pub fn row_question(t: &[u32], s: u32, q: u32, d: u32) -> bool
     requires { ⌜ length (now t) ≡ 11265 ⌝ }
     ensures { λ r. ⌜ Reaches (now (t .entry)) s q d r ⌝ }
 {
-    if (d == 0) | (s == 0) | (1024 < s) {
+    if s == 0 {
+        return false;
+    }
+    if 1024 < s {
+        return false;
+    }
+    if d == 0 {
         return false;
     }
     let i = s as usize - 1;
@@ -107,7 +113,13 @@ pub fn port_question(t: &[u32], c: u32, q: u32, d: u32) -> bool
     requires { ⌜ length (now t) ≡ 11265 ⌝ }
     ensures { λ r. ⌜ PortReaches (now (t .entry)) c q d r ⌝ }
 {
-    if (d == 0) | (c == 0) | (1024 < c) {
+    if c == 0 {
+        return false;
+    }
+    if 1024 < c {
+        return false;
+    }
+    if d == 0 {
         return false;
     }
     let i = c as usize - 1;

@@ -1,0 +1,27 @@
+-- `question::lent` meets its contract: it asks the row question with 0, twelve steps back.
+use borrow.Author.Needs.{needs}
+use denote.Ref.{now}
+use Rattle.rows.proofs.Questions.{lent-answer}
+use Rattle.rows.proofs.question.lent.Statement.{statement}
+use Rattle.rows.proofs.question.lent.Tie as tie
+
+-- src/question.rt:147:22
+add-row-question : tie.Need-add-row-question
+add-row-question c = search needs
+
+-- src/question.rt:147:21
+cast-row-question : tie.Need-cast-row-question
+cast-row-question c = search needs
+
+-- src/question.rt:147:5
+row-question-requires : tie.Need-row-question-requires
+row-question-requires c κs = search needs
+
+-- src/question.rt:143:1
+returns : tie.Need-returns
+returns c =
+    let a = c .before .before .args in
+    λ st n so lie at. lent-answer (now (a .t)) (a .e) (c .row-question .result) st n so lie at (c .row-question .ensures)
+
+pub lent-spec : {M : Type 1} → statement M
+lent-spec = tie.close (tie.spec add-row-question cast-row-question row-question-requires returns)
