@@ -39,3 +39,19 @@ pub mod Lookups
 pub mod Listed
 -- the questions that go back along the sources
 pub mod Questions
+-- stores in the words of a state, at any column and slot
+pub mod Put
+-- a state that lies in words, with one change
+pub mod Changes
+-- process records in their words, one after the other
+pub mod ProcessRecords
+-- one right within others
+pub mod RightsWithin
+-- a column compacted: the loops, and what laid words become
+pub mod Keep
+-- the slots that rows move to, and source columns renumbered
+pub mod Renumber
+-- columns of which one or all are lent and come back
+pub mod Parts
+-- rows and requests removed
+pub mod Removed

@@ -8,4 +8,6 @@ pub mod Layout
 pub mod Lies
 pub mod Searches
 pub mod Questions
+pub mod Changes
+pub mod Marks
 pub mod Computes

@@ -47,3 +47,8 @@ pub enum Found {
 pub mod find;
 pub mod layout;
 pub mod question;
+pub mod read;
+pub mod capcaps;
+pub mod change;
+pub mod records;
+pub mod remove;
