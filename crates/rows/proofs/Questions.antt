@@ -1,25 +1,24 @@
 -- The questions that go back along the sources: what a row's words say of it, one step back on sound tables, and the depth that falls.
 use Prim.Native.Nat.{ℕ, zero, suc, _+_, _-_, _<_, _≤_, max, zero-le, suc-le-suc}
-use mathlib.Core.Bool.{Bool, true, false, not, cond, _&&_, _||_}
+use mathlib.Core.Bool.{Bool, true, false, not, _&&_, _||_}
 use mathlib.Core.List.{List, [], _∷_}
-use mathlib.Core.Path.{_≡_, refl, ap, sym, subst, _∙_}
-use mathlib.Core.Logic.{_⊎_, inl, inr, ⊎-elim}
+use mathlib.Core.Path.{_≡_, refl, ap, sym, _∙_}
+use mathlib.Core.Logic.{inl, inr}
 use native.Mathlib.Numerals.{add-one}
 use native.Mathlib.Omega.{arith}
 use borrow.Author.Tests.{eqb-true, leb-true}
 use lib.Dec.{leb, eqb}
-use lib.ListN.{length, getD}
+use lib.ListN.{getD}
 use Rattle.rows.specs.declared.Row.{Row}
-use Rattle.rows.specs.declared.Request.{Request}
 use Rattle.rows.specs.Lists.{filter, any, member, some, nonzero}
 use Rattle.rows.specs.Limits.{greatestDepth}
-use Rattle.rows.specs.Codes.{operation, subdirectory, clientEnd, isOperation, isSubdirectory, isClient, isServer, isEnd, isCopied, isNode}
+use Rattle.rows.specs.Codes.{operation, subdirectory, clientEnd, isOperation, isSubdirectory, isClient, isEnd, isCopied}
 use Rattle.rows.specs.Tables.{State, noRow, rowOf, numbers, sources, depthOver, reaches, marked, bears, comesFrom, onLoan, lentItself, isLent}
 use Rattle.rows.specs.Sound.{rowsRise, sound, isOpening, isRegistered, isHeld, isPortEnd, isLentCopy, sourceRight, sourcesRight, depthRight, depthsRight}
-use Rattle.rows.specs.Lies.{Lies, rowSlot, sourcesOlder}
+use Rattle.rows.specs.Lies.{Lies, rowSlot}
 use Rattle.rows.specs.Questions.{touches, Touched, Reaches, PortReaches}
-use Rattle.rows.proofs.Bools.{false-of, true-or-false, clash, and-l, and-r, or-r, pos-some, some-pos, any-eq}
-use Rattle.rows.proofs.Keyed.{olderOf, each-first, older-first, older-key, rises-range, first-none}
+use Rattle.rows.proofs.Bools.{false-of, clash, and-l, and-r, or-r, pos-some, any-eq}
+use Rattle.rows.proofs.Keyed.{olderOf, each-first, older-first, older-key, rises-range}
 use Rattle.rows.proofs.Sound.{Sound, sound-open}
 use Rattle.rows.proofs.RowSources.{Among, Shape, opening, registered, held, port-end, lent-copy, shape, shape-sources}
 use Rattle.rows.proofs.Marking.{marked-stands, marked-reaches, marked-closed}

@@ -1,6 +1,6 @@
 -- What the questions that go back along the sources answer, over the lent words.
 use Prim.Native.Nat.{ℕ, suc, _≤_}
-use mathlib.Core.Bool.{Bool, true, false, cond}
+use mathlib.Core.Bool.{Bool, true}
 use mathlib.Core.List.{List}
 use mathlib.Core.Path.{_≡_}
 use Rattle.rows.specs.declared.Row.{Row}

@@ -44,11 +44,11 @@ pub enum Found {
 }
 
 // ---- functions
+pub mod capcaps;
+pub mod change;
 pub mod find;
 pub mod layout;
 pub mod question;
 pub mod read;
-pub mod capcaps;
-pub mod change;
 pub mod records;
 pub mod remove;

@@ -5,6 +5,7 @@ use crate::layout::KIND;
 use crate::layout::NUMBER;
 use crate::layout::Q_ITEMS;
 use crate::layout::REQUEST;
+use crate::layout::ROWS;
 use crate::layout::SOURCE;
 use crate::layout::VIA;
 ghost use mathlib.Core.Path.{_≡_};
@@ -19,18 +20,18 @@ ghost use Rattle.rows.specs.Layout.{requestAt};
 ghost use Rattle.rows.specs.Lies.{Lies, rowSlot};
 ghost use Rattle.rows.specs.Questions.{Touched, Reaches, PortReaches};
 
-// the codes of the two ends, and the greatest depth (specs/Codes.antt, specs/Limits.antt)
-const CLIENT: u32 = 3;
+// codes of kinds, and the greatest depth, as specs/Codes.antt and specs/Limits.antt define them
+const A_CLIENT_END: u32 = 3;
 
-const SERVER: u32 = 4;
+const A_SERVER_END: u32 = 4;
 
-const DEEPEST: u32 = 12;
+const GREATEST_DEPTH: u32 = 12;
 
 // Whether a kind is that of an end of a port.
 fn is_end(kind: u32) -> bool
     ensures { λ r. ⌜ r ≡ isEnd kind ⌝ }
 {
-    (kind == CLIENT) | (kind == SERVER)
+    (kind == A_CLIENT_END) | (kind == A_SERVER_END)
 }
 
 // Whether the request in slot j lists e.
@@ -81,20 +82,21 @@ fn touched(t: &[u32], i: usize, q: u32) -> bool
 
 // Whether the row at source word s (its slot plus 1, 0 for none) or a row that it comes from is touched, d steps back at most.
 // Ruled out: no, where the second source alone is touched; yes for a word 0, where there is no row.
-pub fn row_question(t: &[u32], s: u32, q: u32, d: u32) -> bool
+fn row_question(t: &[u32], s: u32, q: u32, d: u32) -> bool
     requires { ⌜ length (now t) ≡ 11265 ⌝ }
     ensures { λ r. ⌜ Reaches (now (t .entry)) s q d r ⌝ }
 {
-    if s == 0 {
+    let at = s as usize;
+    if at == 0 {
         return false;
     }
-    if 1024 < s {
+    if ROWS < at {
         return false;
     }
     if d == 0 {
         return false;
     }
-    let i = s as usize - 1;
+    let i = at - 1;
     if touched(t, i, q) {
         return true;
     }
@@ -109,20 +111,21 @@ pub fn row_question(t: &[u32], s: u32, q: u32, d: u32) -> bool
 
 // The same of the port whose client end is at source word c: the end itself, or its operation row.
 // Ruled out: no, where the end itself is on loan; no, where the operation row comes from q.
-pub fn port_question(t: &[u32], c: u32, q: u32, d: u32) -> bool
+fn port_question(t: &[u32], c: u32, q: u32, d: u32) -> bool
     requires { ⌜ length (now t) ≡ 11265 ⌝ }
     ensures { λ r. ⌜ PortReaches (now (t .entry)) c q d r ⌝ }
 {
-    if c == 0 {
+    let at = c as usize;
+    if at == 0 {
         return false;
     }
-    if 1024 < c {
+    if ROWS < at {
         return false;
     }
     if d == 0 {
         return false;
     }
-    let i = c as usize - 1;
+    let i = at - 1;
     if touched(t, i, q) {
         return true;
     }
@@ -135,14 +138,14 @@ pub fn comes(t: &[u32], e: usize, q: u32) -> bool
     requires { ⌜ (length (now t) ≡ 11265) × (e < 1024) ⌝ }
     ensures { λ r. ⌜ ((st : State) (n : ℕ) → sound st ≡ true → Lies st (now (t .entry)) → rowSlot (st .rows) n ≡ suc e → some q ≡ true → r ≡ comesFrom (st .rows) q n) ⌝ }
 {
-    row_question(t, (e + 1) as u32, q, DEEPEST)
+    row_question(t, (e + 1) as u32, q, GREATEST_DEPTH)
 }
 
 // Whether the row in slot e is lent.
-// Ruled out: no, where a source twelve rows back is lent; yes, where a row bears no request and no end is on loan.
+// Ruled out: no, where the oldest of twelve rows in a line is lent; yes, where a row bears no request and no end is on loan.
 pub fn lent(t: &[u32], e: usize) -> bool
     requires { ⌜ (length (now t) ≡ 11265) × (e < 1024) ⌝ }
     ensures { λ r. ⌜ ((st : State) (n : ℕ) → sound st ≡ true → Lies st (now (t .entry)) → rowSlot (st .rows) n ≡ suc e → r ≡ isLent st n) ⌝ }
 {
-    row_question(t, (e + 1) as u32, 0, DEEPEST)
+    row_question(t, (e + 1) as u32, 0, GREATEST_DEPTH)
 }

@@ -1,5 +1,6 @@
+-- `question::row_question` and `question::port_question` meet their contracts: one proof for the cycle, whose measure is the depth `d`.
 use borrow.Author.Needs.{needs}
-use Prim.Native.Nat.{ℕ, _≤_, _<_, _-_, _+_}
+use Prim.Native.Nat.{ℕ, _<_, _-_}
 use native.Mathlib.Omega.{arith}
 use mathlib.Core.Bool.{true, false}
 use denote.Ref.{now}
@@ -46,7 +47,6 @@ row-question-below t =
     (falls 1 row-question-kinds.ps _<_ μ-row-question t)
     row-question.Pre
 
--- src/question.rt:117:9
 port-question-returns : (t : ℕ) → port-question-lts.Need-returns (
   touched-reads.Asked,
   touched-reads.Learnt,
@@ -57,7 +57,6 @@ port-question-returns t c =
     let a = c .before .before .args in
     row-port (now (a .t)) (a .c) (a .q) (a .d) false (question-none (now (a .t)) (a .c) (a .q) (a .d) (λ x y z. omega arith))
 
--- src/question.rt:120:9
 port-question-returns-2 : (t : ℕ) → port-question-lts.Need-returns-2 (
   touched-reads.Asked,
   touched-reads.Learnt,
@@ -68,7 +67,6 @@ port-question-returns-2 t c =
     let a = c .before .before .before .args in
     row-port (now (a .t)) (a .c) (a .q) (a .d) false (question-none (now (a .t)) (a .c) (a .q) (a .d) (λ x y z. omega arith))
 
--- src/question.rt:123:9
 port-question-returns-3 : (t : ℕ) → port-question-lts.Need-returns-3 (
   touched-reads.Asked,
   touched-reads.Learnt,
@@ -79,7 +77,6 @@ port-question-returns-3 t c =
     let a = c .before .before .before .before .args in
     row-port (now (a .t)) (a .c) (a .q) (a .d) false (question-none (now (a .t)) (a .c) (a .q) (a .d) (λ x y z. omega arith))
 
--- src/question.rt:125:13
 port-question-sub-i : (t : ℕ) → port-question-lts.Need-sub-i (
   touched-reads.Asked,
   touched-reads.Learnt,
@@ -88,7 +85,6 @@ port-question-sub-i : (t : ℕ) → port-question-lts.Need-sub-i (
 ) (port-question-at t) port-question.Post
 port-question-sub-i t c = search needs
 
--- src/question.rt:126:8
 port-question-touched-requires : (t : ℕ) → port-question-lts.Need-touched-requires (
   touched-reads.Asked,
   touched-reads.Learnt,
@@ -97,7 +93,6 @@ port-question-touched-requires : (t : ℕ) → port-question-lts.Need-touched-re
 ) (port-question-at t) port-question.Post
 port-question-touched-requires t c κs = search needs
 
--- src/question.rt:127:9
 port-question-returns-4 : (t : ℕ) → port-question-lts.Need-returns-4 (
   touched-reads.Asked,
   touched-reads.Learnt,
@@ -108,7 +103,6 @@ port-question-returns-4 t c =
     let a = c .before .before .before .before .before .before .args in
     row-port (now (a .t)) (a .c) (a .q) (a .d) true (question-touched (now (a .t)) (a .c) (a .q) (a .d) (a .c - 1) (omega arith) (rw (c .if4 .taken) at (c .before .touched .ensures)))
 
--- src/question.rt:129:23
 port-question-add-row-question : (t : ℕ) → port-question-lts.Need-add-row-question (
   touched-reads.Asked,
   touched-reads.Learnt,
@@ -117,7 +111,6 @@ port-question-add-row-question : (t : ℕ) → port-question-lts.Need-add-row-qu
 ) (port-question-at t) port-question.Post
 port-question-add-row-question t c = search needs
 
--- src/question.rt:129:21
 port-question-mul-row-question : (t : ℕ) → port-question-lts.Need-mul-row-question (
   touched-reads.Asked,
   touched-reads.Learnt,
@@ -126,7 +119,6 @@ port-question-mul-row-question : (t : ℕ) → port-question-lts.Need-mul-row-qu
 ) (port-question-at t) port-question.Post
 port-question-mul-row-question t c = search needs
 
--- src/question.rt:129:21
 port-question-shared-slice-read-row-question :
     (t : ℕ) → port-question-lts.Need-shared-slice-read-row-question (
       touched-reads.Asked,
@@ -136,7 +128,6 @@ port-question-shared-slice-read-row-question :
     ) (port-question-at t) port-question.Post
 port-question-shared-slice-read-row-question t c = search needs
 
--- src/question.rt:129:39
 port-question-sub-row-question : (t : ℕ) → port-question-lts.Need-sub-row-question (
   touched-reads.Asked,
   touched-reads.Learnt,
@@ -145,7 +136,6 @@ port-question-sub-row-question : (t : ℕ) → port-question-lts.Need-sub-row-qu
 ) (port-question-at t) port-question.Post
 port-question-sub-row-question t c = search needs
 
--- src/question.rt:129:5
 port-question-row-question-requires : (t : ℕ) → port-question-lts.Need-row-question-requires (
   touched-reads.Asked,
   touched-reads.Learnt,
@@ -154,7 +144,6 @@ port-question-row-question-requires : (t : ℕ) → port-question-lts.Need-row-q
 ) (port-question-at t) port-question.Post
 port-question-row-question-requires t c κs = search needs
 
--- src/question.rt:112:1
 port-question-returns-5 : (t : ℕ) → port-question-lts.Need-returns-5 (
   touched-reads.Asked,
   touched-reads.Learnt,
@@ -165,7 +154,6 @@ port-question-returns-5 t c =
     let a = c .before .before .before .before .before .before .before .before .args in
     port-source (now (a .t)) (a .c) (a .q) (a .d) (a .c - 1) (omega arith) (rw (c .before .before .if4 .left) at (c .before .before .before .touched .ensures)) _ (c .row-question .ensures)
 
--- src/question.rt:89:9
 row-question-returns : (t : ℕ) → row-question-lts.Need-returns (
   touched-reads.Asked,
   touched-reads.Learnt,
@@ -178,7 +166,6 @@ row-question-returns t c =
     let a = c .before .before .args in
     question-none (now (a .t)) (a .s) (a .q) (a .d) (λ x y z. omega arith)
 
--- src/question.rt:92:9
 row-question-returns-2 : (t : ℕ) → row-question-lts.Need-returns-2 (
   touched-reads.Asked,
   touched-reads.Learnt,
@@ -191,7 +178,6 @@ row-question-returns-2 t c =
     let a = c .before .before .before .args in
     question-none (now (a .t)) (a .s) (a .q) (a .d) (λ x y z. omega arith)
 
--- src/question.rt:95:9
 row-question-returns-3 : (t : ℕ) → row-question-lts.Need-returns-3 (
   touched-reads.Asked,
   touched-reads.Learnt,
@@ -204,7 +190,6 @@ row-question-returns-3 t c =
     let a = c .before .before .before .before .args in
     question-none (now (a .t)) (a .s) (a .q) (a .d) (λ x y z. omega arith)
 
--- src/question.rt:97:13
 row-question-sub-i : (t : ℕ) → row-question-lts.Need-sub-i (
   touched-reads.Asked,
   touched-reads.Learnt,
@@ -215,7 +200,6 @@ row-question-sub-i : (t : ℕ) → row-question-lts.Need-sub-i (
 ) (row-question-at t) row-question.Post
 row-question-sub-i t c = search needs
 
--- src/question.rt:98:8
 row-question-touched-requires : (t : ℕ) → row-question-lts.Need-touched-requires (
   touched-reads.Asked,
   touched-reads.Learnt,
@@ -226,7 +210,6 @@ row-question-touched-requires : (t : ℕ) → row-question-lts.Need-touched-requ
 ) (row-question-at t) row-question.Post
 row-question-touched-requires t c κs = search needs
 
--- src/question.rt:99:9
 row-question-returns-4 : (t : ℕ) → row-question-lts.Need-returns-4 (
   touched-reads.Asked,
   touched-reads.Learnt,
@@ -239,7 +222,6 @@ row-question-returns-4 t c =
     let a = c .before .before .before .before .before .before .args in
     question-touched (now (a .t)) (a .s) (a .q) (a .d) (a .s - 1) (omega arith) (rw (c .if4 .taken) at (c .before .touched .ensures))
 
--- src/question.rt:101:26
 row-question-add-row-question : (t : ℕ) → row-question-lts.Need-add-row-question (
   touched-reads.Asked,
   touched-reads.Learnt,
@@ -250,7 +232,6 @@ row-question-add-row-question : (t : ℕ) → row-question-lts.Need-add-row-ques
 ) (row-question-at t) row-question.Post
 row-question-add-row-question t c = search needs
 
--- src/question.rt:101:24
 row-question-mul-row-question : (t : ℕ) → row-question-lts.Need-mul-row-question (
   touched-reads.Asked,
   touched-reads.Learnt,
@@ -261,7 +242,6 @@ row-question-mul-row-question : (t : ℕ) → row-question-lts.Need-mul-row-ques
 ) (row-question-at t) row-question.Post
 row-question-mul-row-question t c = search needs
 
--- src/question.rt:101:24
 row-question-shared-slice-read-row-question :
     (t : ℕ) → row-question-lts.Need-shared-slice-read-row-question (
       touched-reads.Asked,
@@ -273,7 +253,6 @@ row-question-shared-slice-read-row-question :
     ) (row-question-at t) row-question.Post
 row-question-shared-slice-read-row-question t c = search needs
 
--- src/question.rt:101:42
 row-question-sub-row-question : (t : ℕ) → row-question-lts.Need-sub-row-question (
   touched-reads.Asked,
   touched-reads.Learnt,
@@ -284,7 +263,6 @@ row-question-sub-row-question : (t : ℕ) → row-question-lts.Need-sub-row-ques
 ) (row-question-at t) row-question.Post
 row-question-sub-row-question t c = search needs
 
--- src/question.rt:101:8
 row-question-row-question-requires : (t : ℕ) → row-question-lts.Need-row-question-requires (
   touched-reads.Asked,
   touched-reads.Learnt,
@@ -295,7 +273,6 @@ row-question-row-question-requires : (t : ℕ) → row-question-lts.Need-row-que
 ) (row-question-at t) row-question.Post
 row-question-row-question-requires t c κs = search needs
 
--- src/question.rt:102:9
 row-question-returns-5 : (t : ℕ) → row-question-lts.Need-returns-5 (
   touched-reads.Asked,
   touched-reads.Learnt,
@@ -308,7 +285,6 @@ row-question-returns-5 t c =
     let a = c .before .before .before .before .before .before .before .before .before .args in
     question-source (now (a .t)) (a .s) (a .q) (a .d) (a .s - 1) (omega arith) (rw (c .before .before .before .if4 .left) at (c .before .before .before .before .touched .ensures)) (rw (c .if5 .taken) at (c .before .row-question .ensures))
 
--- src/question.rt:104:10
 row-question-add-if6 : (t : ℕ) → row-question-lts.Need-add-if6 (
   touched-reads.Asked,
   touched-reads.Learnt,
@@ -319,7 +295,6 @@ row-question-add-if6 : (t : ℕ) → row-question-lts.Need-add-if6 (
 ) (row-question-at t) row-question.Post
 row-question-add-if6 t c = search needs
 
--- src/question.rt:104:8
 row-question-mul-if6 : (t : ℕ) → row-question-lts.Need-mul-if6 (
   touched-reads.Asked,
   touched-reads.Learnt,
@@ -330,7 +305,6 @@ row-question-mul-if6 : (t : ℕ) → row-question-lts.Need-mul-if6 (
 ) (row-question-at t) row-question.Post
 row-question-mul-if6 t c = search needs
 
--- src/question.rt:104:8
 row-question-shared-slice-read-if6 : (t : ℕ) → row-question-lts.Need-shared-slice-read-if6 (
   touched-reads.Asked,
   touched-reads.Learnt,
@@ -341,7 +315,6 @@ row-question-shared-slice-read-if6 : (t : ℕ) → row-question-lts.Need-shared-
 ) (row-question-at t) row-question.Post
 row-question-shared-slice-read-if6 t c = search needs
 
--- src/question.rt:105:34
 row-question-add-row-question-2 : (t : ℕ) → row-question-lts.Need-add-row-question-2 (
   touched-reads.Asked,
   touched-reads.Learnt,
@@ -352,7 +325,6 @@ row-question-add-row-question-2 : (t : ℕ) → row-question-lts.Need-add-row-qu
 ) (row-question-at t) row-question.Post
 row-question-add-row-question-2 t c = search needs
 
--- src/question.rt:105:32
 row-question-mul-row-question-2 : (t : ℕ) → row-question-lts.Need-mul-row-question-2 (
   touched-reads.Asked,
   touched-reads.Learnt,
@@ -363,7 +335,6 @@ row-question-mul-row-question-2 : (t : ℕ) → row-question-lts.Need-mul-row-qu
 ) (row-question-at t) row-question.Post
 row-question-mul-row-question-2 t c = search needs
 
--- src/question.rt:105:32
 row-question-shared-slice-read-row-question-2 :
     (t : ℕ) → row-question-lts.Need-shared-slice-read-row-question-2 (
       touched-reads.Asked,
@@ -375,7 +346,6 @@ row-question-shared-slice-read-row-question-2 :
     ) (row-question-at t) row-question.Post
 row-question-shared-slice-read-row-question-2 t c = search needs
 
--- src/question.rt:105:47
 row-question-sub-row-question-2 : (t : ℕ) → row-question-lts.Need-sub-row-question-2 (
   touched-reads.Asked,
   touched-reads.Learnt,
@@ -386,7 +356,6 @@ row-question-sub-row-question-2 : (t : ℕ) → row-question-lts.Need-sub-row-qu
 ) (row-question-at t) row-question.Post
 row-question-sub-row-question-2 t c = search needs
 
--- src/question.rt:105:9
 row-question-row-question-requires-2 : (t : ℕ) → row-question-lts.Need-row-question-requires-2 (
   touched-reads.Asked,
   touched-reads.Learnt,
@@ -397,7 +366,6 @@ row-question-row-question-requires-2 : (t : ℕ) → row-question-lts.Need-row-q
 ) (row-question-at t) row-question.Post
 row-question-row-question-requires-2 t c κs = search needs
 
--- src/question.rt:105:9
 row-question-returns-6 : (t : ℕ) → row-question-lts.Need-returns-6 (
   touched-reads.Asked,
   touched-reads.Learnt,
@@ -411,7 +379,6 @@ row-question-returns-6 t c =
     let a = c .before .before .before .before .before .before .before .before .before .before .before .before .before .args in
     question-via (now (a .t)) (a .s) (a .q) (a .d) (a .s - 1) (omega arith) (rw (b .before .before .before .if4 .left) at (b .before .before .before .before .touched .ensures)) (rw (b .if5 .left) at (b .before .row-question .ensures)) _ (c .row-question2 .ensures)
 
--- src/question.rt:107:24
 row-question-add-port-question : (t : ℕ) → row-question-lts.Need-add-port-question (
   touched-reads.Asked,
   touched-reads.Learnt,
@@ -422,7 +389,6 @@ row-question-add-port-question : (t : ℕ) → row-question-lts.Need-add-port-qu
 ) (row-question-at t) row-question.Post
 row-question-add-port-question t c = search needs
 
--- src/question.rt:107:22
 row-question-mul-port-question : (t : ℕ) → row-question-lts.Need-mul-port-question (
   touched-reads.Asked,
   touched-reads.Learnt,
@@ -433,7 +399,6 @@ row-question-mul-port-question : (t : ℕ) → row-question-lts.Need-mul-port-qu
 ) (row-question-at t) row-question.Post
 row-question-mul-port-question t c = search needs
 
--- src/question.rt:107:22
 row-question-shared-slice-read-port-question :
     (t : ℕ) → row-question-lts.Need-shared-slice-read-port-question (
       touched-reads.Asked,
@@ -445,7 +410,6 @@ row-question-shared-slice-read-port-question :
     ) (row-question-at t) row-question.Post
 row-question-shared-slice-read-port-question t c = search needs
 
--- src/question.rt:107:37
 row-question-sub-port-question : (t : ℕ) → row-question-lts.Need-sub-port-question (
   touched-reads.Asked,
   touched-reads.Learnt,
@@ -456,7 +420,6 @@ row-question-sub-port-question : (t : ℕ) → row-question-lts.Need-sub-port-qu
 ) (row-question-at t) row-question.Post
 row-question-sub-port-question t c = search needs
 
--- src/question.rt:107:5
 row-question-port-question-requires : (t : ℕ) → row-question-lts.Need-port-question-requires (
   touched-reads.Asked,
   touched-reads.Learnt,
@@ -467,7 +430,6 @@ row-question-port-question-requires : (t : ℕ) → row-question-lts.Need-port-q
 ) (row-question-at t) row-question.Post
 row-question-port-question-requires t c κs = search needs
 
--- src/question.rt:84:1
 row-question-returns-7 : (t : ℕ) → row-question-lts.Need-returns-7 (
   touched-reads.Asked,
   touched-reads.Learnt,

@@ -5,19 +5,15 @@ use Rattle.rows.proofs.Questions.{comes-answer}
 use Rattle.rows.proofs.question.comes.Statement.{statement}
 use Rattle.rows.proofs.question.comes.Tie as tie
 
--- src/question.rt:138:22
 add-row-question : tie.Need-add-row-question
 add-row-question c = search needs
 
--- src/question.rt:138:21
 cast-row-question : tie.Need-cast-row-question
 cast-row-question c = search needs
 
--- src/question.rt:138:5
 row-question-requires : tie.Need-row-question-requires
 row-question-requires c κs = search needs
 
--- src/question.rt:134:1
 returns : tie.Need-returns
 returns c =
     let a = c .before .before .args in

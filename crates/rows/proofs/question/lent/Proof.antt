@@ -5,19 +5,15 @@ use Rattle.rows.proofs.Questions.{lent-answer}
 use Rattle.rows.proofs.question.lent.Statement.{statement}
 use Rattle.rows.proofs.question.lent.Tie as tie
 
--- src/question.rt:147:22
 add-row-question : tie.Need-add-row-question
 add-row-question c = search needs
 
--- src/question.rt:147:21
 cast-row-question : tie.Need-cast-row-question
 cast-row-question c = search needs
 
--- src/question.rt:147:5
 row-question-requires : tie.Need-row-question-requires
 row-question-requires c κs = search needs
 
--- src/question.rt:143:1
 returns : tie.Need-returns
 returns c =
     let a = c .before .before .args in

@@ -1,5 +1,6 @@
+-- `question::on_loan` meets its contract: none of the requests that the loop passed lists the end.
 use borrow.Author.Needs.{needs}
-use Prim.Native.Nat.{ℕ, _≤_, _<_, _-_, _+_}
+use Prim.Native.Nat.{_≤_, _-_}
 use native.Mathlib.Omega.{arith}
 use mathlib.Core.Path.{_≡_, sym, _∙_}
 use denote.Ref.{now}
@@ -7,10 +8,6 @@ use Rattle.rows.specs.Layout.{requestsIn}
 use Rattle.rows.proofs.Listed.{Unlisted, unlisted-none, unlisted-more, loan-here, loan-none}
 use Rattle.rows.proofs.question.on_loan.Statement.{statement}
 use Rattle.rows.proofs.question.on_loan.Tie as tie
-use Rattle.rows.proofs.question.on_loan.Reads as reads
-use Rattle.rows.proofs.question.on_loan.Lts as lts
-use Rattle.rows.proofs.find.requests_in.Reads as requests-in-reads
-use Rattle.rows.proofs.question.lists_item.Reads as lists-item-reads
 
 abbrev Inv-loop : tie.InvT-loop
 Inv-loop t e count j₀ j = (j ≤ count) × Unlisted t e j
@@ -18,38 +15,30 @@ Inv-loop t e count j₀ j = (j ≤ count) × Unlisted t e j
 abbrev μ-loop : tie.MeasureT-loop
 μ-loop t e count j₀ j = count - j
 
--- src/question.rt:51:9
 requests-in-requires : tie.Need-requests-in-requires Inv-loop μ-loop
 requests-in-requires c κs = search needs
 
--- src/question.rt:53:5
 loop-holds : tie.Need-loop-holds Inv-loop μ-loop
 loop-holds c = (search needs, unlisted-none _ _)
 
--- src/question.rt:54:12
 lists-item-requires : tie.Need-lists-item-requires Inv-loop μ-loop
 lists-item-requires c κs = search needs
 
--- src/question.rt:55:13
 returns : tie.Need-returns Inv-loop μ-loop
 returns c =
     let b = c .before .before .before in
     let counted = b .before .requests-in .ensures .0 in
     loan-here _ _ (b .loop .j) (omega arith) (sym (c .before .lists-item .ensures) ∙ c .if1 .taken)
 
--- src/question.rt:57:9
 add-j : tie.Need-add-j Inv-loop μ-loop
 add-j c = search needs
 
--- src/question.rt:53:5
 loop-less : tie.Need-loop-less Inv-loop μ-loop
 loop-less c = search needs
 
--- src/question.rt:53:5
 loop-again : tie.Need-loop-again Inv-loop μ-loop
 loop-again c = let b = c .before .before .before in (search needs, unlisted-more _ _ (b .loop .j) (b .loop .inv .1) (sym (c .before .lists-item .ensures) ∙ c .if1 .left))
 
--- src/question.rt:47:1
 returns-2 : tie.Need-returns-2 Inv-loop μ-loop
 returns-2 c =
     let b = c .before in

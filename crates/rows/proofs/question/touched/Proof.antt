@@ -1,76 +1,56 @@
+-- `question::touched` meets its contract: the words of the slot are those of the row.
 use borrow.Author.Needs.{needs}
-use Prim.Native.Nat.{ℕ, _≤_, _<_, _-_, _+_}
-use native.Mathlib.Omega.{arith}
 use mathlib.Core.Path.{sym, _∙_}
 use denote.Ref.{now}
 use Rattle.rows.proofs.Questions.{touched-bears, touched-bearing, touched-loan, touched-other}
 use Rattle.rows.proofs.question.touched.Statement.{statement}
 use Rattle.rows.proofs.question.touched.Tie as tie
-use Rattle.rows.proofs.question.touched.Reads as reads
-use Rattle.rows.proofs.question.touched.Lts as lts
-use Rattle.rows.proofs.question.is_end.Reads as is-end-reads
-use Rattle.rows.proofs.question.on_loan.Reads as on-loan-reads
 
--- src/question.rt:69:19
 add-borne : tie.Need-add-borne
 add-borne c = search needs
 
--- src/question.rt:69:17
 mul-borne : tie.Need-mul-borne
 mul-borne c = search needs
 
--- src/question.rt:69:17
 shared-slice-read-borne : tie.Need-shared-slice-read-borne
 shared-slice-read-borne c = search needs
 
--- src/question.rt:71:9
 returns : tie.Need-returns
 returns c = let a = c .before .before .before .args in touched-bears (now (a .t)) (a .i) (a .q) (c .if1 .taken)
 
--- src/question.rt:74:9
 returns-2 : tie.Need-returns-2
 returns-2 c = let a = c .before .before .before .before .args in touched-bearing (now (a .t)) (a .i) (a .q) (c .before .if1 .left) (c .if2 .taken)
 
--- src/question.rt:76:17
 add-is-end : tie.Need-add-is-end
 add-is-end c = search needs
 
--- src/question.rt:76:15
 mul-is-end : tie.Need-mul-is-end
 mul-is-end c = search needs
 
--- src/question.rt:76:15
 shared-slice-read-is-end : tie.Need-shared-slice-read-is-end
 shared-slice-read-is-end c = search needs
 
--- src/question.rt:76:8
 is-end-requires : tie.Need-is-end-requires
 is-end-requires c κs = search needs
 
--- src/question.rt:77:29
 add-on-loan : tie.Need-add-on-loan
 add-on-loan c = search needs
 
--- src/question.rt:77:27
 mul-on-loan : tie.Need-mul-on-loan
 mul-on-loan c = search needs
 
--- src/question.rt:77:27
 shared-slice-read-on-loan : tie.Need-shared-slice-read-on-loan
 shared-slice-read-on-loan c = search needs
 
--- src/question.rt:77:9
 on-loan-requires : tie.Need-on-loan-requires
 on-loan-requires c κs = search needs
 
--- src/question.rt:77:9
 returns-3 : tie.Need-returns-3
 returns-3 c =
     let b = c .before .before .before .before .before in
     let a = b .before .before .before .before .args in
     touched-loan (now (a .t)) (a .i) (a .q) _ (b .before .if1 .left) (b .if2 .left) (sym (c .before .before .before .is-end .ensures) ∙ c .before .before .if3 .taken) (c .on-loan .ensures)
 
--- src/question.rt:65:1
 returns-4 : tie.Need-returns-4
 returns-4 c =
     let b = c .before .before .before in
