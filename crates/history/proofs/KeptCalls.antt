@@ -12,6 +12,7 @@ use Rattle.rows.specs.Sound.{isFetched}
 use Rattle.rows.specs.Limits.{processes}
 use Rattle.rows.proofs.Bools.{clash, or-fl, not-f, pos-some, all-mono}
 use Rattle.rows.proofs.Sound.{Sound}
+use Rattle.rows.proofs.Places.{between-range}
 use Rattle.closing.proofs.Kept.{close-request-kept, close-port-kept, drop-kept}
 use Rattle.calls.specs.declared.Call.{Call}
 use Rattle.calls.specs.declared.Call.the-variants.{Go, Hold, Register, Drop, Port, Close, Ask, Fetch, Reply, Refuse, Revoke, Comes}
@@ -27,7 +28,6 @@ use Rattle.text.specs.declared.Reading.{Reading}
 use Rattle.text.specs.declared.Reading.the-variants.{Asks, Crowded, Refused as BadLine}
 use Rattle.text.specs.CallLines.{readingOf, isProcess, isNumber}
 use Rattle.text.specs.Entry.{callerUnlisted, answered, callOn, refused}
-use Rattle.text.proofs.OpeningForms.{between-range}
 use Rattle.text.proofs.Readings.{Good, reading-good, number-some}
 
 -- a number that is not 0

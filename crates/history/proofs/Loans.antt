@@ -13,8 +13,8 @@ use Rattle.rows.specs.Tables.{State, noRow, noRequest, rowOf, requestOf, number
 use Rattle.rows.proofs.Bools.{and-l, and-r, not-t, eqb-sym}
 use Rattle.rows.proofs.Keyed.{first-map}
 use Rattle.rows.proofs.Picked.{all-keys, keys-picked, first-picked}
+use Rattle.rows.proofs.RowSources.{row-there}
 use Rattle.closing.specs.Closing.{placedIn}
-use Rattle.calls.proofs.AddRow.{row-there}
 use Rattle.history.specs.Notes.{OnLoan, History, noLoan, loanOf, stands, isClosed, openLoans, isClosedNow, staysOnLoan, loansLeft}
 use Rattle.history.proofs.Inv.{Inv, Open, ofRequest, ofLoan, endsListed, loansIn}
 use Rattle.history.proofs.View.{first-through}

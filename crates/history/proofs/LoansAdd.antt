@@ -14,12 +14,14 @@ use Rattle.rows.specs.Tables.{State, noRow, rowOf, numbers, lists}
 use Rattle.rows.specs.Sound.{mayBeListed, itemsLent}
 use Rattle.rows.proofs.Bools.{and-l, and-r, and-i, all-mono}
 use Rattle.rows.proofs.Sound.{Sound}
+use Rattle.rows.proofs.RowSources.{row-there}
+use Rattle.rows.proofs.SoundFacts.{row-below}
 use Rattle.calls.specs.declared.Call.the-variants.{Go, Hold, Register, Port, Fetch, Comes}
 use Rattle.calls.specs.Answers.{refusalOf, valuesOf}
 use Rattle.calls.specs.Rules.{refusedIf, notHeld, withRows, copyOf, withRecord}
 use Rattle.calls.specs.Loans.{handedTo, nowFetched, withFetched}
 use Rattle.calls.specs.Calls.{done, goHome, goThrough, doGo, withHeld, doHold, withRegistered, doRegister, portEnd, withPort, doPort, fetchedAnswer, doFetch, doComes}
-use Rattle.calls.proofs.AddRow.{row-there, row-below, row-before}
+use Rattle.calls.proofs.AddRow.{row-before}
 use Rattle.history.specs.Notes.{OnLoan, History, addRow, noteGo, noteHold, noteRegister, notePort}
 use Rattle.history.specs.Reading.{noteCall}
 use Rattle.history.proofs.Inv.{Lends, endsListed, loansIn, firstValue}

@@ -14,13 +14,14 @@ use Rattle.rows.specs.Tables.{State, noRow, rowOf, numbers}
 use Rattle.rows.proofs.Bools.{and-l, and-r, and-i, not-t, or-fl, or-fr, all-mono, all-filter, pos-some}
 use Rattle.rows.proofs.Picked.{first-here, first-other}
 use Rattle.rows.proofs.Sound.{Sound}
+use Rattle.rows.proofs.Lists.{all-append}
+use Rattle.rows.proofs.SoundFacts.{row-below}
 use Rattle.calls.specs.declared.Item.{Item}
 use Rattle.calls.specs.declared.Items.{Items}
 use Rattle.calls.specs.declared.Call.the-variants.{Ask}
 use Rattle.calls.specs.Rules.{notHeld, copyOf}
 use Rattle.calls.specs.Loans.{itemsOf, itemRow, moves, copyLent, Lending, toSystem, lendEnd, lendCopy, lendItem, lendItems, lent, newRequest, withRequest}
 use Rattle.calls.specs.Calls.{doAsk}
-use Rattle.calls.proofs.AddRow.{all-append, row-below}
 use Rattle.history.specs.Notes.{History, isEndNoted, endsNamed, noteAsk}
 use Rattle.history.specs.Reading.{itemsNamed, noteCall}
 use Rattle.history.proofs.Inv.{Inv, Lends, view, endsListed, loansIn}

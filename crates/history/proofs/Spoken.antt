@@ -15,6 +15,7 @@ use Rattle.rows.specs.Sound.{belowNext, nextInRange, requestsRise}
 use Rattle.rows.proofs.Bools.{and-l, and-r, and-i}
 use Rattle.rows.proofs.Keyed.{rises-first, rises-rest}
 use Rattle.rows.proofs.Sound.{Sound}
+use Rattle.rows.proofs.Places.{between-range}
 use Rattle.calls.specs.declared.Answer.the-variants.{Fetched, Told, Refused}
 use Rattle.calls.specs.declared.Item.{Item}
 use Rattle.calls.specs.declared.Call.{Call}
@@ -27,7 +28,6 @@ use Rattle.text.specs.declared.Reading.{Reading}
 use Rattle.text.specs.declared.Reading.the-variants.{Asks, Crowded, Refused as BadLine}
 use Rattle.text.specs.CallLines.{readingOf}
 use Rattle.text.specs.Entry.{callerUnlisted, answered, callOn, refused}
-use Rattle.text.proofs.OpeningForms.{between-range}
 use Rattle.text.proofs.Readings.{isRefusal, reading-refused}
 use Rattle.history.proofs.Inv.{firstValue}
 

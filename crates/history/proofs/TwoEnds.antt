@@ -18,7 +18,9 @@ use Rattle.rows.proofs.Bools.{clash, bool-eq, and-l, and-r, and-i, or-cases, or
 use Rattle.rows.proofs.Keyed.{first-key, all-first, rises-rest, rises-older, rises-fresh}
 use Rattle.rows.proofs.Agree.{agree-found, filter-agree}
 use Rattle.rows.proofs.Sound.{Sound}
-use Rattle.closing.proofs.KeptFacts.{end-stands, end-at, paired-at}
+use Rattle.rows.proofs.RowSources.{end-there}
+use Rattle.rows.proofs.SoundFacts.{paired-at}
+use Rattle.closing.proofs.KeptFacts.{end-at}
 use Rattle.history.specs.Demand3.{endsOf, TwoEnds}
 
 -- ---- what is picked by key from a list whose keys rise
@@ -140,7 +142,7 @@ module _ (st : State) (s : Sound st) where
 
     server-there : member (suc c) (numbers (st .rows)) ≡ true
     unfolding numbers
-    server-there = end-stands st (suc c) server-kind
+    server-there = end-there st (suc c) server-kind
 
     server : isServer (rowOf (st .rows) (suc c) .kind) ≡ true
     server = pick (end-of-row (suc c) server-there server-kind)

@@ -12,12 +12,12 @@ use Rattle.rows.specs.Sound.{requestsRise}
 use Rattle.rows.proofs.Bools.{false-of, clash, and-l, or-fl}
 use Rattle.rows.proofs.Keyed.{first-there, rises-range}
 use Rattle.rows.proofs.Sound.{Sound}
+use Rattle.rows.proofs.SoundFacts.{requests-top}
 use Rattle.closing.specs.Closing.{closes, settled, closing, closeRequest}
 use Rattle.calls.specs.declared.Answer.{Answer}
 use Rattle.calls.specs.declared.Answer.the-variants.{Done, Made, Fetched, Told, Refused}
 use Rattle.calls.specs.Rules.{Out, refusedIf}
 use Rattle.calls.specs.Calls.{done, doRevoke}
-use Rattle.calls.proofs.AddRow.{requests-top}
 use Rattle.history.specs.Notes.{History, stands, noteRevoke}
 use Rattle.history.specs.Chains.{ComesFrom}
 use Rattle.history.specs.Demand3.{InTables, Vanished}
