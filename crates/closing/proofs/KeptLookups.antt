@@ -35,7 +35,7 @@ trimmed-lists f g vs v e = pick (some e) refl
 
 -- ---- the requests that stay open
 module _ (f : Request → Bool) (g : List ℕ) where
-  pub remaining-keys : (key : Request → ℕ) → ((is : List ℕ) (v : Request) → key (withItems is v) ≡ key v) → (vs : List Request) → map key (remaining f g vs) ≡ map key (filter (λ v. not (f v)) vs)
+  pub remaining-keys : {B : Type 0} (key : Request → B) → ((is : List ℕ) (v : Request) → key (withItems is v) ≡ key v) → (vs : List Request) → map key (remaining f g vs) ≡ map key (filter (λ v. not (f v)) vs)
   unfolding remaining filter trimmed
   remaining-keys key k [] = refl
   remaining-keys key k (v ∷ vs) = pick (remaining-keys key k vs) (f v)

@@ -5,7 +5,7 @@ use mathlib.Core.List.{List, [], _∷_, map}
 use mathlib.Core.Path.{_≡_, refl, sym, ap, _∙_}
 use mathlib.Core.Logic.{⊎-elim}
 use lib.Dec.{eqb}
-use lib.ListN.{getD, length-map, List·getD-map}
+use lib.ListN.{length-map, List·getD-map}
 use borrow.Author.Tests.{eqb-true}
 use Rattle.rows.specs.declared.Row.{Row}
 use Rattle.rows.specs.declared.Request.{Request}
@@ -21,7 +21,7 @@ use Rattle.closing.specs.Closing.{homed, settled}
 
 -- ---- who is listed
 module _ (g : List ℕ) where
-  homed-prime : (x : Process) → homed g x .prime ≡ x .prime
+  pub homed-prime : (x : Process) → homed g x .prime ≡ x .prime
   unfolding homed
   homed-prime x = pick (some (x .through) && member (x .through) g)
     where
@@ -29,14 +29,14 @@ module _ (g : List ℕ) where
       pick true = refl
       pick false = refl
 
-  nobody-homed : homed g noProcess ≡ noProcess
-  unfolding homed noProcess some
-  nobody-homed = refl
+  pub homed-at : (ps : List Process) (p : ℕ) → processAt (map (homed g) ps) p ≡ homed g (processAt ps p)
+  unfolding processAt homed noProcess some
+  homed-at ps zero = refl
+  homed-at ps (suc i) = List·getD-map (homed g) ps i noProcess
 
   pub listed-kept : (ps : List Process) (p : ℕ) → isListed (map (homed g) ps) p ≡ isListed ps p
-  unfolding isListed processAt
-  listed-kept ps zero = refl
-  listed-kept ps (suc i) = ap some (ap (λ d. getD (map (homed g) ps) i d .prime) (sym nobody-homed) ∙ ap (λ x. x .prime) (List·getD-map (homed g) ps i noProcess) ∙ homed-prime (getD ps i noProcess))
+  unfolding isListed
+  listed-kept ps p = ap (λ x. some (x .prime)) (homed-at ps p) ∙ ap some (homed-prime (processAt ps p))
 
 -- ---- the records' clauses
 module _ (g : List ℕ) (f : Request → Bool) (st : State) where
