@@ -3,6 +3,8 @@
 pub mod Bools
 -- look-up by key, keys that rise, older elements: for rows, requests and notes alike
 pub mod Keyed
+-- laws of lists of any elements: map, append, set, filter, members
+pub mod Lists
 -- soundness as a record, a field a clause
 pub mod Sound
 -- words in padded columns: lengths, and what stands where
@@ -11,6 +13,10 @@ pub mod LayoutColumns
 pub mod Searches
 -- each source of a sound row is 0 or an older row's number
 pub mod RowSources
+-- kinds and places: which exclude each other, what is in range
+pub mod Places
+-- what sound tables tell of one row that is found and of one listed process
+pub mod SoundFacts
 -- rows read back from the words in which they lie
 pub mod LayoutRows
 -- requests and process records read back
