@@ -31,6 +31,8 @@ pub mod Agree
 pub mod Marking
 -- standing rows of sound tables: shapes, sources, rights; rows in nodes stay
 pub mod Standing
+-- answers that tell whether something holds, of each place that a loop has passed
+pub mod Tells
 -- keys that rise: each element is found by its key, also among those that a test picks
 pub mod Picked
 -- what the searches find where a state lies in the words

@@ -45,4 +45,5 @@ pub enum Found {
 
 // ---- functions
 pub mod find;
+pub mod laid;
 pub mod layout;
