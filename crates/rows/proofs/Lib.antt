@@ -37,3 +37,7 @@ pub mod Tells
 pub mod Picked
 -- what the searches find where a state lies in the words
 pub mod Lookups
+-- lists read slot by slot
+pub mod ListTo
+-- words in which rows and requests are laid, and the state that is read from them
+pub mod LaidWords
