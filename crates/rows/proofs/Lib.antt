@@ -41,3 +41,11 @@ pub mod Lookups
 pub mod ListTo
 -- words in which rows and requests are laid, and the state that is read from them
 pub mod LaidWords
+-- stores in the words of a state, at any column and slot
+pub mod Put
+-- a state that lies in words, with one change
+pub mod Changes
+-- process records in their words, one after the other
+pub mod ProcessRecords
+-- one right within others
+pub mod RightsWithin

@@ -8,4 +8,5 @@ pub mod Layout
 pub mod Lies
 pub mod Searches
 pub mod Laid
+pub mod Changes
 pub mod Computes
