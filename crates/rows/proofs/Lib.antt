@@ -49,3 +49,5 @@ pub mod Changes
 pub mod ProcessRecords
 -- one right within others
 pub mod RightsWithin
+-- soundness of the process records and of the next number
+pub mod RecordClauses

@@ -44,10 +44,12 @@ pub enum Found {
 }
 
 // ---- functions
+pub mod capcaps;
+pub mod change;
+pub mod codes;
 pub mod find;
 pub mod laid;
 pub mod layout;
 pub mod read;
-pub mod capcaps;
-pub mod change;
+pub mod record_clauses;
 pub mod records;
