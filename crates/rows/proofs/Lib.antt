@@ -51,3 +51,5 @@ pub mod ProcessRecords
 pub mod RightsWithin
 -- soundness of the process records and of the next number
 pub mod RecordClauses
+-- soundness as the code tests it: the words laid, then the clauses in groups
+pub mod SoundParts
