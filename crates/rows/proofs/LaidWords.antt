@@ -1,21 +1,21 @@
 -- Words in which rows and requests are laid hold the state that is read from them, and a state that lies in words is laid in them.
-use Prim.Native.Nat.{ℕ, zero, suc, _+_, _*_, _-_, _<_, _≤_, zero-le, suc-le-suc}
-use mathlib.Core.Bool.{Bool, true, false, cond, _&&_}
-use mathlib.Core.List.{List, [], _∷_, _++_}
+use Prim.Native.Nat.{ℕ, zero, suc, _+_, _*_, _-_, _<_, _≤_}
+use mathlib.Core.Bool.{Bool, true, false, cond}
+use mathlib.Core.List.{List, [], _∷_}
 use mathlib.Core.Path.{_≡_, refl, ap, sym, subst, _∙_}
 use mathlib.Core.Logic.{_⊎_, inl, inr, ⊎-elim}
 use native.Mathlib.Nat.{suc-mul}
 use native.Mathlib.Decide.{decLt}
 use native.Mathlib.Omega.{arith}
-use borrow.Author.Tests.{lt-ltb, le-leb, eq-eqb}
-use lib.Dec.{leb, eqb}
+use borrow.Author.Tests.{lt-ltb, le-leb}
+use lib.Dec.{eqb}
 use lib.ListN.{length, getD, take, drop, length-take}
 use lib.Seq.{getD-drop, ext-getD}
 use Rattle.rows.specs.declared.Row.{Row}
 use Rattle.rows.specs.declared.Request.{Request}
 use Rattle.rows.specs.Lists.{rises, member, all, each, laid, filter, some, nonzero}
 use Rattle.rows.specs.Limits.{rowSlots, requestSlots, mostItems}
-use Rattle.rows.specs.Tables.{State, numbers, sources}
+use Rattle.rows.specs.Tables.{numbers, sources}
 use Rattle.rows.specs.Sound.{rowsRise, requestsRise, rowsFit, requestsFit, itemsFew}
 use Rattle.rows.specs.Layout.{wordsOf, nextAt, requestColumns, sourceSlot, rowWord, requestWord, rowField, numberAt, rowAt, rowsTo, rowColumns, requestsAt, requestField, requestAt, requestsTo, rowsIn, requestsIn, stateOf}
 use Rattle.rows.specs.Lies.{sourcesOlder, laidWell, Lies, slotWith, rowSlot}

@@ -6,7 +6,6 @@ use mathlib.Core.Path.{_≡_, refl, ap, sym, subst, _∙_}
 use mathlib.Core.Logic.{⊎-elim}
 use native.Mathlib.Nat.{eq-or-lt-of-le, le-of-suc-le-suc}
 use native.Mathlib.Omega.{arith}
-use borrow.Author.Tests.{lt-ltb}
 use lib.ListN.{length, getD, length-append, List·getD-eq-default}
 use Rattle.rows.specs.Lists.{all, each, topOf, rises, laid}
 use Rattle.rows.specs.Lies.{slotWith}

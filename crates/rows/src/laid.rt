@@ -55,9 +55,10 @@ pub fn older(column: &[u32], k: usize) -> bool
     let mut old = true;
     let mut i = 0;
     while i < k {
-        let slot = i as u32;
-        old = old & (column[i] <= slot);
+        let s = column[i];
         i += 1;
+        let next = i as u32;
+        old = old & (s < next);
     }
     old
 }

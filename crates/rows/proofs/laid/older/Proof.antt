@@ -1,12 +1,11 @@
 -- `laid::older` meets its contract: the answer so far tells of the places passed.
 use borrow.Author.Needs.{needs}
-use Prim.Native.Nat.{ℕ, _≤_, _<_, _-_, _+_}
+use Prim.Native.Nat.{_≤_, _<_, _-_, _+_}
 use native.Mathlib.Omega.{arith}
 use denote.Ref.{now}
-use mathlib.Core.Path.{_≡_}
-use lib.ListN.{length, getD}
+use lib.ListN.{getD}
 use Rattle.rows.specs.Laid.{Tells, Older}
-use Rattle.rows.proofs.Tells.{Between, tells-none, tells-more, tells-leb, tells-below}
+use Rattle.rows.proofs.Tells.{Between, tells-none, tells-more, tells-as, tells-ltb, tells-below}
 use Rattle.rows.proofs.laid.older.Statement.{statement}
 use Rattle.rows.proofs.laid.older.Tie as tie
 
@@ -19,17 +18,17 @@ abbrev μ-loop : tie.MeasureT-loop
 loop-holds : tie.Need-loop-holds Inv-loop μ-loop
 loop-holds c = (search needs, tells-none (λ j. getD (now (c .args .column)) j 0 ≤ j) 0)
 
-cast-slot : tie.Need-cast-slot Inv-loop μ-loop
-cast-slot c = search needs
+mul-s : tie.Need-mul-s Inv-loop μ-loop
+mul-s c = search needs
 
-mul-old : tie.Need-mul-old Inv-loop μ-loop
-mul-old c = search needs
-
-shared-slice-read-old : tie.Need-shared-slice-read-old Inv-loop μ-loop
-shared-slice-read-old c = search needs
+shared-slice-read-s : tie.Need-shared-slice-read-s Inv-loop μ-loop
+shared-slice-read-s c = search needs
 
 add-i : tie.Need-add-i Inv-loop μ-loop
 add-i c = search needs
+
+cast-next : tie.Need-cast-next Inv-loop μ-loop
+cast-next c = search needs
 
 loop-less : tie.Need-loop-less Inv-loop μ-loop
 loop-less c = search needs
@@ -38,7 +37,11 @@ loop-again : tie.Need-loop-again Inv-loop μ-loop
 loop-again c =
     let b = c .before .before in
     let l = now (b .before .args .column) in
-    (search needs, tells-more (λ j. getD l j 0 ≤ j) 0 (b .loop .i) (b .loop .old) _ (omega arith) (b .loop .inv .1) (tells-leb (getD l (b .loop .i) 0) (b .loop .i)))
+    let i = b .loop .i in (
+      search needs,
+      tells-more (λ j. getD l j 0 ≤ j) 0 i (b .loop .old) _ (omega arith) (b .loop .inv .1)
+          (tells-as (λ h. let x : getD l i 0 < i + 1 = h in omega arith) (λ h. let x : getD l i 0 ≤ i = h in omega arith) (tells-ltb (getD l i 0) (i + 1))),
+    )
 
 returns : tie.Need-returns Inv-loop μ-loop
 unfolding Older
@@ -53,10 +56,10 @@ older-spec =
     Inv-loop
     μ-loop
     loop-holds
-    cast-slot
-    mul-old
-    shared-slice-read-old
+    mul-s
+    shared-slice-read-s
     add-i
+    cast-next
     loop-less
     loop-again
     returns)

@@ -1,11 +1,10 @@
 -- `laid::zero_from` meets its contract: the answer so far tells of the places passed.
 use borrow.Author.Needs.{needs}
-use Prim.Native.Nat.{ℕ, _≤_, _<_, _-_, _+_}
-use native.Mathlib.Omega.{arith}
+use Prim.Native.Nat.{_≤_, _-_}
 use denote.Ref.{now}
 use mathlib.Core.Path.{_≡_}
 use lib.ListN.{length, getD}
-use Rattle.rows.specs.Laid.{Tells, ZeroFrom}
+use Rattle.rows.specs.Laid.{Tells}
 use Rattle.rows.proofs.Tells.{Between, tells-none, tells-more, tells-eqb, tells-zero}
 use Rattle.rows.proofs.laid.zero_from.Statement.{statement}
 use Rattle.rows.proofs.laid.zero_from.Tie as tie

@@ -1,7 +1,6 @@
 -- `record_clauses::next_sound` meets its contract: the last word of each column is the newest number.
 use borrow.Author.Needs.{needs}
 use mathlib.Core.Path.{_∙_}
-use denote.Ref.{now}
 use Rattle.rows.specs.Lists.{between}
 use Rattle.rows.specs.Limits.{greatestNumber}
 use Rattle.rows.specs.Sound.{belowNext, nextInRange}

@@ -1,7 +1,6 @@
 -- `record_clauses::process_placed` meets its contract: the row gone through is looked up by its number.
 use borrow.Author.Needs.{needs}
 use native.Mathlib.Omega.{arith}
-use denote.Ref.{now}
 use Rattle.rows.specs.Lies.{rowSlot}
 use Rattle.rows.proofs.KeySlots.{found-at, found-nothing, at-below}
 use Rattle.rows.proofs.RecordClauses.{placed-prime, placed-nowhere, placed-at}

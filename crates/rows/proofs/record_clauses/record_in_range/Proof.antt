@@ -1,5 +1,4 @@
 -- `record_clauses::record_in_range` meets its contract.
-use borrow.Author.Needs.{needs}
 use mathlib.Core.Path.{refl}
 use Rattle.rows.specs.Lists.{between}
 use Rattle.rows.specs.Limits.{nodes}

@@ -1,10 +1,10 @@
 -- `record_clauses::records_sound` meets its contract: the answer so far is that of the records passed.
 use borrow.Author.Needs.{needs}
-use Prim.Native.Nat.{ℕ, _≤_, _-_}
+use Prim.Native.Nat.{_≤_, _-_}
 use mathlib.Core.Path.{_≡_, refl, ap, sym, _∙_}
 use native.Mathlib.Omega.{arith}
 use denote.Ref.{now}
-use lib.ListN.{length, take}
+use lib.ListN.{take}
 use Rattle.rows.specs.Lists.{all}
 use Rattle.rows.specs.Tables.{noProcess}
 use Rattle.rows.specs.Sound.{recordInRange, recordsInRange}
