@@ -130,3 +130,16 @@ request-found vs q j e = slot-found (λ v. v .number) noRequest vs q j e
 pub open-found : (vs : List Request) (c j : ℕ) → openSlot vs c ≡ suc j → (member c (map (λ v. v .port) vs) ≡ true) × (openOn vs c .port ≡ c) × (j < length vs)
 unfolding openSlot openOn
 open-found vs c j e = slot-found (λ v. v .port) noRequest vs c j e
+
+-- the words of slot j are the request there
+pub request-read : (t : List ℕ) (j : ℕ)
+    → record {
+      number = getD t (10240 + j) 0;
+      port = getD t (10368 + j) 0;
+      asker = getD t (10496 + j) 0;
+      fetched = getD t (10624 + j) 0;
+      items = getD t (10752 + j) 0 ∷ getD t (10880 + j) 0 ∷ getD t (11008 + j) 0 ∷ getD t (11136 + j) 0 ∷ [];
+    } ≡ requestAt t j
+request-read t j =
+    sym
+    (request-of-words t j _ record { number = refl; port = refl; asker = refl; fetched = refl; item1 = refl; item2 = refl; item3 = refl; item4 = refl; items = refl })
