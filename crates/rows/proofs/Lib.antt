@@ -35,3 +35,11 @@ pub mod Standing
 pub mod Picked
 -- what the searches find where a state lies in the words
 pub mod Lookups
+-- stores in the words of a state, at any column and slot
+pub mod Put
+-- a state that lies in words, with one change
+pub mod Changes
+-- process records in their words, one after the other
+pub mod ProcessRecords
+-- one right within others
+pub mod RightsWithin

@@ -47,3 +47,7 @@ pub enum Found {
 pub mod find;
 pub mod layout;
 pub mod read;
+pub mod capcaps;
+pub mod change;
+pub mod layout;
+pub mod records;
