@@ -44,10 +44,9 @@ pub enum Found {
 }
 
 // ---- functions
+pub mod capcaps;
+pub mod change;
 pub mod find;
 pub mod layout;
 pub mod read;
-pub mod capcaps;
-pub mod change;
-pub mod layout;
 pub mod records;
