@@ -43,3 +43,5 @@ pub mod Changes
 pub mod ProcessRecords
 -- one right within others
 pub mod RightsWithin
+-- loops over the slots of a list, oldest first
+pub mod SlotLoops

@@ -7,5 +7,6 @@ pub mod Sound
 pub mod Layout
 pub mod Lies
 pub mod Searches
+pub mod AtSlot
 pub mod Changes
 pub mod Computes
