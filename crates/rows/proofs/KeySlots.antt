@@ -9,22 +9,28 @@ use native.Mathlib.Omega.{arith}
 use borrow.Author.Tests.{eqb-true, ne-eqb}
 use lib.Dec.{eqb}
 use lib.ListN.{length}
+use Rattle.rows.specs.declared.Found.{Found}
 use Rattle.rows.specs.declared.Found.the-variants.{At, Nothing}
 use Rattle.rows.specs.Lists.{firstWith, rises, member, each}
-use Rattle.rows.specs.Lies.{foundSlot, slotWith}
+use Rattle.rows.specs.Lies.{Within, foundSlot, slotWith}
 use Rattle.rows.proofs.Bools.{false-of, true-of, clash, and-l, and-r, eqb-sym, eqb-sym-f, eqb-self, member-here, member-there}
 use Rattle.rows.proofs.Keyed.{olderOf, first-key, rises-rest, rises-older, rises-range}
 
 -- ---- a look-up's answer as a slot plus 1
-pub found-at : (s i : ℕ) → foundSlot s ≡ At i → s ≡ suc i
+pub found-at : {r : Found} (s i : ℕ) → r ≡ foundSlot s → r ≡ At i → s ≡ suc i
 unfolding foundSlot
-found-at zero i e = cc
-found-at (suc s) i e = ap suc (cc)
+found-at zero i d e = cc
+found-at (suc s) i d e = ap suc (cc)
 
-pub found-nothing : (s : ℕ) → foundSlot s ≡ Nothing → s ≡ 0
+pub found-nothing : {r : Found} (s : ℕ) → r ≡ foundSlot s → r ≡ Nothing → s ≡ 0
 unfolding foundSlot
-found-nothing zero e = refl
-found-nothing (suc s) e = cc
+found-nothing zero d e = refl
+found-nothing (suc s) d e = cc
+
+pub at-below : (k : ℕ) (r : Found) (i : ℕ) → Within k r → r ≡ At i → i < k
+unfolding Within
+at-below k (At j) i h e = let same : j ≡ i = cc in omega arith
+at-below k Nothing i h e = let z : _≡_ {A = ℕ} 0 1 = cc in absurd (omega arith)
 
 module _ {A : Type 0} (key : A → ℕ) where
   -- ---- the slot of a key, over any list

@@ -7,21 +7,40 @@ use mathlib.Core.Logic.{_⊎_, inl, inr}
 use native.Mathlib.Omega.{arith}
 use borrow.Author.Tests.{ne-eqb}
 use lib.Dec.{eqb}
-use lib.ListN.{length, getD, length-append}
+use lib.ListN.{length, getD, take, drop, length-append, length-take}
 use Rattle.rows.specs.declared.Row.{Row}
 use Rattle.rows.specs.Lists.{filter, firstWith, rises, laid, member, all, some, nonzero}
 use Rattle.rows.specs.Tables.{State, noRow, rowOf, numbers, sources}
-use Rattle.rows.specs.Limits.{rowSlots}
-use Rattle.rows.specs.Layout.{slotOf, sourceSlot, rowWord, rowField}
-use Rattle.rows.specs.Lies.{sourcesOlder, Lies, slotWith, rowSlot, rawRow, withSources, slotted, numberOfSlot}
+use Rattle.rows.specs.declared.Found.{Found}
+use Rattle.rows.specs.declared.Found.the-variants.{At, Nothing}
+use Rattle.rows.specs.Limits.{rowSlots, requestSlots}
+use Rattle.rows.specs.Layout.{requestsAt, slotOf, sourceSlot, rowWord, rowField, rowsIn, requestsIn}
+use Rattle.rows.specs.Lies.{sourcesOlder, Lies, Within, slotWith, rowSlot, rawRow, withSources, slotted, numberOfSlot}
 use Rattle.rows.proofs.Bools.{and-l, and-r, pos-some, eqb-self, member-there}
-use Rattle.rows.proofs.Keyed.{olderOf, rises-rest}
+use Rattle.rows.proofs.Keyed.{olderOf, first-none, rises-rest}
 use Rattle.rows.proofs.RowSources.{Among}
 use Rattle.rows.proofs.LayoutColumns.{laid-at}
-pub use Rattle.rows.proofs.KeySlots.{found-at, found-nothing, slot-le, slot-there, none-slot, slot-none, slot-member, slot-older, slot-found, cut-first, rises-old, slot-kept, slot-number, older-slot, slot-zero, each-cut, Cut, cut-at}
+use Rattle.rows.proofs.Searches.{leading-le}
+pub use Rattle.rows.proofs.KeySlots.{found-at, found-nothing, at-below, slot-le, slot-there, none-slot, slot-none, slot-member, slot-older, slot-found, cut-first, rises-old, slot-kept, slot-number, older-slot, slot-zero, each-cut, Cut, cut-at}
 unfoldable pub use Rattle.rows.proofs.KeySlots.{newerOf}
 pub use Rattle.rows.proofs.LiesWords.{Well, well-open, sound-lies, lies-well, lies-length, lies-rows, lies-requests, lies-next, lies-row, lies-request}
-pub use Rattle.rows.proofs.RequestSlots.{RequestWords, request-of-words, request-words-at, request-words, request-read, raw-request, open-words, raw-open, request-found, open-found}
+pub use Rattle.rows.proofs.RequestSlots.{RequestWords, request-of-words, request-words-at, request-words, request-read, raw-request, open-words, raw-open, request-found, request-absent, open-found, open-absent}
+
+-- ---- slots in use, of any words
+pub rows-most : (t : List ℕ) → rowsIn t ≤ 1024
+unfolding rowsIn rowSlots
+rows-most t = omega (arith, leading-le (take 1024 t), length-take 1024 t)
+
+pub requests-most : (t : List ℕ) → requestsIn t ≤ 128
+unfolding requestsIn requestSlots
+requests-most t = omega (arith, leading-le (take 128 (drop requestsAt t)), length-take 128 (drop requestsAt t))
+
+-- what a look-up found is a slot of the table
+pub row-below : (t : List ℕ) (r : Found) (i : ℕ) → Within (rowsIn t) r → r ≡ At i → i < 1024
+row-below t r i h e = omega (arith, at-below (rowsIn t) r i h e, rows-most t)
+
+pub request-below : (t : List ℕ) (r : Found) (j : ℕ) → Within (requestsIn t) r → r ≡ At j → j < 128
+request-below t r j h e = omega (arith, at-below (requestsIn t) r j h e, requests-most t)
 
 -- ---- the slot of a source
 slot-of : (rs : List Row) (n : ℕ) → slotOf rs n ≡ rowSlot rs n
@@ -106,6 +125,10 @@ row-none rs n e = slot-none (λ r. r .number) rs n e
 pub none-row : (rs : List Row) (n : ℕ) → member n (numbers rs) ≡ false → rowSlot rs n ≡ 0
 unfolding rowSlot numbers
 none-row rs n e = none-slot (λ r. r .number) rs n e
+
+pub row-absent : (rs : List Row) (n : ℕ) → rowSlot rs n ≡ 0 → rowOf rs n ≡ noRow
+unfolding rowSlot rowOf
+row-absent rs n e = first-none (λ r. r .number) noRow rs n (slot-none (λ r. r .number) rs n e)
 
 -- the number of the row at a slot plus 1, back from the slot
 pub number-of-cut : (new : List Row) (r : Row) (old : List Row) → numberOfSlot (new ++ (r ∷ old)) (suc (length old)) ≡ r .number
