@@ -45,3 +45,5 @@ pub mod ProcessRecords
 pub mod RightsWithin
 -- loops over the slots of a list, oldest first
 pub mod SlotLoops
+-- the clauses of one row, its slot's words and its sources at hand
+pub mod RowClauses

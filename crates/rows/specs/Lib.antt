@@ -8,5 +8,6 @@ pub mod Layout
 pub mod Lies
 pub mod Searches
 pub mod AtSlot
+pub mod Seen
 pub mod Changes
 pub mod Computes

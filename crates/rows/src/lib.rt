@@ -46,7 +46,9 @@ pub enum Found {
 // ---- functions
 pub mod capcaps;
 pub mod change;
+pub mod codes;
 pub mod find;
 pub mod layout;
 pub mod read;
 pub mod records;
+pub mod row_clauses;
