@@ -47,3 +47,7 @@ pub mod RightsWithin
 pub mod SlotLoops
 -- the clauses of one row, its slot's words and its sources at hand
 pub mod RowClauses
+-- the row at a slot, as the tests of one row see it
+pub mod RowsSeen
+-- ends in pairs: neighbours by number stand in neighbouring slots
+pub mod RowPairs
