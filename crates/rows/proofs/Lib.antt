@@ -51,3 +51,5 @@ pub mod RowClauses
 pub mod RowsSeen
 -- ends in pairs: neighbours by number stand in neighbouring slots
 pub mod RowPairs
+-- the clauses of a row joined, and of all rows
+pub mod RowsSound

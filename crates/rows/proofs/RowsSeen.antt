@@ -1,5 +1,5 @@
 -- The row at a slot of the words in which a state lies, as the tests of one row see it: its own words and its sources.
-use Prim.Native.Nat.{ℕ, zero, suc}
+use Prim.Native.Nat.{ℕ, zero, suc, _+_, _-_, _<_, _≤_}
 use mathlib.Core.Bool.{Bool, true, false}
 use mathlib.Core.List.{List, [], _∷_, _++_, append-assoc, map}
 use mathlib.Core.Path.{_≡_, refl, ap, sym, subst, _∙_}
@@ -7,11 +7,12 @@ use mathlib.Core.Logic.{_⊎_, inl, inr}
 use native.Mathlib.Omega.{arith}
 use borrow.Author.Tests.{eq-eqb, eqb-true, ne-eqb}
 use lib.Dec.{eqb}
-use lib.ListN.{length}
+use lib.ListN.{length, getD}
 use Rattle.rows.specs.declared.Row.{Row}
 use Rattle.rows.specs.Lists.{rises, member}
+use Rattle.rows.specs.Limits.{rowSlots}
 use Rattle.rows.specs.Tables.{State, noRow, rowOf, numbers}
-use Rattle.rows.specs.Layout.{sourceSlot}
+use Rattle.rows.specs.Layout.{sourceSlot, rowField}
 use Rattle.rows.specs.Lies.{sourcesOlder, Lies, rowSlot, rawRow, withSources, slotted}
 use Rattle.rows.specs.Seen.{Same, Seen, slotRow}
 use Rattle.rows.proofs.Bools.{clash}
@@ -28,6 +29,16 @@ unfolding slotted withSources
 same-slotted r old = record { number = refl; kind = refl; object = refl; operation = refl; rights = refl; place = refl; depth = refl; request = refl }
 
 -- ---- a source by its slot
+pub slot-row-pos : (t : List ℕ) (s : ℕ) → (s ≡ 0 → ⊥) → rawRow t (s - 1) ≡ slotRow t s
+unfolding slotRow
+slot-row-pos t zero h = absurd (h refl)
+slot-row-pos t (suc i) h = ap (rawRow t) (omega arith)
+
+-- source words in range
+pub row-sources : (t : List ℕ) (i : ℕ) (x : Row) → x ≡ rawRow t i → i < 1024 → getD t (6144 + i) 0 ≤ i → getD t (7168 + i) 0 ≤ i → (x .source ≤ 1024) × (x .via ≤ 1024)
+unfolding rawRow rowField rowSlots
+row-sources t i x d h s v = (omega (arith, ap (λ (r : Row). r .source) d), omega (arith, ap (λ (r : Row). r .via) d))
+
 module _ {st : State} {t : List ℕ} (lie : Lies st t) where
   slot-row-at : (new old : List Row) → st .rows ≡ new ++ old → (n s : ℕ) → rowSlot old n ≡ s → Same (slotRow t s) (rowOf old n)
   unfolding slotRow
@@ -93,5 +104,9 @@ module _ {st : State} {t : List ℕ} (lie : Lies st t) (new : List Row) (y : Row
         via-number = slot-seen (y .via) .number ∙ among-number old up-old (y .via) (among .1);
       }
 
-  pub seen-at : (x : Row) → x ≡ rawRow t (length old) → Seen x (slotRow t (x .source)) (slotRow t (x .via)) y old
-  seen-at x d = subst (λ (r : Row). Seen r (slotRow t (r .source)) (slotRow t (r .via)) y old) (sym (d ∙ raw-row-at lie new y old e)) seen
+  pub seen-at : (x s v : Row) → x ≡ rawRow t (length old) → s ≡ slotRow t (x .source) → v ≡ slotRow t (x .via) → Seen x s v y old
+  seen-at x s v d ds dv =
+      rw (ds, dv) (subst (λ (r : Row). Seen r (slotRow t (r .source)) (slotRow t (r .via)) y old) (sym (d ∙ raw-row-at lie new y old e)) seen)
+
+  pub same-at : (x : Row) → x ≡ rawRow t (length old) → Same x y
+  same-at x d = subst (λ (r : Row). Same r y) (sym (d ∙ raw-row-at lie new y old e)) (same-slotted y old)

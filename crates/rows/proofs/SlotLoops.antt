@@ -57,6 +57,9 @@ module _ {A : Type 0} where
       swap true false false d = refl
       swap false b c d = refl
 
+  pub each-join : (F G : A → List A → Bool) (xs : List A) {b c : Bool} → each F xs ≡ b → each G xs ≡ c → each (λ x old. F x old && G x old) xs ≡ b && c
+  each-join F G xs p q = each-and F G xs ∙ (λ i. p i && q i)
+
   -- a test that looks at no older element
   pub each-all : (f : A → Bool) (xs : List A) → each (λ x old. f x) xs ≡ all f xs
   unfolding each all
