@@ -52,3 +52,4 @@ pub mod layout;
 pub mod read;
 pub mod records;
 pub mod row_clauses;
+pub mod rows_sound;
