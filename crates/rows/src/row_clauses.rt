@@ -50,14 +50,14 @@ pub fn is_node(place: u32) -> bool
 }
 
 // Ruled out: place 100; place 165.
-pub fn is_clist(place: u32) -> bool
+fn is_clist(place: u32) -> bool
     ensures { λ r. ⌜ r ≡ isClist place ⌝ }
 {
     (FIRST_CLIST <= place) & (place <= LAST_CLIST)
 }
 
 // Each right of a is one of b. Ruled out: a right that b lacks; the sides swapped.
-pub fn within(a: u32, b: u32) -> bool
+fn within(a: u32, b: u32) -> bool
     ensures { λ r. ⌜ r ≡ isWithin a b ⌝ }
 {
     let hold = a % 2 <= b % 2;
@@ -116,7 +116,7 @@ pub fn place_in_range(x: Row, p: &[u32]) -> bool
 
 // ---- sources
 // Ruled out: a row of a node with a source; an end.
-pub fn is_opening(x: Row) -> bool
+fn is_opening(x: Row) -> bool
     ensures { λ r. ⌜ r ≡ isOpening x ⌝ }
 {
     let node = is_node(x.place);
@@ -125,7 +125,7 @@ pub fn is_opening(x: Row) -> bool
 }
 
 // Ruled out: a source that is in no node; a second source.
-pub fn is_registered(x: Row, s: Row, v: Row) -> bool
+fn is_registered(x: Row, s: Row, v: Row) -> bool
     ensures { λ r. ⌜ ((y : Row) (rs : List Row) → Seen x s v y rs → r ≡ isRegistered rs y) ⌝ }
 {
     let node = is_node(x.place);
@@ -135,7 +135,7 @@ pub fn is_registered(x: Row, s: Row, v: Row) -> bool
 }
 
 // Ruled out: a source that is in no node; a second source that is an operation.
-pub fn is_held(x: Row, s: Row, v: Row) -> bool
+fn is_held(x: Row, s: Row, v: Row) -> bool
     ensures { λ r. ⌜ ((y : Row) (rs : List Row) → Seen x s v y rs → r ≡ isHeld rs y) ⌝ }
 {
     let home = is_clist(x.place);
@@ -146,7 +146,7 @@ pub fn is_held(x: Row, s: Row, v: Row) -> bool
 }
 
 // Ruled out: an end in a node; an end whose source is a subdirectory.
-pub fn is_port_end(x: Row, s: Row, v: Row) -> bool
+fn is_port_end(x: Row, s: Row, v: Row) -> bool
     ensures { λ r. ⌜ ((y : Row) (rs : List Row) → Seen x s v y rs → r ≡ isPortEnd rs y) ⌝ }
 {
     let end = is_end(x.kind);
@@ -156,7 +156,7 @@ pub fn is_port_end(x: Row, s: Row, v: Row) -> bool
 }
 
 // Ruled out: a second source that is a server end; one that is not the port of the request.
-pub fn is_lent_copy(x: Row, s: Row, v: Row, port: u32) -> bool
+fn is_lent_copy(x: Row, s: Row, v: Row, port: u32) -> bool
     ensures { λ r. ⌜ ((y : Row) (rs : List Row) (vs : List Request) → Seen x s v y rs → port ≡ requestOf vs (y .request) .port → r ≡ isLentCopy vs rs y) ⌝ }
 {
     let node = is_node(x.place);

@@ -126,7 +126,7 @@ fn pair_below(t: &[u32], x: Row, i: usize) -> bool
 }
 
 // Ruled out: a client end without its server end; a server end without its client end.
-pub fn end_paired(t: &[u32], x: Row, i: usize, n: usize) -> bool
+fn end_paired(t: &[u32], x: Row, i: usize, n: usize) -> bool
     requires { ⌜ (length (now t) ≡ 11265) × (i < 1024) × (n ≤ 1024) ⌝ }
     ensures { λ r. ⌜ ((st : State) → Lies st (now (t .entry)) → n ≡ length (st .rows) → x ≡ rawRow (now (t .entry)) i → AtSlot (λ y old. endPaired (st .rows) y) (st .rows) i r) ⌝ }
 {
@@ -175,7 +175,7 @@ fn sources_sound(t: &[u32], x: Row, m: usize) -> bool
 }
 
 // The clauses of the row at slot i. Ruled out: a row whose fields alone are right; the row at another slot.
-pub fn row_sound(t: &[u32], p: &[u32], i: usize, n: usize, m: usize) -> bool
+fn row_sound(t: &[u32], p: &[u32], i: usize, n: usize, m: usize) -> bool
     requires { ⌜ (length (now t) ≡ 11265) × (length (now p) ≡ 192) × (i < 1024) × (n ≤ 1024) × (m ≤ 128) × (getD (now t) (6144 + i) 0 ≤ i) × (getD (now t) (7168 + i) 0 ≤ i) ⌝ }
     ensures { λ r. ⌜ ((st : State) → Lies st (now (t .entry)) → st .processes ≡ recordsIn (now (p .entry)) → n ≡ length (st .rows) → m ≡ length (st .requests) → AtSlot (rowSound st) (st .rows) i r) ⌝ }
 {

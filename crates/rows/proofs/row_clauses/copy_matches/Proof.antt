@@ -13,7 +13,10 @@ within-requires c κs = search needs
 
 returns : tie.Need-returns
 unfolding copyMatches
-returns c = λ y rs h. rw (c .before .before .before .before .before .before .before .before .is-end .ensures, c .before .before .before .before .before .before .before .within .ensures, h .source-none, h .own .kind, h .own .object, h .own .operation, h .own .rights, h .source .kind, h .source .object, h .source .operation, h .source .rights) refl
+returns c =
+    λ y rs h.
+    rw (c .before .before .before .before .before .before .before .before .is-end .ensures, c .before .before .before .before .before .before .before .within .ensures)
+    (rw (h .source-none, h .own .kind, h .own .object, h .own .operation, h .own .rights, h .source .kind, h .source .object, h .source .operation, h .source .rights) refl)
 
 pub copy-matches-spec : {M : Type 1} → statement M
 copy-matches-spec = tie.close (tie.spec is-end-requires within-requires returns)

@@ -17,7 +17,13 @@ follows-requires c κs = search needs
 
 returns : tie.Need-returns
 unfolding depthRight depthOver greatestDepth
-returns c = λ y rs h. rw (c .before .follows .ensures, ⊎-elim (λ w. greater-second (c .before .before .before .before .args .s .depth) (c .before .before .before .before .args .v .depth) (c .before .before .if1 .top) (w .0 .taken) (w .1)) (λ w. greater-first (c .before .before .before .before .args .s .depth) (c .before .before .before .before .args .v .depth) (c .before .before .if1 .top) (w .0 .left) (w .1)) (c .before .before .if1 .came), h .own .depth, h .source .depth, h .via .depth) (ap (λ (b : Bool). b && leb (y .depth) 12) (eqb-sym (depthOver rs (y .source) (y .via)) (y .depth)))
+returns c =
+    λ y rs h.
+    let a = c .before .before .before .before .args in
+    let b = c .before .before .if1 in
+    let top = ⊎-elim (λ w. greater-second (a .s .depth) (a .v .depth) (b .top) (w .0 .taken) (w .1)) (λ w. greater-first (a .s .depth) (a .v .depth) (b .top) (w .0 .left) (w .1)) (b .came) in
+    rw (c .before .follows .ensures, top, h .own .depth, h .source .depth, h .via .depth)
+    (ap (λ (b : Bool). b && leb (y .depth) 12) (eqb-sym (depthOver rs (y .source) (y .via)) (y .depth)))
 
 pub depth-right-spec : {M : Type 1} → statement M
 depth-right-spec = tie.close (tie.spec follows-requires returns)

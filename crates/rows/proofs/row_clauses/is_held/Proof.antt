@@ -17,7 +17,10 @@ is-node-requires c κs = search needs
 
 returns : tie.Need-returns
 unfolding isHeld isSubdirectory subdirectory
-returns c = λ y rs h. rw (c .before .before .before .before .before .is-clist .ensures, c .before .before .before .before .is-copied .ensures, c .before .before .before .is-node .ensures, h .own .place, h .own .kind, h .source .place, h .via-none, h .via .kind, h .own .request) refl
+returns c =
+    λ y rs h.
+    rw (c .before .before .before .before .before .is-clist .ensures, c .before .before .before .before .is-copied .ensures, c .before .before .before .is-node .ensures)
+    (rw (h .own .place, h .own .kind, h .source .place, h .via-none, h .via .kind, h .own .request) refl)
 
 pub is-held-spec : {M : Type 1} → statement M
 is-held-spec = tie.close (tie.spec is-clist-requires is-copied-requires is-node-requires returns)

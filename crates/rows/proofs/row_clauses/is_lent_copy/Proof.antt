@@ -18,7 +18,10 @@ is-copied-requires-2 c κs = search needs
 
 returns : tie.Need-returns
 unfolding isLentCopy isClient clientEnd some
-returns c = λ y rs vs h e. rw (c .before .before .before .before .before .is-node .ensures, c .before .before .before .before .is-copied .ensures, c .before .before .before .is-copied2 .ensures, e, h .own .place, h .own .kind, h .source .kind, h .via .kind, h .via-number, h .own .request) refl
+returns c =
+    λ y rs vs h e.
+    rw (c .before .before .before .before .before .is-node .ensures, c .before .before .before .before .is-copied .ensures, c .before .before .before .is-copied2 .ensures)
+    (rw (e, h .own .place, h .own .kind, h .source .kind, h .via .kind, h .via-number, h .own .request) refl)
 
 pub is-lent-copy-spec : {M : Type 1} → statement M
 is-lent-copy-spec = tie.close (tie.spec is-node-requires is-copied-requires is-copied-requires-2 returns)

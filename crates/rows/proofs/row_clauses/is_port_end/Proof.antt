@@ -14,7 +14,9 @@ is-node-requires c κs = search needs
 
 returns : tie.Need-returns
 unfolding isPortEnd isOperation operation
-returns c = λ y rs h. rw (c .before .before .before .before .is-end .ensures, c .before .before .before .is-node .ensures, h .own .place, h .own .kind, h .source .kind, h .via-none, h .own .request) refl
+returns c =
+    λ y rs h.
+    rw (c .before .before .before .before .is-end .ensures, c .before .before .before .is-node .ensures, h .own .place, h .own .kind, h .source .kind, h .via-none, h .own .request) refl
 
 pub is-port-end-spec : {M : Type 1} → statement M
 is-port-end-spec = tie.close (tie.spec is-end-requires is-node-requires returns)

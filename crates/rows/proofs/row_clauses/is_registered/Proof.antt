@@ -16,7 +16,10 @@ is-node-requires-2 c κs = search needs
 
 returns : tie.Need-returns
 unfolding isRegistered
-returns c = λ y rs h. rw (c .before .before .before .before .is-node .ensures, c .before .before .before .is-copied .ensures, c .before .before .is-node2 .ensures, h .own .place, h .own .kind, h .source .place, h .via-none, h .own .request) refl
+returns c =
+    λ y rs h.
+    rw (c .before .before .before .before .is-node .ensures, c .before .before .before .is-copied .ensures, c .before .before .is-node2 .ensures)
+    (rw (h .own .place, h .own .kind, h .source .place, h .via-none, h .own .request) refl)
 
 pub is-registered-spec : {M : Type 1} → statement M
 is-registered-spec = tie.close (tie.spec is-node-requires is-copied-requires is-node-requires-2 returns)

@@ -19,7 +19,9 @@ is-node-requires c κs = search needs
 
 returns : tie.Need-returns
 unfolding objectInRange isOperation isSubdirectory isClient isServer operation subdirectory clientEnd serverEnd isNode greatestOperation
-returns c = rw (c .before .before .before .before .before .before .before .before .before .listed .ensures, c .before .before .before .before .before .before .before .before .follows .ensures, c .before .before .before .before .before .before .before .is-node .ensures) refl
+returns c =
+    let b = c .before .before .before .before .before .before .before in
+    rw (b .before .before .listed .ensures, b .before .follows .ensures, b .is-node .ensures) refl
 
 pub object-in-range-spec : {M : Type 1} → statement M
 object-in-range-spec = tie.close (tie.spec listed-requires follows-requires is-node-requires returns)

@@ -10,7 +10,8 @@ is-node-requires : tie.Need-is-node-requires
 is-node-requires c κs = search needs
 
 returns : tie.Need-returns
-returns c = c .is-node .ensures ∙ place-near (recordsIn (c .before .before .before .args .p .now)) (c .before .before .before .args .x) (c .before .if1 .taken)
+returns c =
+    c .is-node .ensures ∙ place-near (recordsIn (c .before .before .before .args .p .now)) (c .before .before .before .args .x) (c .before .if1 .taken)
 
 sub-listed : tie.Need-sub-listed
 sub-listed c = search needs
@@ -19,7 +20,8 @@ listed-requires : tie.Need-listed-requires
 listed-requires c κs = search needs
 
 returns-2 : tie.Need-returns-2
-returns-2 c = rw (c .listed .ensures) (place-far (recordsIn (c .before .before .before .args .p .now)) (c .before .before .before .args .x) (c .before .if1 .left))
+returns-2 c =
+    rw (c .listed .ensures) (place-far (recordsIn (c .before .before .before .args .p .now)) (c .before .before .before .args .x) (c .before .if1 .left))
 
 pub place-in-range-spec : {M : Type 1} → statement M
 place-in-range-spec = tie.close (tie.spec is-node-requires returns sub-listed listed-requires returns-2)

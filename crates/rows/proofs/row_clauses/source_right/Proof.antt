@@ -23,7 +23,10 @@ is-lent-copy-requires c κs = search needs
 
 returns : tie.Need-returns
 unfolding sourceRight
-returns c = λ y rs vs h e. rw (c .before .before .before .before .is-opening .ensures ∙ opening-seen h, c .before .before .before .is-registered .ensures y rs h, c .before .before .is-held .ensures y rs h, c .before .is-port-end .ensures y rs h, c .is-lent-copy .ensures y rs vs h e) refl
+returns c =
+    λ y rs vs h e.
+    let b = c .before .before in
+    rw (b .before .before .is-opening .ensures ∙ opening-seen h, b .before .is-registered .ensures y rs h, b .is-held .ensures y rs h, c .before .is-port-end .ensures y rs h, c .is-lent-copy .ensures y rs vs h e) refl
 
 pub source-right-spec : {M : Type 1} → statement M
 source-right-spec = tie.close (tie.spec is-opening-requires is-registered-requires is-held-requires is-port-end-requires is-lent-copy-requires returns)

@@ -14,7 +14,9 @@ copy-matches-requires : tie.Need-copy-matches-requires
 copy-matches-requires c κs = search needs
 
 returns : tie.Need-returns
-returns c = λ y rs vs h e. rw (c .before .before .source-right .ensures y rs vs h e, c .before .depth-right .ensures y rs h, c .copy-matches .ensures y rs h) refl
+returns c =
+    λ y rs vs h e.
+    rw (c .before .before .source-right .ensures y rs vs h e, c .before .depth-right .ensures y rs h, c .copy-matches .ensures y rs h) refl
 
 pub by-sources-spec : {M : Type 1} → statement M
 by-sources-spec =

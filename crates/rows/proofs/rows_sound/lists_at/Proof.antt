@@ -50,7 +50,8 @@ shared-slice-read-d : tie.Need-shared-slice-read-d
 shared-slice-read-d c = search needs
 
 returns : tie.Need-returns
-returns c = lists-words (c .before .before .before .before .args .t .now) (c .before .before .before .before .args .j) (c .before .before .before .before .args .e)
+returns c =
+    lists-words (c .before .before .before .before .args .t .now) (c .before .before .before .before .args .j) (c .before .before .before .before .args .e)
 
 pub lists-at-spec : {M : Type 1} → statement M
 lists-at-spec =

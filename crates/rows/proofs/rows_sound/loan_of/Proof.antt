@@ -10,7 +10,9 @@ use Rattle.rows.proofs.rows_sound.loan_of.Statement.{statement}
 use Rattle.rows.proofs.rows_sound.loan_of.Tie as tie
 
 returns : tie.Need-returns
-returns c = λ st lie long. loan-none (st .requests) (c .before .before .args .q) (c .before .before .args .e) (no-request lie (c .before .before .args .q) (c .if1 .taken))
+returns c =
+    λ st lie long.
+    loan-none (st .requests) (c .before .before .args .q) (c .before .before .args .e) (no-request lie (c .before .before .args .q) (c .if1 .taken))
 
 sub-search : tie.Need-sub-search
 sub-search c = search needs
@@ -31,22 +33,46 @@ enum-told : tie.Need-enum-told
 enum-told c = search needs
 
 returns-2 : tie.Need-returns-2
-returns-2 c = λ st lie long. loan-none (st .requests) (c .before .before .before .before .before .before .args .q) (c .before .before .before .before .before .before .args .e) (found-nothing (requestSlot (st .requests) (c .before .before .before .before .before .before .args .q)) (request-search lie (c .before .before .before .before .before .before .args .m) (c .before .before .before .before .before .before .args .q) (c .before .before .search .result) long (c .before .before .search .ensures .1)) (c .enum-told .given .1))
+returns-2 c =
+    λ st lie long.
+    let a = c .before .before .before .before .before .before .args in
+    let s = c .before .before .search in
+    let none = found-nothing (requestSlot (st .requests) (a .q)) (request-search lie (a .m) (a .q) (s .result) long (s .ensures .1)) (c .enum-told .given .1) in
+    loan-none (st .requests) (a .q) (a .e) none
 
 lists-at-requires : tie.Need-lists-at-requires
-lists-at-requires c κs = omega (arith, at-below (c .before .before .before .before .before .before .before .args .m) (c .before .before .before .search .result) (c .before .j .given .0 .0) (c .before .before .before .search .ensures .0) (c .before .j .given .1))
+lists-at-requires c κs =
+    let b = c .before in
+    let s = b .before .before .search in
+    omega (arith, at-below (b .before .before .before .before .before .before .args .m) (s .result) (b .j .given .0 .0) (s .ensures .0) (b .j .given .1))
 
 add-t11 : tie.Need-add-t11
-add-t11 c = omega (arith, at-below (c .before .before .before .before .before .before .before .before .args .m) (c .before .before .before .before .search .result) (c .before .before .j .given .0 .0) (c .before .before .before .before .search .ensures .0) (c .before .before .j .given .1))
+add-t11 c =
+    let b = c .before .before in
+    let s = b .before .before .search in
+    omega (arith, at-below (b .before .before .before .before .before .before .args .m) (s .result) (b .j .given .0 .0) (s .ensures .0) (b .j .given .1))
 
 mul-t14 : tie.Need-mul-t14
-mul-t14 c = omega (arith, at-below (c .before .before .before .before .before .before .before .before .args .m) (c .before .before .before .before .search .result) (c .before .before .j .given .0 .0) (c .before .before .before .before .search .ensures .0) (c .before .before .j .given .1))
+mul-t14 c =
+    let b = c .before .before in
+    let s = b .before .before .search in
+    omega (arith, at-below (b .before .before .before .before .before .before .args .m) (s .result) (b .j .given .0 .0) (s .ensures .0) (b .j .given .1))
 
 shared-slice-read-t16 : tie.Need-shared-slice-read-t16
-shared-slice-read-t16 c = omega (arith, at-below (c .before .before .before .before .before .before .before .before .before .args .m) (c .before .before .before .before .before .search .result) (c .before .before .before .j .given .0 .0) (c .before .before .before .before .before .search .ensures .0) (c .before .before .before .j .given .1))
+shared-slice-read-t16 c =
+    let b = c .before .before .before in
+    let s = b .before .before .search in
+    omega (arith, at-below (b .before .before .before .before .before .before .args .m) (s .result) (b .j .given .0 .0) (s .ensures .0) (b .j .given .1))
 
 returns-3 : tie.Need-returns-3
-returns-3 c = λ st lie long. let a = c .before .before .before .before .before .before .before .before .before .args in let j = c .before .before .before .j .given .0 .0 in let s = c .before .before .before .before .before .search in let (port, listed) = loan-at lie (a .q) (a .e) j (found-at (requestSlot (st .requests) (a .q)) j (request-search lie (a .m) (a .q) (s .result) long (s .ensures .1)) (c .before .before .before .j .given .1)) in (port, c .before .lists-at .ensures ∙ listed)
+returns-3 c =
+    λ st lie long.
+    let a = c .before .before .before .before .before .before .before .before .before .args in
+    let s = c .before .before .before .before .before .search in
+    let j = c .before .before .before .j .given in
+    let slot = found-at (requestSlot (st .requests) (a .q)) (j .0 .0) (request-search lie (a .m) (a .q) (s .result) long (s .ensures .1)) (j .1) in
+    let (port, listed) = loan-at lie (a .q) (a .e) (j .0 .0) slot in
+    (port, c .before .lists-at .ensures ∙ listed)
 
 pub loan-of-spec : {M : Type 1} → statement M
 loan-of-spec =

@@ -14,13 +14,23 @@ fields-in-range-requires : tie.Need-fields-in-range-requires
 fields-in-range-requires c κs = search needs
 
 sources-sound-requires : tie.Need-sources-sound-requires
-sources-sound-requires c κs = let a = c .before .before .before .before .args in let pre = c .before .before .before .before .pre in let x = c .before .row-at in let (s, v) = row-sources (a .t .now) (a .i) (x .result) (x .ensures) (pre .2) (pre .5) (pre .6) in (pre .0, pre .4, s, v)
+sources-sound-requires c κs =
+    let a = c .before .before .before .before .args in
+    let pre = c .before .before .before .before .pre in
+    let x = c .before .row-at in
+    let (s, v) = row-sources (a .t .now) (a .i) (x .result) (x .ensures) (pre .2) (pre .5) (pre .6) in
+    (pre .0, pre .4, s, v)
 
 end-paired-requires : tie.Need-end-paired-requires
 end-paired-requires c κs = search needs
 
 returns : tie.Need-returns
-returns c = λ st lie ps n m. let a = c .before .before .before .before .before .before .args in let x = c .before .before .before .row-at in row-joined lie (a .i) (x .result) (x .ensures) (recordsIn (a .p .now)) ps (c .before .before .fields-in-range .ensures) (c .before .sources-sound .ensures st (a .i) lie m (x .ensures)) (c .end-paired .ensures st lie n (x .ensures))
+returns c =
+    λ st lie ps n m.
+    let a = c .before .before .before .before .before .before .args in
+    let x = c .before .before .before .row-at in
+    row-joined lie (a .i) (x .result) (x .ensures) (recordsIn (a .p .now)) ps
+    (c .before .before .fields-in-range .ensures) (c .before .sources-sound .ensures st (a .i) lie m (x .ensures)) (c .end-paired .ensures st lie n (x .ensures))
 
 pub row-sound-spec : {M : Type 1} → statement M
 row-sound-spec =

@@ -28,10 +28,20 @@ loop-holds : tie.Need-loop-holds Inv-loop μ-loop
 loop-holds c = (omega arith, (λ st lie ps n m. passed-none (rowSound st) (st .rows)))
 
 row-sound-requires : tie.Need-row-sound-requires Inv-loop μ-loop
-row-sound-requires c κs = let a = c .before .before .before .before .args in let pre = c .before .before .before .before .pre in let i = c .before .loop .i in let h = c .loop-test .taken in (pre .0 .0, pre .0 .1, omega arith, pre .0 .2, pre .0 .3, pre .1 .0 i h, pre .1 .1 i h)
+row-sound-requires c κs =
+    let pre = c .before .before .before .before .pre in
+    let i = c .before .loop .i in
+    let h = c .loop-test .taken in
+    (pre .0 .0, pre .0 .1, omega arith, pre .0 .2, pre .0 .3, pre .1 .0 i h, pre .1 .1 i h)
 
 returns : tie.Need-returns Inv-loop μ-loop
-returns c = λ st lie ps n m. let i = c .before .before .before .loop .i in let h : i < length (st .rows) = omega arith in sym (sym (rows-joined st) ∙ failed-at h (subst (λ (b : Bool). AtSlot (rowSound st) (st .rows) i b) (not-t (c .before .row-sound .result) (c .if1 .taken)) (c .before .row-sound .ensures st lie ps n m)))
+returns c =
+    λ st lie ps n m.
+    let i = c .before .before .before .loop .i in
+    let r = c .before .row-sound in
+    let h : i < length (st .rows) = omega arith in
+    let fails = subst (λ (b : Bool). AtSlot (rowSound st) (st .rows) i b) (not-t (r .result) (c .if1 .taken)) (r .ensures st lie ps n m) in
+    sym (sym (rows-joined st) ∙ failed-at h fails)
 
 add-i : tie.Need-add-i Inv-loop μ-loop
 add-i c = search needs
@@ -40,10 +50,20 @@ loop-less : tie.Need-loop-less Inv-loop μ-loop
 loop-less c = search needs
 
 loop-again : tie.Need-loop-again Inv-loop μ-loop
-loop-again c = (omega arith, (λ st lie ps n m. let i = c .before .before .before .loop .i in passed-more (c .before .before .before .loop .inv .1 st lie ps n m) (subst (λ (b : Bool). AtSlot (rowSound st) (st .rows) i b) (not-f (c .before .row-sound .result) (c .if1 .left)) (c .before .row-sound .ensures st lie ps n m))))
+loop-again c =
+    let i = c .before .before .before .loop .i in
+    let r = c .before .row-sound in (
+      omega arith,
+      (λ st lie ps n m.
+          passed-more (c .before .before .before .loop .inv .1 st lie ps n m) (subst (λ (b : Bool). AtSlot (rowSound st) (st .rows) i b) (not-f (r .result) (c .if1 .left)) (r .ensures st lie ps n m))),
+    )
 
 returns-2 : tie.Need-returns-2 Inv-loop μ-loop
-returns-2 c = λ st lie ps n m. let i = c .before .loop .i in let whole : i ≡ length (st .rows) = omega arith in sym (sym (rows-joined st) ∙ passed-all (rowSound st) (st .rows) (subst (λ (k : ℕ). Passed (rowSound st) (st .rows) k) whole (c .before .loop .inv .1 st lie ps n m)))
+returns-2 c =
+    λ st lie ps n m.
+    let i = c .before .loop .i in
+    let whole : i ≡ length (st .rows) = omega arith in
+    sym (sym (rows-joined st) ∙ passed-all (rowSound st) (st .rows) (subst (λ (k : ℕ). Passed (rowSound st) (st .rows) k) whole (c .before .loop .inv .1 st lie ps n m)))
 
 pub rows-sound-spec : {M : Type 1} → statement M
 rows-sound-spec =

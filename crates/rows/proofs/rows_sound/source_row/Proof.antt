@@ -18,7 +18,8 @@ row-at-requires : tie.Need-row-at-requires
 row-at-requires c κs = search needs
 
 returns-2 : tie.Need-returns-2
-returns-2 c = c .row-at .ensures ∙ slot-row-pos (c .before .before .before .args .t .now) (c .before .before .before .args .s) (c .before .if1 .left)
+returns-2 c =
+    c .row-at .ensures ∙ slot-row-pos (c .before .before .before .args .t .now) (c .before .before .before .args .s) (c .before .if1 .left)
 
 pub source-row-spec : {M : Type 1} → statement M
 source-row-spec = tie.close (tie.spec returns sub-i row-at-requires returns-2)

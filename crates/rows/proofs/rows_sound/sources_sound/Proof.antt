@@ -20,7 +20,12 @@ copy-listed-requires : tie.Need-copy-listed-requires
 copy-listed-requires c κs = search needs
 
 returns : tie.Need-returns
-returns c = λ st i lie long at. sources-joined lie i (c .before .before .before .before .before .before .args .x) at (c .before .before .before .before .source-row .result) (c .before .before .before .source-row2 .result) (c .before .before .loan-of .result .port) (c .before .before .loan-of .result .listed) (c .before .before .before .before .source-row .ensures) (c .before .before .before .source-row2 .ensures) (c .before .before .loan-of .ensures st lie long) (c .before .by-sources .ensures) (c .copy-listed .ensures)
+returns c =
+    λ st i lie long at.
+    let s = c .before .before .before .before .source-row in
+    let v = c .before .before .before .source-row2 in
+    let l = c .before .before .loan-of in
+    sources-joined lie i (c .before .before .before .before .before .before .args .x) at (s .result) (v .result) (l .result .port) (l .result .listed) (s .ensures) (v .ensures) (l .ensures st lie long) (c .before .by-sources .ensures) (c .copy-listed .ensures)
 
 pub sources-sound-spec : {M : Type 1} → statement M
 sources-sound-spec =
