@@ -8,5 +8,7 @@ pub mod Layout
 pub mod Lies
 pub mod Searches
 pub mod Laid
+pub mod AtSlot
+pub mod Seen
 pub mod Changes
 pub mod Computes

@@ -53,3 +53,8 @@ pub mod layout;
 pub mod read;
 pub mod record_clauses;
 pub mod records;
+pub mod layout;
+pub mod read;
+pub mod records;
+pub mod row_clauses;
+pub mod rows_sound;
