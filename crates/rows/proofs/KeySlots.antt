@@ -2,15 +2,35 @@
 use Prim.Native.Nat.{ℕ, zero, suc, _<_, _≤_, zero-le}
 use mathlib.Core.Bool.{Bool, true, false, cond, _||_}
 use mathlib.Core.List.{List, [], _∷_, _++_, map}
-use mathlib.Core.Path.{_≡_, refl, ap, _∙_}
+use mathlib.Core.Path.{_≡_, refl, ap, sym, _∙_}
+use mathlib.Core.Logic.{⊎-elim}
+use native.Mathlib.Nat.{eq-or-lt-of-le, le-of-suc-le-suc}
 use native.Mathlib.Omega.{arith}
 use borrow.Author.Tests.{eqb-true, ne-eqb}
 use lib.Dec.{eqb}
 use lib.ListN.{length}
+use Rattle.rows.specs.declared.Found.{Found}
+use Rattle.rows.specs.declared.Found.the-variants.{At, Nothing}
 use Rattle.rows.specs.Lists.{firstWith, rises, member, each}
-use Rattle.rows.specs.Lies.{slotWith}
+use Rattle.rows.specs.Lies.{Within, foundSlot, slotWith}
 use Rattle.rows.proofs.Bools.{false-of, true-of, clash, and-l, and-r, eqb-sym, eqb-sym-f, eqb-self, member-here, member-there}
 use Rattle.rows.proofs.Keyed.{olderOf, first-key, rises-rest, rises-older, rises-range}
+
+-- ---- a look-up's answer as a slot plus 1
+pub found-at : {r : Found} (s i : ℕ) → r ≡ foundSlot s → r ≡ At i → s ≡ suc i
+unfolding foundSlot
+found-at zero i d e = cc
+found-at (suc s) i d e = ap suc (cc)
+
+pub found-nothing : {r : Found} (s : ℕ) → r ≡ foundSlot s → r ≡ Nothing → s ≡ 0
+unfolding foundSlot
+found-nothing zero d e = refl
+found-nothing (suc s) d e = cc
+
+pub at-below : (k : ℕ) (r : Found) (i : ℕ) → Within k r → r ≡ At i → i < k
+unfolding Within
+at-below k (At j) i h e = let same : j ≡ i = cc in omega arith
+at-below k Nothing i h e = let z : _≡_ {A = ℕ} 0 1 = cc in absurd (omega arith)
 
 module _ {A : Type 0} (key : A → ℕ) where
   -- ---- the slot of a key, over any list
@@ -118,3 +138,18 @@ pub each-cut : {A : Type 0} (F : A → List A → Bool) (new : List A) (x : A) (
 unfolding each
 each-cut F [] x old e = and-l (F x old) (each F old) e
 each-cut F (y ∷ new) x old e = each-cut F new x old (and-r (F y (new ++ (x ∷ old))) (each F (new ++ (x ∷ old))) e)
+
+-- ---- the element at slot i, counted from the oldest
+pub record Cut {A : Type 0} (xs : List A) (i : ℕ) : Type 0 where
+  pub new : List A
+  pub here : A
+  pub old : List A
+  pub split : xs ≡ new ++ (here ∷ old)
+  pub long : length old ≡ i
+
+pub cut-at : {A : Type 0} (xs : List A) (i : ℕ) → i < length xs → Cut xs i
+cut-at [] i h = absurd (omega arith)
+cut-at (x ∷ xs) i h =
+    ⊎-elim (λ e. record { new = []; here = x; old = xs; split = refl; long = sym e })
+    (λ lt. let c = cut-at xs i lt in record { new = x ∷ c .new; here = c .here; old = c .old; split = ap (λ l. x ∷ l) (c .split); long = c .long })
+    (eq-or-lt-of-le (le-of-suc-le-suc h))

@@ -15,9 +15,9 @@ use Rattle.rows.specs.Sound.{itemsFew}
 use Rattle.rows.specs.Layout.{rowColumns, requestsAt, requestWord, requestField, requestAt}
 use Rattle.rows.specs.Lies.{Lies, slotWith, requestSlot, openSlot}
 use Rattle.rows.proofs.Bools.{and-l, and-r}
-use Rattle.rows.proofs.Keyed.{olderOf}
+use Rattle.rows.proofs.Keyed.{olderOf, first-none}
 use Rattle.rows.proofs.LayoutColumns.{laid-at}
-use Rattle.rows.proofs.KeySlots.{slot-member, slot-older, slot-found, newerOf, cut-first}
+use Rattle.rows.proofs.KeySlots.{slot-none, slot-member, slot-older, slot-found, newerOf, cut-first}
 use Rattle.rows.proofs.LiesWords.{lies-well, lies-request}
 
 pub record RequestWords (t : List ℕ) (j : ℕ) (v : Request) : Type 0 where
@@ -130,3 +130,24 @@ request-found vs q j e = slot-found (λ v. v .number) noRequest vs q j e
 pub open-found : (vs : List Request) (c j : ℕ) → openSlot vs c ≡ suc j → (member c (map (λ v. v .port) vs) ≡ true) × (openOn vs c .port ≡ c) × (j < length vs)
 unfolding openSlot openOn
 open-found vs c j e = slot-found (λ v. v .port) noRequest vs c j e
+
+pub request-absent : (vs : List Request) (q : ℕ) → requestSlot vs q ≡ 0 → requestOf vs q ≡ noRequest
+unfolding requestSlot requestOf
+request-absent vs q e = first-none (λ v. v .number) noRequest vs q (slot-none (λ v. v .number) vs q e)
+
+pub open-absent : (vs : List Request) (c : ℕ) → openSlot vs c ≡ 0 → openOn vs c ≡ noRequest
+unfolding openSlot openOn
+open-absent vs c e = first-none (λ v. v .port) noRequest vs c (slot-none (λ v. v .port) vs c e)
+
+-- the words of slot j are the request there
+pub request-read : (t : List ℕ) (j : ℕ)
+    → record {
+      number = getD t (10240 + j) 0;
+      port = getD t (10368 + j) 0;
+      asker = getD t (10496 + j) 0;
+      fetched = getD t (10624 + j) 0;
+      items = getD t (10752 + j) 0 ∷ getD t (10880 + j) 0 ∷ getD t (11008 + j) 0 ∷ getD t (11136 + j) 0 ∷ [];
+    } ≡ requestAt t j
+request-read t j =
+    sym
+    (request-of-words t j _ record { number = refl; port = refl; asker = refl; fetched = refl; item1 = refl; item2 = refl; item3 = refl; item4 = refl; items = refl })

@@ -1,26 +1,46 @@
 -- The slots of rows and requests: slots of sources, and what the words of a slot are. Passes on the laws over any key and those of the words.
 use Prim.Native.Nat.{ℕ, zero, suc, _+_, _*_, _<_, _≤_, zero-le, suc-le-suc}
-use mathlib.Core.Bool.{Bool, true, cond, _&&_}
+use mathlib.Core.Bool.{Bool, true, false, cond, _&&_}
 use mathlib.Core.List.{List, [], _∷_, _++_, map}
 use mathlib.Core.Path.{_≡_, refl, ap, sym, subst, _∙_}
 use mathlib.Core.Logic.{_⊎_, inl, inr}
 use native.Mathlib.Omega.{arith}
+use borrow.Author.Tests.{ne-eqb}
 use lib.Dec.{eqb}
-use lib.ListN.{length, getD, length-append}
+use lib.ListN.{length, getD, take, drop, length-append, length-take}
 use Rattle.rows.specs.declared.Row.{Row}
 use Rattle.rows.specs.Lists.{filter, firstWith, rises, laid, member, all, some, nonzero}
 use Rattle.rows.specs.Tables.{State, noRow, rowOf, numbers, sources}
-use Rattle.rows.specs.Limits.{rowSlots}
-use Rattle.rows.specs.Layout.{slotOf, sourceSlot, rowWord, rowField}
-use Rattle.rows.specs.Lies.{sourcesOlder, Lies, slotWith, rowSlot, rawRow, withSources, slotted}
-use Rattle.rows.proofs.Bools.{and-l, and-r, pos-some, member-there}
-use Rattle.rows.proofs.Keyed.{olderOf, rises-rest}
+use Rattle.rows.specs.declared.Found.{Found}
+use Rattle.rows.specs.declared.Found.the-variants.{At, Nothing}
+use Rattle.rows.specs.Limits.{rowSlots, requestSlots}
+use Rattle.rows.specs.Layout.{requestsAt, slotOf, sourceSlot, rowWord, rowField, rowsIn, requestsIn}
+use Rattle.rows.specs.Lies.{sourcesOlder, Lies, Within, slotWith, rowSlot, rawRow, withSources, slotted, numberOfSlot}
+use Rattle.rows.proofs.Bools.{and-l, and-r, pos-some, eqb-self, member-there}
+use Rattle.rows.proofs.Keyed.{olderOf, first-none, rises-rest}
 use Rattle.rows.proofs.RowSources.{Among}
 use Rattle.rows.proofs.LayoutColumns.{laid-at}
-pub use Rattle.rows.proofs.KeySlots.{slot-le, slot-there, none-slot, slot-none, slot-member, slot-older, slot-found, cut-first, rises-old, slot-kept, slot-number, older-slot, slot-zero, each-cut}
+use Rattle.rows.proofs.Searches.{leading-le}
+pub use Rattle.rows.proofs.KeySlots.{found-at, found-nothing, at-below, slot-le, slot-there, none-slot, slot-none, slot-member, slot-older, slot-found, cut-first, rises-old, slot-kept, slot-number, older-slot, slot-zero, each-cut, Cut, cut-at}
 unfoldable pub use Rattle.rows.proofs.KeySlots.{newerOf}
 pub use Rattle.rows.proofs.LiesWords.{Well, well-open, sound-lies, lies-well, lies-length, lies-rows, lies-requests, lies-next, lies-row, lies-request}
-pub use Rattle.rows.proofs.RequestSlots.{RequestWords, request-of-words, request-words-at, request-words, raw-request, open-words, raw-open, request-found, open-found}
+pub use Rattle.rows.proofs.RequestSlots.{RequestWords, request-of-words, request-words-at, request-words, request-read, raw-request, open-words, raw-open, request-found, request-absent, open-found, open-absent}
+
+-- ---- slots in use, of any words
+pub rows-most : (t : List ℕ) → rowsIn t ≤ 1024
+unfolding rowsIn rowSlots
+rows-most t = omega (arith, leading-le (take 1024 t), length-take 1024 t)
+
+pub requests-most : (t : List ℕ) → requestsIn t ≤ 128
+unfolding requestsIn requestSlots
+requests-most t = omega (arith, leading-le (take 128 (drop requestsAt t)), length-take 128 (drop requestsAt t))
+
+-- what a look-up found is a slot of the table
+pub row-below : (t : List ℕ) (r : Found) (i : ℕ) → Within (rowsIn t) r → r ≡ At i → i < 1024
+row-below t r i h e = omega (arith, at-below (rowsIn t) r i h e, rows-most t)
+
+pub request-below : (t : List ℕ) (r : Found) (j : ℕ) → Within (requestsIn t) r → r ≡ At j → j < 128
+request-below t r j h e = omega (arith, at-below (requestsIn t) r j h e, requests-most t)
 
 -- ---- the slot of a source
 slot-of : (rs : List Row) (n : ℕ) → slotOf rs n ≡ rowSlot rs n
@@ -97,6 +117,34 @@ row-cut rs n i e = (cut-first (λ r. r .number) noRow rs n (slot-member (λ r. r
 pub row-found : (rs : List Row) (n i : ℕ) → rowSlot rs n ≡ suc i → (member n (numbers rs) ≡ true) × (rowOf rs n .number ≡ n) × (i < length rs)
 unfolding rowSlot rowOf numbers
 row-found rs n i e = slot-found (λ r. r .number) noRow rs n i e
+
+pub row-none : (rs : List Row) (n : ℕ) → rowSlot rs n ≡ 0 → member n (numbers rs) ≡ false
+unfolding rowSlot numbers
+row-none rs n e = slot-none (λ r. r .number) rs n e
+
+pub none-row : (rs : List Row) (n : ℕ) → member n (numbers rs) ≡ false → rowSlot rs n ≡ 0
+unfolding rowSlot numbers
+none-row rs n e = none-slot (λ r. r .number) rs n e
+
+pub row-absent : (rs : List Row) (n : ℕ) → rowSlot rs n ≡ 0 → rowOf rs n ≡ noRow
+unfolding rowSlot rowOf
+row-absent rs n e = first-none (λ r. r .number) noRow rs n (slot-none (λ r. r .number) rs n e)
+
+-- the number of the row at a slot plus 1, back from the slot
+pub number-of-cut : (new : List Row) (r : Row) (old : List Row) → numberOfSlot (new ++ (r ∷ old)) (suc (length old)) ≡ r .number
+unfolding numberOfSlot
+number-of-cut [] r old = rw (eqb-self (suc (length old))) refl
+number-of-cut (x ∷ new) r old =
+    rw (ne-eqb (suc (length (new ++ (r ∷ old)))) (suc (length old)) (λ e. omega (arith, length-append new (r ∷ old)))) (number-of-cut new r old)
+
+pub number-of-row : (rs : List Row) (n i : ℕ) → rowSlot rs n ≡ suc i → numberOfSlot rs (suc i) ≡ n
+number-of-row rs n i e =
+    let (cut, long) = row-cut rs n i e in
+    let (there, same, below) = row-found rs n i e in
+    ap (λ (k : ℕ). numberOfSlot rs (suc k)) (sym long)
+    ∙ ap (λ (l : List Row). numberOfSlot l (suc (length (olderOf (λ r. r .number) rs n)))) cut
+    ∙ number-of-cut (newerOf (λ r. r .number) rs n) (rowOf rs n) (olderOf (λ r. r .number) rs n)
+    ∙ same
 
 -- the slots of its sources are those among all rows, and at most its own
 module _ (st : State) (w : Well st) (n i : ℕ) (e : rowSlot (st .rows) n ≡ suc i) where
@@ -181,6 +229,9 @@ module _ {st : State} {t : List ℕ} (lie : Lies st t) where
       let (cut, long) = row-cut (st .rows) n i e in
       subst (λ (k : ℕ). RowWords t k (rowOf (st .rows) n) (olderOf (λ r. r .number) (st .rows) n)) long
       (row-words-at (newerOf (λ r. r .number) (st .rows) n) (rowOf (st .rows) n) (olderOf (λ r. r .number) (st .rows) n) cut)
+
+  pub raw-row-at : (new : List Row) (r : Row) (old : List Row) → st .rows ≡ new ++ (r ∷ old) → rawRow t (length old) ≡ slotted r old
+  raw-row-at new r old e = raw-words t (length old) r old (row-words-at new r old e)
 
   pub raw-row : (n i : ℕ) → rowSlot (st .rows) n ≡ suc i → rawRow t i ≡ slotted (rowOf (st .rows) n) (olderOf (λ r. r .number) (st .rows) n)
   raw-row n i e = raw-words t i (rowOf (st .rows) n) (olderOf (λ r. r .number) (st .rows) n) (row-words n i e)

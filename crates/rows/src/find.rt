@@ -90,6 +90,16 @@ pub fn requests_in(t: &[u32]) -> usize
     leading_in(&t[Q_NUMBER..Q_PORT])
 }
 
+// The slot of the row numbered n among so many rows: for callers that look up several.
+// Ruled out: the slot of another row; one at or past the count.
+pub fn row_among(t: &[u32], count: usize, n: u32) -> Found
+    requires { ⌜ (length (now t) ≡ 11265) × (count ≤ 1024) ⌝ }
+    ensures within { λ r. ⌜ Within count r ⌝ }
+    ensures found { λ r. ⌜ ((st : State) → Lies st (now (t .entry)) → count ≡ length (st .rows) → r ≡ foundSlot (rowSlot (st .rows) n)) ⌝ }
+{
+    search(&t[NUMBER..KIND], count, n)
+}
+
 // The slot of the row numbered n.
 // Ruled out: the slot of another row; a slot for a number that no row has, 0 too.
 pub fn row_slot(t: &[u32], n: u32) -> Found
@@ -98,7 +108,7 @@ pub fn row_slot(t: &[u32], n: u32) -> Found
     ensures found { λ r. ⌜ ((st : State) → Lies st (now (t .entry)) → r ≡ foundSlot (rowSlot (st .rows) n)) ⌝ }
 {
     let count = rows_in(t);
-    search(&t[NUMBER..KIND], count, n)
+    row_among(t, count, n)
 }
 
 // The slot of the request numbered q.

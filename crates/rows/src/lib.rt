@@ -46,3 +46,4 @@ pub enum Found {
 // ---- functions
 pub mod find;
 pub mod layout;
+pub mod read;

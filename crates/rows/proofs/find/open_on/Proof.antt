@@ -1,12 +1,9 @@
 -- `find::open_on` meets its contract: it counts the slots in use and searches the column.
 use borrow.Author.Needs.{needs}
-use mathlib.Core.Path.{_≡_, subst}
-use denote.Ref.{now}
-use lib.ListN.{take, drop}
-use Rattle.rows.specs.Layout.{requestsIn}
+use mathlib.Core.Path.{subst, _∙_}
 use Rattle.rows.specs.Lies.{Within}
-use Rattle.rows.specs.Searches.{Ups, Placed}
-use Rattle.rows.proofs.Lookups.{open-placed}
+use Rattle.rows.proofs.Slots.{lies-requests}
+use Rattle.rows.proofs.Lookups.{open-search}
 use Prim.Native.Nat.{ℕ}
 use Rattle.rows.proofs.find.open_on.Statement.{statement}
 use Rattle.rows.proofs.find.open_on.Tie as tie
@@ -29,10 +26,9 @@ search-back-requires c κs = search needs
 returns : tie.Need-returns
 returns c =
     let b = c .before .before in
-    let t = now (b .before .before .args .t) in
-    let counted : b .requests-in .result ≡ requestsIn t = b .requests-in .ensures .0 in (
+    let counted = b .requests-in .ensures .0 in (
       subst (λ (k : ℕ). Within k (c .search-back .result)) counted (c .search-back .ensures .0),
-      (λ st lie. open-placed lie (b .before .before .args .c) (c .search-back .result) (subst (λ (k : ℕ). Placed (take 128 (drop 10368 t)) k (b .before .before .args .c) (c .search-back .result)) counted (c .search-back .ensures .1))),
+      (λ st lie. open-search lie (b .requests-in .result) (b .before .before .args .c) (c .search-back .result) (counted ∙ lies-requests lie) (c .search-back .ensures .1)),
     )
 
 pub open-on-spec : {M : Type 1} → statement M
