@@ -35,3 +35,5 @@ pub mod Standing
 pub mod Picked
 -- what the searches find where a state lies in the words
 pub mod Lookups
+-- process records in their words, one after the other
+pub mod ProcessRecords

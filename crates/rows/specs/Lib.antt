@@ -7,4 +7,5 @@ pub mod Sound
 pub mod Layout
 pub mod Lies
 pub mod Searches
+pub mod Clauses
 pub mod Computes

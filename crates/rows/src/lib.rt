@@ -45,5 +45,8 @@ pub enum Found {
 
 // ---- functions
 pub mod find;
+pub mod holder_clauses;
 pub mod layout;
 pub mod read;
+pub mod records;
+pub mod request_clauses;

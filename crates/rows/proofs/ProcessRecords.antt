@@ -1,0 +1,108 @@
+-- Process records in their words, one after the other: what loops over them keep.
+use Prim.Native.Nat.{ℕ, zero, suc, _+_, _*_, _-_, _<_, _≤_}
+use mathlib.Core.Bool.{false}
+use mathlib.Core.List.{List, [], _∷_}
+use mathlib.Core.Path.{_≡_, refl, ap, sym, _∙_}
+use native.Mathlib.Nat.{not-suc-le-zero, le-of-suc-le-suc}
+use native.Mathlib.Omega.{arith}
+use borrow.Author.Count.{below-more}
+use lib.Dec.{ltb}
+use lib.ListN.{length, getD, set, length-set, List·getD-eq-default}
+use lib.Seq.{getD-set-same, getD-set-other, ext-getD}
+use Rattle.rows.specs.declared.Process.{Process}
+use Rattle.rows.specs.Lists.{some}
+use Rattle.rows.specs.Tables.{noProcess, processAt, isListed}
+use Rattle.rows.specs.Layout.{recordsIn}
+use Rattle.rows.proofs.LayoutRequests.{length-records, records-words}
+
+-- the record k of the words
+abbrev pub recordAt : List ℕ → ℕ → Process
+recordAt p k = record { prime = getD p (3 * k) 0; active = getD p (3 * k + 1) 0; through = getD p (3 * k + 2) 0 }
+
+-- the first i records are in the words
+abbrev pub Through : List Process → List ℕ → ℕ → Type 0
+Through ps p i = (k : ℕ) → k < i → getD ps k noProcess ≡ recordAt p k
+
+pub record-at : (n : ℕ) (p : List ℕ) → length p ≡ 3 * n → (k : ℕ) → k < n → getD (recordsIn p) k noProcess ≡ recordAt p k
+unfolding recordsIn
+record-at zero p e k h = absurd (not-suc-le-zero h)
+record-at (suc n) [] e k h = absurd (omega arith)
+record-at (suc n) (a ∷ []) e k h = absurd (omega arith)
+record-at (suc n) (a ∷ b ∷ []) e k h = absurd (omega arith)
+record-at (suc n) (a ∷ b ∷ c ∷ p) e zero h = refl
+record-at (suc n) (a ∷ b ∷ c ∷ p) e (suc k) h =
+    let t : 3 * suc k ≡ suc (suc (suc (3 * k))) = omega arith in
+    let u : 3 * suc k + 1 ≡ suc (suc (suc (3 * k + 1))) = omega arith in
+    let v : 3 * suc k + 2 ≡ suc (suc (suc (3 * k + 2))) = omega arith in
+    let w : List ℕ = a ∷ b ∷ c ∷ p in
+    record-at n p (omega arith) k (le-of-suc-le-suc h) ∙ (λ j. record { prime = getD w (sym t j) 0; active = getD w (sym u j) 0; through = getD w (sym v j) 0 })
+
+pub length-in : (n : ℕ) (p : List ℕ) → length p ≡ 3 * n → length (recordsIn p) ≡ n
+length-in n p e = omega (arith, length-records (recordsIn p), ap length (records-words n p e))
+
+-- all of them are
+pub through-all : (n : ℕ) (ps : List Process) (p : List ℕ) → length ps ≡ n → length p ≡ 3 * n → Through ps p n → ps ≡ recordsIn p
+through-all n ps p l e h =
+    ext-getD noProcess ps (recordsIn p) (l ∙ sym (length-in n p e)) (λ k lt. h k (omega arith) ∙ sym (record-at n p e k (omega arith)))
+
+-- a record is read
+pub through-read : (ps : List Process) (p : List ℕ) (i : ℕ) → i < length ps → Through ps p i → Through (set ps i (recordAt p i)) p (i + 1)
+through-read ps p i h t =
+    below-more (λ k. getD (set ps i (recordAt p i)) k noProcess ≡ recordAt p k) i
+    (λ k lt. getD-set-other ps i k (recordAt p i) noProcess (λ e. omega arith) ∙ t k lt) (getD-set-same ps i (recordAt p i) noProcess h)
+
+-- a record is written, in three stores
+module _ (p : List ℕ) (i : ℕ) (x : Process) where
+  abbrev pub written : List ℕ
+  written = set (set (set p (3 * i) (x .prime)) (3 * i + 1) (x .active)) (3 * i + 2) (x .through)
+
+  pub length-written : length written ≡ length p
+  length-written = simp length-set
+
+  other : (j : ℕ) → (j ≡ 3 * i → ⊥) → (j ≡ 3 * i + 1 → ⊥) → (j ≡ 3 * i + 2 → ⊥) → getD written j 0 ≡ getD p j 0
+  other j a b c =
+      getD-set-other (set (set p (3 * i) (x .prime)) (3 * i + 1) (x .active)) (3 * i + 2) j (x .through) 0 c
+      ∙ getD-set-other (set p (3 * i) (x .prime)) (3 * i + 1) j (x .active) 0 b
+      ∙ getD-set-other p (3 * i) j (x .prime) 0 a
+
+  elsewhere : (k : ℕ) → (k ≡ i → ⊥) → recordAt written k ≡ recordAt p k
+  elsewhere k ne =
+      λ j.
+      record {
+        prime = other (3 * k) (λ e. omega arith) (λ e. omega arith) (λ e. omega arith) j;
+        active = other (3 * k + 1) (λ e. omega arith) (λ e. omega arith) (λ e. omega arith) j;
+        through = other (3 * k + 2) (λ e. omega arith) (λ e. omega arith) (λ e. omega arith) j;
+      }
+
+  here : 3 * i + 2 < length p → recordAt written i ≡ x
+  here h =
+      λ j.
+      record {
+        prime = (getD-set-other (set (set p (3 * i) (x .prime)) (3 * i + 1) (x .active)) (3 * i + 2) (3 * i) (x .through) 0 (λ e. omega arith)
+            ∙ getD-set-other (set p (3 * i) (x .prime)) (3 * i + 1) (3 * i) (x .active) 0 (λ e. omega arith)
+            ∙ getD-set-same p (3 * i) (x .prime) 0 (omega arith)) j;
+        active = (getD-set-other (set (set p (3 * i) (x .prime)) (3 * i + 1) (x .active)) (3 * i + 2) (3 * i + 1) (x .through) 0 (λ e. omega arith)
+            ∙ getD-set-same (set p (3 * i) (x .prime)) (3 * i + 1) (x .active) 0 (simp length-set (omega arith))) j;
+        through = getD-set-same (set (set p (3 * i) (x .prime)) (3 * i + 1) (x .active)) (3 * i + 2) (x .through) 0 (simp length-set (omega arith)) j;
+      }
+
+pub through-write : (ps : List Process) (p : List ℕ) (i : ℕ) → 3 * i + 2 < length p → Through ps p i → Through ps (written p i (getD ps i noProcess)) (i + 1)
+through-write ps p i h t =
+    let x = getD ps i noProcess in
+    below-more (λ k. getD ps k noProcess ≡ recordAt (written p i x) k) i (λ k lt. t k lt ∙ sym (elsewhere p i x k (λ e. omega arith))) (sym (here p i x h))
+
+-- ---- whether a process is listed
+pub listed-none : (ps : List Process) (n : ℕ) → n ≡ 0 → false ≡ isListed ps n
+unfolding isListed processAt noProcess some
+listed-none ps n e = rw e refl
+
+pub listed-far : (m : ℕ) (p : List ℕ) (n : ℕ) → length p ≡ 3 * m → m < n → false ≡ isListed (recordsIn p) n
+unfolding isListed processAt noProcess some
+listed-far m p zero e h = absurd (not-suc-le-zero h)
+listed-far m p (suc i) e h = rw (List·getD-eq-default (recordsIn p) noProcess {n = i} (omega (arith, length-in m p e))) refl
+
+pub listed-at : (m : ℕ) (p : List ℕ) (n : ℕ) → length p ≡ 3 * m → (n ≡ 0 → ⊥) → n ≤ m → ltb 0 (getD p (3 * (n - 1)) 0) ≡ isListed (recordsIn p) n
+unfolding isListed processAt some
+listed-at m p zero e z h = absurd (z refl)
+listed-at m p (suc i) e z h =
+    ap (λ (k : ℕ). ltb 0 (getD p (3 * k) 0)) (omega arith) ∙ sym (ap (λ (x : Process). ltb 0 (x .prime)) (record-at m p e i h))

@@ -1,0 +1,61 @@
+// The process records in their lent run of words, three to a record.
+use crate::Process;
+ghost use mathlib.Core.Path.{_≡_};
+ghost use lib.ListN.{length};
+ghost use Rattle.rows.specs.Tables.{isListed};
+ghost use Rattle.rows.specs.Layout.{recordsIn, recordsOf};
+
+// The records by value. Ruled out: a record of another process; two fields in each other's place.
+pub fn load(p: &[u32]) -> [Process; 64]
+    requires { ⌜ length (now p) ≡ 192 ⌝ }
+    ensures { λ r. ⌜ r ≡ recordsIn (now (p .entry)) ⌝ }
+{
+    let none = Process {
+        prime: 0,
+        active: 0,
+        through: 0,
+    };
+    let mut ps = [none; 64];
+    let mut i = 0;
+    while i < 64 {
+        let at = 3 * i;
+        ps[i] = Process {
+            prime: p[at],
+            active: p[at + 1],
+            through: p[at + 2],
+        };
+        i += 1;
+    }
+    ps
+}
+
+// Writes the records back. Ruled out: a word of the run is left as it was; two fields in each other's place.
+pub fn store(ps: [Process; 64], p: &mut [u32])
+    requires { ⌜ length (now p) ≡ 192 ⌝ }
+    ensures { λ _. ⌜ now (p .exit) ≡ recordsOf ps ⌝ }
+{
+    let mut i = 0;
+    while i < 64 {
+        let x = ps[i];
+        let at = 3 * i;
+        p[at] = x.prime;
+        p[at + 1] = x.active;
+        p[at + 2] = x.through;
+        i += 1;
+    }
+}
+
+// Whether n is a listed process, for any n. Ruled out: 0 or 65 is listed; the record after that of n decides.
+pub fn listed(p: &[u32], n: u32) -> bool
+    requires { ⌜ length (now p) ≡ 192 ⌝ }
+    ensures { λ r. ⌜ r ≡ isListed (recordsIn (now (p .entry))) n ⌝ }
+{
+    if n == 0 {
+        return false;
+    }
+    if 64 < n {
+        return false;
+    }
+    let i = (n - 1) as usize;
+    0 < p[3 * i]
+}
