@@ -1,6 +1,5 @@
 -- The numbers and values of an answer, for every one of its cases.
 use Prim.Native.Nat.{ℕ}
-use mathlib.Core.Bool.{Bool, true, false}
 use mathlib.Core.List.{List, [], _∷_}
 use Rattle.rows.specs.Lists.{if_then_else_, nonzero}
 use Rattle.calls.specs.declared.Answer.{Answer}

@@ -1,12 +1,11 @@
 -- The twelve calls on a state: every refusal 7 to 18, the lowest first, and the effect.
-use Prim.Native.Nat.{ℕ, suc, _+_}
-use mathlib.Core.Bool.{Bool, true, false, not, _&&_, _||_}
-use mathlib.Core.List.{List, [], _∷_}
-use lib.Dec.{leb, ltb, eqb}
+use Prim.Native.Nat.{ℕ, suc}
+use mathlib.Core.Bool.{Bool, not, _&&_, _||_}
+use mathlib.Core.List.{List, _∷_}
+use lib.Dec.{ltb, eqb}
 use lib.ListN.{length, getD}
 use Rattle.rows.specs.declared.Row.{Row}
 use Rattle.rows.specs.declared.Request.{Request}
-use Rattle.rows.specs.declared.Process.{Process}
 use Rattle.rows.specs.Lists.{if_then_else_, filter, any, member, some, nonzero}
 use Rattle.rows.specs.Codes.{clientEnd, serverEnd, isOperation, isSubdirectory, isClient, isServer, isEnd, inNode, inClist, mayHold, mayTransfer, mayRegister, within}
 use Rattle.rows.specs.Tables.{State, rowOf, requestOf, openOn, processAt, sources, depthOver, comesFrom, lists, onLoan, isLent}

@@ -1,12 +1,11 @@
 -- ask: the request, the copies made and the ends moved; fetch: the privileges handed over.
 use Prim.Native.Nat.{ℕ, suc, _+_}
-use mathlib.Core.Bool.{Bool, true, false, not, _&&_, _||_}
+use mathlib.Core.Bool.{Bool, not}
 use mathlib.Core.List.{List, [], _∷_, _++_, map}
-use lib.Dec.{leb, ltb, eqb}
-use lib.ListN.{length}
+use lib.Dec.{eqb}
 use Rattle.rows.specs.declared.Row.{Row}
 use Rattle.rows.specs.declared.Request.{Request}
-use Rattle.rows.specs.Lists.{if_then_else_, filter, member, some, pad}
+use Rattle.rows.specs.Lists.{if_then_else_, filter, some, pad}
 use Rattle.rows.specs.Limits.{mostItems}
 use Rattle.rows.specs.Codes.{isEnd, inClist, withSystem}
 use Rattle.rows.specs.Tables.{State, rowOf, depthOver, lists}

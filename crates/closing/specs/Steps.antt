@@ -1,12 +1,12 @@
 -- Closing step by step, "until nothing more is removed", as document 01 states it; proofs/Steps shows that the one pass is this on sound tables.
 use Prim.Native.Nat.{ℕ, zero, suc}
-use mathlib.Core.Bool.{Bool, true, false, not, _&&_, _||_}
+use mathlib.Core.Bool.{Bool, _&&_, _||_}
 use mathlib.Core.List.{List, [], _∷_, map}
 use lib.ListN.{length}
 use Rattle.rows.specs.declared.Row.{Row}
 use Rattle.rows.specs.declared.Request.{Request}
-use Rattle.rows.specs.Lists.{filter, any, member, some}
-use Rattle.rows.specs.Tables.{State, marked, bears}
+use Rattle.rows.specs.Lists.{filter, member, some}
+use Rattle.rows.specs.Tables.{State, marked}
 use Rattle.closing.specs.Closing.{closes, isEndOf, settled}
 
 -- rows removed and requests closed so far

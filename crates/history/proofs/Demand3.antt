@@ -4,13 +4,11 @@ use native.Mathlib.Omega.{arith}
 use mathlib.Core.Bool.{Bool, true, false, not, cond, _||_}
 use mathlib.Core.List.{List, [], _∷_}
 use mathlib.Core.Path.{_≡_, refl, sym, ap, _∙_, subst}
-use mathlib.Core.Logic.{_↔_}
 use lib.Dec.{eqb}
 use Rattle.rows.specs.declared.Row.{Row}
-use Rattle.rows.specs.Lists.{member, some}
 use Rattle.rows.specs.Limits.{processes}
 use Rattle.rows.specs.Codes.{isEnd}
-use Rattle.rows.specs.Tables.{State, rowOf, numbers, isListed, requestOf}
+use Rattle.rows.specs.Tables.{State, rowOf, requestOf}
 use Rattle.rows.specs.Layout.{stateOf}
 use Rattle.rows.proofs.Bools.{clash}
 use Rattle.rows.proofs.Sound.{Sound}
@@ -31,9 +29,9 @@ use Rattle.text.proofs.OpeningForms.{between-range}
 use Rattle.text.proofs.Readings.{Good, reading-good}
 use Rattle.text.proofs.Opening.{opened-sound}
 use Rattle.text.specs.Opening.{linesOf}
-use Rattle.history.specs.Notes.{History, notedOf, stands}
+use Rattle.history.specs.Notes.{History, stands}
 use Rattle.history.specs.Reading.{begun, accepts, noteLine, historyAfter}
-use Rattle.history.specs.Chains.{IsPort, Gone, aPort}
+use Rattle.history.specs.Chains.{IsPort}
 use Rattle.history.specs.Demand3.{lentAfter, repliesTo, stateIn, InTables, Holds, Vanished, Returned, Revoked, Demand3}
 use Rattle.history.proofs.Inv.{Inv, Lends, view, noteAnswer}
 use Rattle.history.proofs.Find.{in-tables, row-noted}
@@ -44,7 +42,7 @@ use Rattle.history.proofs.Spoken.{call-spoken}
 use Rattle.history.proofs.Answered.{read-refused, note-asked, note-crowded, note-refused}
 use Rattle.history.proofs.Start.{begun-inv, begun-lends}
 use Rattle.history.proofs.KeptCalls.{call-kept}
-use Rattle.history.proofs.Kept.{Opened, opened-as, call-on-words}
+use Rattle.history.proofs.Kept.{opened-as, call-on-words}
 use Rattle.history.proofs.TwoEnds.{two-ends}
 use Rattle.history.proofs.Vanish.{revoke-vanished}
 use Rattle.history.proofs.Returns.{revoke-returned}
@@ -194,30 +192,62 @@ accepted-revoke st p q a = pick (callerUnlisted st (Revoke p q)) a
     pick true e = absurd (not-refused 5 (omega arith) e)
     pick false e = refl
 
-revoked : (h : History) (w : Replied) → Along h w → (line : List ℕ) (p q : ℕ) → readingOf line ≡ Asks (Revoke p q) → accepts (callEntry (w .tables) (w .processes) line .reply) ≡ true → Revoked h w line q
-unfolding Revoked callOn replyWith
-revoked h w a line p q e acc =
-    let st = a .st in
-    let s = a .sound in
-    let o = doRevoke st p q in
-    let w′ = callEntry (w .tables) (w .processes) line in
-    let called : w′ ≡ replyWith (printed (callOn st line .answer)) (callOn st line .after) = ap (λ x. callEntry (x .tables) (x .processes) line) (a .is) ∙ call-on-words (a .reply) st s line in
-    let read : callOn st line ≡ answered st (Asks (Revoke p q)) = ap (answered st) e in
-    let acc′ : accepts (printed (answered st (Asks (Revoke p q)) .answer)) ≡ true = sym (ap (λ x. accepts (x .reply)) called ∙ ap (λ x. accepts (printed (x .answer))) read) ∙ acc in
-    let is : callOn st line ≡ o = read ∙ accepted-revoke st p q acc′ in
-    let fin : o .answer ≡ Done = owned st p q (sym (ap (λ x. accepts (printed (x .answer))) (accepted-revoke st p q acc′)) ∙ acc′) in
-    let before : stateIn w ≡ st = state-in w (a .reply) st s (a .is) in
-    let after : stateIn w′ ≡ o .after = state-in w′ _ (callOn st line .after) (call-kept st s line) called ∙ ap (λ x. x .after) is in
-    let noted : noteLine h line (w′ .reply) ≡ noteAnswer h (Revoke p q) Done =
-    ap (λ x. noteLine h line (x .reply)) called ∙ note-asked h line (Revoke p q) st (callOn st line) e (call-spoken st s line) ∙ ap (λ x. noteAnswer h (Revoke p q) (x .answer)) is ∙ ap (noteAnswer h (Revoke p q)) fin in (
-      subst (λ x. Vanished h x (stateIn w′) q) (sym before) (subst (λ x. Vanished h st x q) (sym after) (revoke-vanished h st (a .inv) s p q fin)),
-      subst (λ x. Returned h x (stateIn w′)) (sym noted) (subst (λ x. Returned h (noteAnswer h (Revoke p q) Done) x) (sym after) (revoke-returned h st (a .inv) (a .lends) s p q fin)),
-    )
+module _ (h : History) (w : Replied) (a : Along h w) (line : List ℕ) (p q : ℕ) (e : readingOf line ≡ Asks (Revoke p q)) where
+  o : Out
+  o = callOn (a .st) line
+
+  w′ : Replied
+  w′ = callEntry (w .tables) (w .processes) line
+
+  called : w′ ≡ replyWith (printed (o .answer)) (o .after)
+  unfolding w′ o
+  called = ap (λ x. callEntry (x .tables) (x .processes) line) (a .is) ∙ call-on-words (a .reply) (a .st) (a .sound) line
+
+  replied : w′ .reply ≡ printed (o .answer)
+  unfolding replyWith
+  replied = ap (λ x. x .reply) called
+
+  read : o ≡ answered (a .st) (Asks (Revoke p q))
+  unfolding o callOn
+  read = ap (answered (a .st)) e
+
+  module _ (acc : accepts (w′ .reply) ≡ true) where
+    accepted : accepts (printed (answered (a .st) (Asks (Revoke p q)) .answer)) ≡ true
+    accepted = sym (ap accepts replied ∙ ap (λ x. accepts (printed (x .answer))) read) ∙ acc
+
+    is-revoke : o ≡ doRevoke (a .st) p q
+    is-revoke = read ∙ accepted-revoke (a .st) p q accepted
+
+    is-done : doRevoke (a .st) p q .answer ≡ Done
+    is-done = owned (a .st) p q (sym (ap (λ x. accepts (printed (x .answer))) (accepted-revoke (a .st) p q accepted)) ∙ accepted)
+
+    before : stateIn w ≡ a .st
+    before = state-in w (a .reply) (a .st) (a .sound) (a .is)
+
+    after : stateIn w′ ≡ doRevoke (a .st) p q .after
+    after = state-in w′ (printed (o .answer)) (o .after) (unfold o in (call-kept (a .st) (a .sound) line)) called ∙ ap (λ x. x .after) is-revoke
+
+    noted-so : noteLine h line (w′ .reply) ≡ noteAnswer h (Revoke p q) Done
+    noted-so =
+        ap (noteLine h line) replied
+        ∙ (note-asked h line (Revoke p q) (a .st) o e (unfold o in (call-spoken (a .st) (a .sound) line)) ∙ (ap (λ x. noteAnswer h (Revoke p q) (x .answer)) is-revoke ∙ ap (noteAnswer h (Revoke p q)) is-done))
+
+    vanished : Vanished h (stateIn w) (stateIn w′) q
+    vanished = subst (λ x. Vanished h x (stateIn w′) q) (sym before) (subst (λ x. Vanished h (a .st) x q) (sym after) (revoke-vanished h (a .st) (a .inv) (a .sound) p q is-done))
+
+    returned : Returned h (noteLine h line (w′ .reply)) (stateIn w′)
+    returned =
+        subst (λ x. Returned h x (stateIn w′)) (sym noted-so)
+        (subst (λ x. Returned h (noteAnswer h (Revoke p q) Done) x) (sym after) (revoke-returned h (a .st) (a .inv) (a .lends) (a .sound) p q is-done))
+
+    revoked : Revoked h w line q
+    unfolding Revoked w′
+    revoked = (vanished, returned)
 
 pub demand3 : Demand3
 unfolding Demand3
 demand3 t p text a ls =
     let s = along-lines (begun text) (openEntry t p text) (along-opening t p text a) ls in (
       subst (Holds _) (sym (state-in _ (s .reply) (s .st) (s .sound) (s .is))) (holds _ (s .st) (s .sound) (s .inv)),
-      λ line p q e acc. revoked _ _ s line p q e acc,
+      λ line p q e acc. unfold w′ in (revoked _ _ s line p q e acc),
     )

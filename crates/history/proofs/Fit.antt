@@ -1,9 +1,9 @@
 -- What holds of every history of a session, by itself.
-use Prim.Native.Nat.{ℕ, zero, suc}
+use Prim.Native.Nat.{ℕ, suc}
 use mathlib.Core.Bool.{Bool, true, false, not, _&&_, _||_}
 use mathlib.Core.List.{List, [], _∷_}
 use mathlib.Core.Path.{_≡_}
-use lib.Dec.{leb, ltb, eqb}
+use lib.Dec.{eqb}
 use Rattle.rows.specs.Lists.{all, each, rises, member, some, sameList}
 use Rattle.history.specs.Notes.{Noted, Loan, History, noted, notedOf, loanOf}
 

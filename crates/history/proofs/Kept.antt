@@ -3,8 +3,8 @@ use Prim.Native.Nat.{ℕ, zero, suc, _<_, _≤_}
 use native.Mathlib.Omega.{arith}
 use mathlib.Core.Bool.{Bool, true, false, not, cond, _&&_, _||_}
 use mathlib.Core.List.{List, [], _∷_, _++_}
-use mathlib.Core.Path.{_≡_, refl, sym, ap, _∙_, subst}
-use lib.Dec.{leb, ltb, eqb}
+use mathlib.Core.Path.{_≡_, refl, sym, ap, _∙_}
+use lib.Dec.{leb, eqb}
 use borrow.Author.Tests.{eqb-true, eqb-false, leb-true}
 use Rattle.rows.specs.Lists.{all, member, sameList, bytes}
 use Rattle.rows.specs.Tables.{State, empty}
@@ -14,7 +14,6 @@ use Rattle.rows.proofs.Bools.{clash, and-l, and-r, not-t, all-at}
 use Rattle.rows.proofs.Sound.{Sound, sound-open}
 use Rattle.rows.proofs.LayoutColumns.{list-same}
 use Rattle.rows.proofs.LayoutWords.{state-words, words-state, sound-words}
-use Rattle.calls.specs.declared.Answer.{Answer}
 use Rattle.calls.specs.Answers.{refusalOf, valuesOf}
 use Rattle.calls.specs.Rules.{Out}
 use Rattle.text.specs.Opening.{Form, Opening, opens, refusedAt, linesOf, openingOf}
@@ -26,7 +25,7 @@ use Rattle.text.proofs.Opening.{opened-sound}
 use Rattle.history.specs.Reading.{downFrom, accepts}
 use Rattle.history.specs.Demand3.{lentAfter, repliesTo}
 use Rattle.history.specs.Kept.{Kept, joined}
-use Rattle.history.proofs.Spoken.{Spoken, call-spoken}
+use Rattle.history.proofs.Spoken.{call-spoken}
 use Rattle.history.proofs.Answered.{read-accepted, read-no, read-ok0}
 use Rattle.history.proofs.KeptCalls.{call-kept}
 

@@ -1,14 +1,12 @@
 -- Every call line leaves sound tables sound.
-use Prim.Native.Nat.{ℕ, zero, suc, _<_, _≤_}
-use mathlib.Core.Bool.{Bool, true, false, not, _&&_, _||_}
-use mathlib.Core.List.{List, [], _∷_}
-use mathlib.Core.Path.{_≡_, refl, sym, ap, _∙_}
+use Prim.Native.Nat.{ℕ}
+use mathlib.Core.Bool.{Bool, true, false, not, _&&_}
+use mathlib.Core.List.{List}
+use mathlib.Core.Path.{_≡_, refl}
 use native.Mathlib.Omega.{arith}
 use borrow.Author.Tests.{eqb-false}
 use lib.Dec.{eqb}
-use Rattle.rows.specs.declared.Request.{Request}
 use Rattle.rows.specs.Lists.{some}
-use Rattle.rows.specs.Codes.{isEnd}
 use Rattle.rows.specs.Tables.{State, rowOf, openOn, isListed}
 use Rattle.rows.specs.Sound.{isFetched}
 use Rattle.rows.specs.Limits.{processes}
@@ -17,7 +15,6 @@ use Rattle.rows.proofs.Sound.{Sound}
 use Rattle.closing.proofs.Kept.{close-request-kept, close-port-kept, drop-kept}
 use Rattle.calls.specs.declared.Call.{Call}
 use Rattle.calls.specs.declared.Call.the-variants.{Go, Hold, Register, Drop, Port, Close, Ask, Fetch, Reply, Refuse, Revoke, Comes}
-use Rattle.calls.specs.Rules.{Out, refusedIf}
 use Rattle.calls.specs.Loans.{itemsOf}
 use Rattle.calls.specs.Calls.{done, doDrop, doClose, doReply, doRefuse, doRevoke, callerOf, perform}
 use Rattle.calls.proofs.AddRow.{unless}
@@ -34,7 +31,7 @@ use Rattle.text.proofs.OpeningForms.{between-range}
 use Rattle.text.proofs.Readings.{Good, reading-good, number-some}
 
 -- a number that is not 0
-not-zero : (n : ℕ) → eqb n 0 ≡ false → some n ≡ true
+pub not-zero : (n : ℕ) → eqb n 0 ≡ false → some n ≡ true
 not-zero n e = pos-some n (let h = eqb-false n 0 e in omega arith)
 
 -- the caller, a process's number, is listed

@@ -1,65 +1,79 @@
--- Demand 3 and kept soundness, proved of the definitions. One line a file:
--- what holds of every history of a session, by itself
+-- Demand 3 and kept soundness, proved of the definitions. In reading order, a line a file:
+
+-- ---- what is shown
+-- demand 3 over the entry points on words: Along, then the three parts
+pub mod Demand3
+-- kept soundness on words; `session` is what the entry points reply
+pub mod Kept
+-- rows of nodes never vanish; the rights of a copy are within those of its row
+pub mod Laws
+
+-- ---- the history by itself
+-- what holds of every history of a session
 pub mod Fit
--- what holds of the tables and the history after each call
-pub mod Inv
--- the ends on loan, request by request
-pub mod Loans
 -- what a sweep of the notes leaves
 pub mod Sweep
 -- what is dropped or closed takes with it every row whose chain uses it
 pub mod Gone
--- what the history computes is what its words mean: to stand is to have no chain that uses anything dropped or closed
+-- to stand, computed, is to have no chain that uses anything dropped or closed
 pub mod Standing
 -- comes from, computed in one pass over the notes, is what the word means
 pub mod Comes
+
+-- ---- history and tables, call by call
+-- the invariants: Inv (rows, requests, gone through) and Lends (ends on loan)
+pub mod Inv
+-- rows of the tables as the history notes them
+pub mod View
+-- what a refusal and an accepted answer leave of the invariant
+pub mod Keeps
+-- a row more, in tables and history
+pub mod Added
+-- rows and records found in the tables, as the history has them
+pub mod Find
+-- closing, in tables and history
+pub mod Closed
+-- hold, register, port
+pub mod StepAdd
+-- drop, close, revoke, reply, refuse
+pub mod StepClose
+-- go, fetch, comes
+pub mod StepGo
+-- ask
+pub mod StepAsk
+-- every call keeps Inv
+pub mod StepsInv
+
+-- ---- ends on loan
+-- the ends that requests list against the ends on loan, request by request
+pub mod Loans
+-- what a refusal and an accepted answer leave of Lends
+pub mod LoansKept
+-- calls that close
+pub mod LoansClose
+-- calls that close and lend nothing
+pub mod LoansAdd
+-- ask
+pub mod LoansAsk
+-- every call keeps Lends
+pub mod LoansSteps
+
+-- ---- the three parts of demand 3 on states
+-- an open port has exactly two ends
+pub mod TwoEnds
+-- a revoke takes just what came from the request
+pub mod Vanish
+-- surviving ends go back to the lender of the oldest request closed
+pub mod Returns
+
+-- ---- text and answers
+-- every answer on sound tables: a value in range, or a refusal from 2 to 18 that leaves the state
+pub mod Spoken
 -- what the history reads of a printed answer
 pub mod Answered
--- the rows of the text, as the history begins with them
+-- the rows that an opening text opens, as the history begins
 pub mod Begun
 -- an accepted opening begins history and tables alike
 pub mod Start
 -- every call line leaves sound tables sound
 pub mod KeptCalls
--- kept soundness, on the lent words
-pub mod Kept
--- a port that is open has exactly two ends in sound tables
-pub mod TwoEnds
--- every answer to a call line on sound tables is one that the history can read
-pub mod Spoken
--- the tables as the history notes them: look-up, tests and marks go through the view
-pub mod View
--- the invariant after an answer: refused and accepted calls
-pub mod Keeps
--- one more row, in the tables and in the history
-pub mod Added
--- rows and records found in sound tables, and as the history has them
-pub mod Find
--- hold, register and port keep the invariant
-pub mod StepAdd
--- closing, in the tables and in the history
-pub mod Closed
--- drop, close, revoke, reply and refuse keep the invariant
-pub mod StepClose
--- go, fetch and comes keep the invariant
-pub mod StepGo
--- ask keeps the invariant
-pub mod StepAsk
--- every call, accepted or refused, keeps the invariant
-pub mod StepsInv
--- the ends on loan after an answer: refused and accepted calls
-pub mod LoansKept
--- closing, and the ends on loan
-pub mod LoansClose
--- calls that close nothing and lend nothing, and the ends on loan
-pub mod LoansAdd
--- ask, and the ends that it puts on loan
-pub mod LoansAsk
--- after every call the ends that the requests list are those on loan in the history
-pub mod LoansSteps
--- an accepted revoke takes from the tables just what came from the request
-pub mod Vanish
--- and gives each surviving end to the lender of the oldest request closed that had it on loan
-pub mod Returns
--- demand 3
-pub mod Demand3

@@ -15,8 +15,7 @@ use Rattle.rows.specs.Sound.{belowNext, nextInRange, requestsRise}
 use Rattle.rows.proofs.Bools.{and-l, and-r, and-i}
 use Rattle.rows.proofs.Keyed.{rises-first, rises-rest}
 use Rattle.rows.proofs.Sound.{Sound}
-use Rattle.calls.specs.declared.Answer.{Answer}
-use Rattle.calls.specs.declared.Answer.the-variants.{Done, Made, Fetched, Told, Refused}
+use Rattle.calls.specs.declared.Answer.the-variants.{Fetched, Told, Refused}
 use Rattle.calls.specs.declared.Item.{Item}
 use Rattle.calls.specs.declared.Call.{Call}
 use Rattle.calls.specs.declared.Call.the-variants.{Go, Hold, Register, Drop, Port, Close, Ask, Fetch, Reply, Refuse, Revoke, Comes}

@@ -1,22 +1,22 @@
 -- An accepted opening begins the history and the tables alike.
-use Prim.Native.Nat.{ℕ, zero, suc, _<_}
+use Prim.Native.Nat.{ℕ, zero, suc}
 use native.Mathlib.Omega.{arith}
-use mathlib.Core.Bool.{Bool, true, false, not, cond, _&&_, _||_}
+use mathlib.Core.Bool.{Bool, true, false, _&&_}
 use mathlib.Core.List.{List, [], _∷_, map}
 use mathlib.Core.Path.{_≡_, refl, sym, ap, _∙_, subst}
-use lib.Dec.{leb, ltb, eqb}
+use lib.Dec.{ltb, eqb}
 use lib.ListN.{getD}
 use borrow.Author.Tests.{eqb-true, lt-ltb}
 use Rattle.rows.specs.declared.Process.{Process}
 use Rattle.rows.specs.Lists.{filter, all, each, topOf, rises, member, some}
-use Rattle.rows.specs.Tables.{State, empty, noProcess, processAt}
+use Rattle.rows.specs.Tables.{empty, noProcess, processAt}
 use Rattle.rows.specs.Sound.{recordInRange, recordUnused}
-use Rattle.rows.proofs.Bools.{and-l, and-r, and-i, all-mono, member-here, member-there}
+use Rattle.rows.proofs.Bools.{and-l, and-r, and-i, member-here, member-there}
 use Rattle.text.specs.Opening.{Form, nodeForm, processForm, opens, openingOf, linesOf, withForm, openedFrom}
 use Rattle.text.specs.Entry.{stateOpened}
 use Rattle.text.proofs.OpeningForms.{opening-good}
 use Rattle.text.proofs.OpeningRecords.{isHome, opened-home}
-use Rattle.history.specs.Notes.{Noted, History, noted, spoiled, survives, sweep, standing, openLoans, lastGo, wentNowhere}
+use Rattle.history.specs.Notes.{Noted, noted, spoiled, survives, sweep, standing, openLoans, lastGo, wentNowhere}
 use Rattle.history.specs.Reading.{entryCount, downFrom, textRows, begunWith, begunBy, begun}
 use Rattle.history.proofs.Fit.{Fit, rooted, isEmpty, bearsWell, endsWell}
 use Rattle.history.proofs.Inv.{Inv, Lends, below, throughNow, loansIn}

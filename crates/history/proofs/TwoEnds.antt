@@ -1,21 +1,21 @@
 -- On sound tables a client end's port has exactly two ends, each with a process or the system.
-use Prim.Native.Nat.{ℕ, zero, suc, pred, _<_}
+use Prim.Native.Nat.{ℕ, suc, pred, _<_}
 use native.Mathlib.Omega.{arith}
-use mathlib.Core.Bool.{Bool, true, false, not, cond, _&&_, _||_}
+use mathlib.Core.Bool.{Bool, true, false, cond, _&&_, _||_}
 use mathlib.Core.List.{List, [], _∷_, map}
 use mathlib.Core.Path.{_≡_, refl, sym, ap, _∙_}
 use mathlib.Core.Logic.{_⊎_, inl, inr, ⊎-elim}
-use lib.Dec.{leb, ltb, eqb}
-use borrow.Author.Tests.{eqb-true, eqb-false, eq-eqb, ne-eqb}
+use lib.Dec.{leb, eqb}
+use borrow.Author.Tests.{eqb-true, eq-eqb, ne-eqb}
 use Rattle.rows.specs.declared.Row.{Row}
 use Rattle.rows.specs.declared.Process.{Process}
-use Rattle.rows.specs.Lists.{filter, all, firstWith, rises, member, between}
+use Rattle.rows.specs.Lists.{filter, firstWith, rises, member, between}
 use Rattle.rows.specs.Limits.{nodes, greatestOperation}
 use Rattle.rows.specs.Codes.{operation, subdirectory, clientEnd, serverEnd, isOperation, isSubdirectory, isClient, isServer, isEnd, isNode, isClist, isSystem, ownerOf}
 use Rattle.rows.specs.Tables.{State, noRow, rowOf, numbers, isListed}
-use Rattle.rows.specs.Sound.{objectInRange, objectsInRange, placeInRange, placesInRange, isPairedWith, otherEnd, endPaired, endsPaired, rowsRise}
-use Rattle.rows.proofs.Bools.{clash, false-of, bool-eq, and-l, and-r, and-i, or-cases, or-l, or-r, or-fl, or-fr, eqb-sym-f, eqb-self}
-use Rattle.rows.proofs.Keyed.{first-key, first-none, first-there, all-first, rises-rest, rises-older, rises-fresh}
+use Rattle.rows.specs.Sound.{objectInRange, objectsInRange, placeInRange, placesInRange, isPairedWith, otherEnd, rowsRise}
+use Rattle.rows.proofs.Bools.{clash, bool-eq, and-l, and-r, and-i, or-cases, or-l, or-r, or-fl, or-fr, eqb-sym-f}
+use Rattle.rows.proofs.Keyed.{first-key, all-first, rises-rest, rises-older, rises-fresh}
 use Rattle.rows.proofs.Agree.{agree-found, filter-agree}
 use Rattle.rows.proofs.Sound.{Sound}
 use Rattle.closing.proofs.KeptFacts.{end-stands, end-at, paired-at}

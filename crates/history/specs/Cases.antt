@@ -1,7 +1,7 @@
 -- The starred cases of document 01, and the readings that it calls wrong: one theorem over a table of them, computed by the prover.
 use Prim.Native.Nat.{ℕ}
 use Prim.Native.String.{String}
-use mathlib.Core.Bool.{Bool, true, false}
+use mathlib.Core.Bool.{Bool}
 use mathlib.Core.List.{List, [], _∷_, _++_}
 use lib.Dec.{T}
 use Rattle.rows.specs.Lists.{all, sameList, bytes}

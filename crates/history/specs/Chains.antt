@@ -1,12 +1,11 @@
 -- What the history's words mean: chains, what they use, dropped and closed, stands, comes from, on loan.
-use Prim.Native.Nat.{ℕ, zero, suc, _<_}
-use mathlib.Core.Bool.{Bool, true, false, _&&_}
-use mathlib.Core.List.{List, [], _∷_}
+use Prim.Native.Nat.{ℕ, _<_}
+use mathlib.Core.Bool.{true, _&&_}
 use mathlib.Core.Path.{_≡_}
 use mathlib.Core.Logic.{_⊎_}
 use lib.Dec.{eqb}
 use Rattle.rows.specs.Lists.{any, member}
-use Rattle.history.specs.Notes.{Noted, Loan, OnLoan, History, noted, notedOf, loanOf}
+use Rattle.history.specs.Notes.{History, noted, notedOf, loanOf}
 
 -- what can be dropped or closed
 pub data Thing : Type 0 where

@@ -1,6 +1,6 @@
 -- Demand 3: the tables after any list of call lines, by the history of the text, those lines and their answers.
 use Prim.Native.Nat.{ℕ, suc, _≤_}
-use mathlib.Core.Bool.{Bool, true, false, not, _&&_, _||_}
+use mathlib.Core.Bool.{true, _&&_, _||_}
 use mathlib.Core.List.{List, [], _∷_}
 use mathlib.Core.Path.{_≡_}
 use mathlib.Core.Logic.{_↔_}
@@ -14,9 +14,9 @@ use Rattle.calls.specs.declared.Call.the-variants.{Revoke}
 use Rattle.text.specs.declared.Reading.the-variants.{Asks}
 use Rattle.text.specs.CallLines.{readingOf}
 use Rattle.text.specs.Entry.{Replied, openEntry, callEntry}
-use Rattle.history.specs.Notes.{Loan, History, loanOf, stands, isClosed}
+use Rattle.history.specs.Notes.{History, loanOf, stands, isClosed}
 use Rattle.history.specs.Reading.{begun, accepts, noteLine, historyAfter}
-use Rattle.history.specs.Chains.{Thing, aRow, aRequest, aPort, IsPort, AskedOver, Gone, Stands, ComesFrom, HasOnLoan}
+use Rattle.history.specs.Chains.{aRequest, aPort, IsPort, AskedOver, Gone, Stands, ComesFrom, HasOnLoan}
 
 -- ---- the calls: each line is handed the words that the last one left
 unfoldable pub lentAfter : Replied → List (List ℕ) → Replied

@@ -1,13 +1,13 @@
 -- Kept soundness: what holds of the words after every opening and every call, whatever the bytes.
 use Prim.Native.Nat.{ℕ}
-use mathlib.Core.Bool.{Bool, true, false}
+use mathlib.Core.Bool.{true, false}
 use mathlib.Core.List.{List, [], _∷_, _++_}
 use mathlib.Core.Path.{_≡_}
-use Rattle.rows.specs.Tables.{State, empty}
+use Rattle.rows.specs.Tables.{empty}
 use Rattle.rows.specs.Layout.{wordsOf, recordsOf, rightLengths, soundWords, clearedTables, clearedProcesses}
-use Rattle.text.specs.Opening.{Form, Opening, opens, linesOf, openingOf}
+use Rattle.text.specs.Opening.{Form, opens, linesOf, openingOf}
 use Rattle.text.specs.Answers.{noText}
-use Rattle.text.specs.Entry.{Replied, openEntry, callEntry}
+use Rattle.text.specs.Entry.{openEntry, callEntry}
 use Rattle.text.specs.Session.{session}
 use Rattle.history.specs.Reading.{accepts}
 use Rattle.history.specs.Demand3.{lentAfter, repliesTo}

@@ -1,8 +1,8 @@
 -- The history: what each accepted call notes. It is fed text, lines and answers, and reads no table.
-use Prim.Native.Nat.{ℕ, zero, suc, pred}
-use mathlib.Core.Bool.{Bool, true, false, not, _&&_, _||_}
+use Prim.Native.Nat.{ℕ, suc, pred}
+use mathlib.Core.Bool.{Bool, not, _&&_, _||_}
 use mathlib.Core.List.{List, [], _∷_, _++_, map}
-use lib.Dec.{leb, ltb, eqb}
+use lib.Dec.{eqb}
 use Rattle.rows.specs.Lists.{if_then_else_, filter, any, all, firstWith, member, some}
 use Rattle.calls.specs.declared.Item.{Item}
 

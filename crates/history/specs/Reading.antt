@@ -1,6 +1,6 @@
 -- The history's own reading of the opening text, of call lines and of printed answers. It shares the text's parsers and nothing of the calls.
 use Prim.Native.Nat.{ℕ, zero, suc, _+_}
-use mathlib.Core.Bool.{Bool, true, false}
+use mathlib.Core.Bool.{Bool}
 use mathlib.Core.List.{List, [], _∷_}
 use lib.ListN.{length}
 use Rattle.rows.specs.Lists.{if_then_else_, filter, some}

@@ -1,7 +1,7 @@
 -- The statement of demand 3 is not empty: computed sessions in which a revoke takes back what it must and leaves what it must.
 use Prim.Native.Nat.{ℕ}
 use Prim.Native.String.{String}
-use mathlib.Core.Bool.{Bool, true, false, not, _&&_}
+use mathlib.Core.Bool.{Bool, not, _&&_}
 use mathlib.Core.List.{List, [], _∷_, map}
 use lib.Dec.{T, eqb}
 use lib.ListN.{replicate}
@@ -9,13 +9,12 @@ use Rattle.rows.specs.Lists.{any, all, member, sameList, bytes}
 use Rattle.rows.specs.Codes.{inClist}
 use Rattle.rows.specs.Tables.{State, rowOf, numbers}
 use Rattle.rows.specs.Layout.{tablesLength, processesLength, wordsOf}
-use Rattle.calls.specs.Rules.{Out}
 use Rattle.text.specs.Opening.{Opening, opens, refusedAt, linesOf, openingOf}
 use Rattle.text.specs.Answers.{printed}
 use Rattle.text.specs.Entry.{Replied, openEntry, callOn, stateOpened}
-use Rattle.history.specs.Notes.{History, OnLoan, loanOf, stands, isClosed}
+use Rattle.history.specs.Notes.{History, loanOf, stands, isClosed}
 use Rattle.history.specs.Reading.{begun, noteLine}
-use Rattle.history.specs.Demand3.{lentAfter, repliesTo, stateIn}
+use Rattle.history.specs.Demand3.{lentAfter}
 
 -- the history and the state after a text, and after lines
 pub record Seen : Type 0 where

@@ -1,6 +1,6 @@
 -- The codes of kinds, places and rights, and the tests by which everything else reads them.
 use Prim.Native.Nat.{ℕ, _+_, _-_, _/_, _%_}
-use mathlib.Core.Bool.{Bool, true, false, _&&_, _||_}
+use mathlib.Core.Bool.{Bool, _&&_, _||_}
 use lib.Dec.{leb, eqb}
 use Rattle.rows.specs.Lists.{between}
 use Rattle.rows.specs.Limits.{processes, nodes}

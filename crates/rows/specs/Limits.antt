@@ -1,5 +1,5 @@
 -- The limits of document 01, each defined once.
-use Prim.Native.Nat.{ℕ, suc}
+use Prim.Native.Nat.{ℕ}
 
 -- "Processes are 1 to 64, nodes 1 to 32, operations 0 to 255."
 unfoldable pub processes : ℕ

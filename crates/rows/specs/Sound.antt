@@ -1,5 +1,5 @@
 -- Sound tables: a named definition for each clause of that paragraph of document 01, and their conjunction.
-use Prim.Native.Nat.{ℕ, zero, suc, pred, _+_, _-_}
+use Prim.Native.Nat.{ℕ, suc, pred}
 use mathlib.Core.Bool.{Bool, true, false, not, _&&_, _||_}
 use mathlib.Core.List.{List, [], _∷_, map}
 use lib.Dec.{leb, ltb, eqb}
@@ -10,7 +10,7 @@ use Rattle.rows.specs.declared.Process.{Process}
 use Rattle.rows.specs.Lists.{if_then_else_, any, all, each, topOf, rises, member, distinct, between, some, nonzero}
 use Rattle.rows.specs.Limits.{processes, nodes, greatestOperation, allRights, greatestNumber, rowSlots, requestSlots, greatestDepth, mostItems}
 use Rattle.rows.specs.Codes.{isOperation, isSubdirectory, isClient, isServer, isEnd, isCopied, inClist, isNode, isClist, isSystem, ownerOf, within}
-use Rattle.rows.specs.Tables.{State, rowOf, requestOf, processAt, isListed, numbers, depthOver, lists}
+use Rattle.rows.specs.Tables.{State, rowOf, requestOf, isListed, numbers, depthOver, lists}
 
 -- ---- "Row and request numbers rise, are never shared and are below the next number, which is at most 1,000,001."
 unfoldable pub rowsRise : State → Bool

@@ -1,9 +1,9 @@
 -- The tables: rows, requests, process records, the next number; look-up; comes from, on loan, lent.
-use Prim.Native.Nat.{ℕ, zero, suc, _-_, max}
-use mathlib.Core.Bool.{Bool, true, false, not, _&&_, _||_}
+use Prim.Native.Nat.{ℕ, zero, suc, max}
+use mathlib.Core.Bool.{Bool, true, false, _&&_, _||_}
 use mathlib.Core.List.{List, [], _∷_, map}
-use lib.Dec.{leb, ltb, eqb}
-use lib.ListN.{length, getD, replicate}
+use lib.Dec.{eqb}
+use lib.ListN.{getD, replicate}
 use Rattle.rows.specs.declared.Row.{Row}
 use Rattle.rows.specs.declared.Request.{Request}
 use Rattle.rows.specs.declared.Process.{Process}

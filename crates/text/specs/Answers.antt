@@ -1,6 +1,5 @@
 -- Answers as text: "prints one line for the opening, then one a call".
 use Prim.Native.Nat.{ℕ, zero, suc, _+_, _/_, _%_}
-use mathlib.Core.Bool.{Bool, true, false}
 use mathlib.Core.List.{List, [], _∷_, _++_}
 use lib.Dec.{ltb, eqb}
 use Rattle.rows.specs.Lists.{if_then_else_, bytes}

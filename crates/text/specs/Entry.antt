@@ -1,12 +1,11 @@
 -- The two entry points on the lent words: any words, any bytes in; the reply and every word out.
 use Prim.Native.Nat.{ℕ}
-use mathlib.Core.Bool.{Bool, true, false, not, _&&_, _||_}
+use mathlib.Core.Bool.{Bool, not, _&&_}
 use mathlib.Core.List.{List, [], _∷_}
 use Rattle.rows.specs.Lists.{if_then_else_, some}
 use Rattle.rows.specs.Tables.{State, isListed, empty}
 use Rattle.rows.specs.Layout.{wordsOf, recordsOf, stateOf, rightLengths, soundWords, clearedTables, clearedProcesses}
 use Rattle.calls.specs.declared.Call.{Call}
-use Rattle.calls.specs.declared.Answer.{Answer}
 use Rattle.calls.specs.declared.Answer.the-variants.{Refused}
 use Rattle.calls.specs.Rules.{Out, refusedIf}
 use Rattle.calls.specs.Calls.{callerOf, perform}

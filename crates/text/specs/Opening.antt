@@ -1,18 +1,17 @@
 -- The opening text: its lines, its forms, the number and line of its refusal, and the state that it opens.
 use Prim.Native.Nat.{ℕ, zero, suc, _+_, _-_}
 use mathlib.Core.Bool.{Bool, true, false, not, _&&_, _||_}
-use mathlib.Core.List.{List, [], _∷_, _++_, map}
+use mathlib.Core.List.{List, [], _∷_}
 use lib.Dec.{leb, ltb, eqb}
-use lib.ListN.{length, set, replicate}
+use lib.ListN.{length, set}
 use Rattle.rows.specs.declared.Row.{Row}
-use Rattle.rows.specs.declared.Process.{Process}
-use Rattle.rows.specs.Lists.{if_then_else_, any, all, member, between}
+use Rattle.rows.specs.Lists.{if_then_else_, any, all, between}
 use Rattle.rows.specs.Limits.{processes, nodes, greatestOperation, allRights, mostEntries, mostBytes}
 use Rattle.rows.specs.Codes.{operation, subdirectory, isOperation, inNode}
-use Rattle.rows.specs.Tables.{State, noProcess}
+use Rattle.rows.specs.Tables.{State}
 use Rattle.text.specs.declared.Read.{Read}
 use Rattle.text.specs.declared.Entry.{Entry}
-use Rattle.text.specs.Patterns.{bad, form, whole, mostGroups}
+use Rattle.text.specs.Patterns.{form, whole, mostGroups}
 
 -- ---- lines: each ends with its line feed, the last one perhaps without
 unfoldable pub withByte : ℕ → List (List ℕ) → List (List ℕ)

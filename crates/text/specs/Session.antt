@@ -2,7 +2,6 @@
 use Prim.Native.Nat.{ℕ}
 use mathlib.Core.List.{List, [], _∷_, _++_}
 use Rattle.rows.specs.Tables.{State}
-use Rattle.calls.specs.Rules.{Out}
 use Rattle.text.specs.Opening.{Opening, opens, refusedAt, linesOf, openingOf}
 use Rattle.text.specs.Answers.{okText, noText, printed}
 use Rattle.text.specs.Entry.{callOn, stateOpened}

@@ -206,8 +206,10 @@ fn sources_older(rng: &mut Rng, t: &mut Tables) -> Option<()> {
 fn sources_of_kind(rng: &mut Rng, t: &mut Tables) -> Option<()> {
     let operation = number(rng, t, |r| r.kind == Kind::Operation && !r.in_node())?;
     let subdirectory = number(rng, t, |r| r.kind == Kind::Subdirectory)?;
+    let client = number(rng, t, |r| r.kind == Kind::Client).unwrap_or(0);
     let held = |r: &Row| matches!(r.place, Place::CList(_)) && !r.is_end() && r.request == 0;
-    match rng.below(6) {
+    let over_another = |r: &Row| r.request != 0 && r.via != client && r.number > client;
+    match rng.below(7) {
         0 => row(rng, t, |r| held(r) && r.number > operation)?.source = operation,
         1 => row(rng, t, |r| held(r) && r.number > operation)?.via = operation,
         2 => row(rng, t, |r| r.is_end() && r.number > subdirectory)?.source = subdirectory,
@@ -218,6 +220,7 @@ fn sources_of_kind(rng: &mut Rng, t: &mut Tables) -> Option<()> {
             .source = operation
         }
         4 => row(rng, t, |r| r.request != 0)?.via = 0,
+        5 => row(rng, t, over_another)?.via = client,
         _ => row(rng, t, |r| r.request != 0)?.via += 1,
     }
     Some(())
