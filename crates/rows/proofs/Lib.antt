@@ -37,3 +37,7 @@ pub mod Picked
 pub mod Lookups
 -- process records in their words, one after the other
 pub mod ProcessRecords
+-- the clauses of one request, over the words of its slot
+pub mod RequestClauses
+-- the loops over requests, and their clauses joined
+pub mod RequestClausesLoops
