@@ -41,3 +41,7 @@ pub mod ProcessRecords
 pub mod RequestClauses
 -- the loops over requests, and their clauses joined
 pub mod RequestClausesLoops
+-- the listing of rows by requests
+pub mod HolderClauses
+-- older requests, told from the newest
+pub mod HolderClausesOlder

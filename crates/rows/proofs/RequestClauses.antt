@@ -3,8 +3,9 @@ use Prim.Native.Nat.{ℕ, zero, suc, _+_}
 use mathlib.Core.Bool.{Bool, true, false, not, cond, _&&_, _||_}
 use mathlib.Core.List.{List, [], _∷_}
 use mathlib.Core.Path.{_≡_, refl, ap, sym, _∙_}
+use native.Mathlib.Numerals.{add-one}
 use native.Mathlib.Omega.{arith}
-use borrow.Author.Tests.{eqb-true, ne-eqb}
+use borrow.Author.Tests.{eqb-true, eq-eqb, ne-eqb}
 use lib.Dec.{leb, ltb, eqb}
 use lib.ListN.{length, getD}
 use Rattle.rows.specs.declared.Row.{Row}
@@ -17,7 +18,7 @@ use Rattle.rows.specs.Sound.{itemsFew, portStands, mayBeListed}
 use Rattle.rows.specs.Layout.{rowColumns, requestColumns, requestsAt, requestAt, requestsTo}
 use Rattle.rows.specs.Lies.{Lies, rowSlot}
 use Rattle.rows.specs.Clauses.{wordAt, standingPort}
-use Rattle.rows.proofs.Bools.{clash}
+use Rattle.rows.proofs.Bools.{bool-eq, clash}
 use Rattle.rows.proofs.LayoutRequests.{requests-back}
 use Rattle.rows.proofs.Slots.{lies-well, lies-request, row-found, row-none, row-absent, row-words, request-read, slot-zero}
 
@@ -37,6 +38,11 @@ module _ (t : List ℕ) (j : ℕ) where
 
   pub items-words : getD t (10752 + j) 0 ∷ getD t (10880 + j) 0 ∷ getD t (11008 + j) 0 ∷ getD t (11136 + j) 0 ∷ [] ≡ requestAt t j .items
   items-words = ap (λ (v : Request). v .items) (request-read t j)
+
+-- one request more
+pub all-next : (F : Request → Bool) (t : List ℕ) (j : ℕ) {a b : Bool} → a ≡ F (requestAt t j) → b ≡ all F (requestsTo t j) → a && b ≡ all F (requestsTo t (j + 1))
+unfolding all requestsTo
+all-next F t j p q = rw (add-one j) (λ i. p i && q i)
 
 -- ---- the slot of a row
 pub apart-slot : (rs : List Row) (q : ℕ) → eqb (rowSlot rs q) 0 ≡ not (member q (numbers rs))
@@ -77,6 +83,11 @@ module _ {st : State} {t : List ℕ} (lie : Lies st t) where
   slot-same a b i p q =
       sym (row-found (st .rows) a i p .1) ∙ sym (row-words lie a i p .number) ∙ row-words lie b i q .number ∙ row-found (st .rows) b i q .1
 
+  pub slot-test : (a i : ℕ) → rowSlot (st .rows) a ≡ suc i → (b : ℕ) → eqb (suc i) (rowSlot (st .rows) b) ≡ eqb a b
+  slot-test a i e b =
+      bool-eq (eqb (suc i) (rowSlot (st .rows) b)) (eqb a b) (λ d. eq-eqb a b (slot-same a b i e (sym (eqb-true (suc i) (rowSlot (st .rows) b) d))))
+      (λ d. eq-eqb (suc i) (rowSlot (st .rows) b) (sym e ∙ ap (rowSlot (st .rows)) (eqb-true a b d)))
+
   -- a row found by a number has it, or is none
   older-end : (e q : ℕ) → isEnd (rowOf (st .rows) e .kind) && ltb e q ≡ isEnd (rowOf (st .rows) e .kind) && ltb (rowOf (st .rows) e .number) q
   unfolding isEnd isClient isServer clientEnd serverEnd noRow
@@ -92,6 +103,18 @@ module _ {st : State} {t : List ℕ} (lie : Lies st t) where
   may-be-listed v e q kind bears a b c =
       rw (b, c, ← a) (ap (λ (x : Bool). not (ltb 0 e) || (x || (ltb 0 (rowOf (st .rows) e .request) && eqb (rowOf (st .rows) e .request) (v .number)))) (older-end e (v .number)))
 
+-- ---- tests joined
+pub all-both : {A : Type 0} (f g : A → Bool) (xs : List A) → all (λ x. f x && g x) xs ≡ all f xs && all g xs
+unfolding all
+all-both f g [] = refl
+all-both f g (x ∷ xs) = rw (all-both f g xs) (swap (f x) (g x) (all f xs) (all g xs))
+  where
+    swap : (a b c d : Bool) → (a && b) && (c && d) ≡ (a && c) && (b && d)
+    swap true true c d = refl
+    swap true false true d = refl
+    swap true false false d = refl
+    swap false b c d = refl
+
 -- ---- items that are there
 pub and-true : (b : Bool) → b && true ≡ b
 and-true true = refl
@@ -106,7 +129,16 @@ all-nonzero P e es = pick (some e)
     pick true = refl
     pick false = refl
 
-member-nonzero : (e : ℕ) (es : List ℕ) → some e ≡ true → member e (nonzero es) ≡ member e es
+pub items-all : (P : ℕ → Bool) (a b c d : ℕ) → (not (some a) || P a) && ((not (some b) || P b) && ((not (some c) || P c) && (not (some d) || P d))) ≡ all P (nonzero (a ∷ b ∷ c ∷ d ∷ []))
+unfolding all nonzero filter
+items-all P a b c d =
+    sym
+    (all-nonzero P a (b ∷ c ∷ d ∷ [])
+    ∙ ap (λ (x : Bool). (not (some a) || P a) && x)
+    (all-nonzero P b (c ∷ d ∷ [])
+    ∙ ap (λ (x : Bool). (not (some b) || P b) && x) (all-nonzero P c (d ∷ []) ∙ ap (λ (x : Bool). (not (some c) || P c) && x) (all-nonzero P d [] ∙ and-true (not (some d) || P d)))))
+
+pub member-nonzero : (e : ℕ) (es : List ℕ) → some e ≡ true → member e (nonzero es) ≡ member e es
 unfolding nonzero filter member
 member-nonzero e [] h = refl
 member-nonzero e (a ∷ es) h = pick (member-nonzero e es h) (some a) refl (eqb e a) refl
@@ -116,6 +148,14 @@ member-nonzero e (a ∷ es) h = pick (member-nonzero e es h) (some a) refl (eqb 
     pick ih true q false r = rw r ih
     pick ih false q true r = clash (ap some (sym (eqb-true e a r)) ∙ h) q
     pick ih false q false r = ih
+
+pub member-three : (e a b c : ℕ) → eqb e a || (eqb e b || eqb e c) ≡ member e (a ∷ b ∷ c ∷ [])
+unfolding member
+member-three e a b c = rw (or-none (eqb e c)) refl
+  where
+    or-none : (b : Bool) → b || false ≡ b
+    or-none true = refl
+    or-none false = refl
 
 abbrev apart : ℕ → List ℕ → Bool
 apart e es = not (some e) || not (member e es)

@@ -1,11 +1,12 @@
 -- The loops over the requests: the ports marked by the slots of their client ends, and the clauses joined.
-use Prim.Native.Nat.{ℕ, zero, suc, _<_, _≤_}
+use Prim.Native.Nat.{ℕ, zero, suc, _+_, _<_, _≤_}
 use mathlib.Core.Bool.{Bool, true, false, not, cond, _&&_, _||_}
 use mathlib.Core.List.{List, [], _∷_, map}
 use mathlib.Core.Path.{_≡_, refl, ap, sym, _∙_}
 use native.Mathlib.Decide.{ℕ-discrete}
+use native.Mathlib.Numerals.{add-one}
 use native.Mathlib.Omega.{arith}
-use borrow.Author.Tests.{eqb-true, eq-eqb, ne-eqb}
+use borrow.Author.Tests.{eq-eqb, ne-eqb}
 use lib.Dec.{leb, ltb, eqb}
 use lib.ListN.{length, getD, set, replicate, length-set, length-replicate, getD-replicate}
 use lib.Seq.{getD-set-same, getD-set-other}
@@ -15,11 +16,12 @@ use Rattle.rows.specs.Lists.{any, all, member, distinct, nonzero}
 use Rattle.rows.specs.Codes.{clientEnd, isClient}
 use Rattle.rows.specs.Tables.{State, noRow, rowOf, isListed, numbers}
 use Rattle.rows.specs.Sound.{numbersApart, fetchedInRange, portStands, portsStand, requestersListed, itemsApart, mayBeListed, itemsLent, onePerPort}
+use Rattle.rows.specs.Layout.{requestAt, requestsTo}
 use Rattle.rows.specs.Lies.{Lies, rowSlot}
 use Rattle.rows.specs.Clauses.{requestRight, standingPort, portsRight, isFree, withMark}
-use Rattle.rows.proofs.Bools.{bool-eq, clash, and-l, and-r}
+use Rattle.rows.proofs.Bools.{clash, and-l, and-r, eqb-sym}
 use Rattle.rows.proofs.Slots.{row-absent}
-use Rattle.rows.proofs.RequestClauses.{slot-same}
+use Rattle.rows.proofs.RequestClauses.{slot-test, all-both}
 
 -- ---- ports
 -- a port that stands has a slot
@@ -57,13 +59,7 @@ taken-port lie c i e [] h = refl
 taken-port {st} lie c i e (w ∷ vs) h =
     let here : portStands (st .rows) w ≡ true = and-l (portStands (st .rows) w) (all (portStands (st .rows)) vs) h in
     let rest : all (portStands (st .rows)) vs ≡ true = and-r (portStands (st .rows) w) (all (portStands (st .rows)) vs) h in
-    rw (here, taken-port lie c i e vs rest) (ap (λ (b : Bool). b || member c (map (λ v. v .port) vs)) at)
-  where
-    at : eqb (rowSlot (st .rows) (w .port)) (suc i) ≡ eqb c (w .port)
-    at =
-        bool-eq (eqb (rowSlot (st .rows) (w .port)) (suc i)) (eqb c (w .port))
-        (λ d. eq-eqb c (w .port) (slot-same lie c (w .port) i e (eqb-true (rowSlot (st .rows) (w .port)) (suc i) d)))
-        (λ d. eq-eqb (rowSlot (st .rows) (w .port)) (suc i) (ap (rowSlot (st .rows)) (sym (eqb-true c (w .port) d)) ∙ e))
+    rw (here, taken-port lie c i e vs rest) (ap (λ (b : Bool). b || member c (map (λ v. v .port) vs)) (eqb-sym (rowSlot (st .rows) (w .port)) (suc i) ∙ slot-test lie c i e (w .port)))
 
 -- the marks are the slots of the ports of the requests so far
 pub record Ports (rs : List Row) (vs : List Request) (marks : List Bool) (right : Bool) : Type 0 where
@@ -114,18 +110,13 @@ ports-turn {st} lie vs marks right v (suc i) e h p =
         same : (k : ℕ) → standingPort (st .rows) v ≡ suc k → k ≡ i
         same k x = omega (arith, e, x)
 
--- ---- the clauses joined
-all-both : {A : Type 0} (f g : A → Bool) (xs : List A) → all (λ x. f x && g x) xs ≡ all f xs && all g xs
-unfolding all
-all-both f g [] = refl
-all-both f g (x ∷ xs) = rw (all-both f g xs) (swap (f x) (g x) (all f xs) (all g xs))
-  where
-    swap : (a b c d : Bool) → (a && b) && (c && d) ≡ (a && c) && (b && d)
-    swap true true c d = refl
-    swap true false true d = refl
-    swap true false false d = refl
-    swap false b c d = refl
+-- one request more
+pub ports-next : {st : State} {t : List ℕ} → Lies st t → (u : List ℕ) (j : ℕ) (marks marks′ : List Bool) (right r : Bool) (s : ℕ) → s ≡ standingPort (st .rows) (requestAt u j) → s ≤ 1024
+    → r ≡ isFree marks s → marks′ ≡ withMark marks s → Ports (st .rows) (requestsTo u j) marks right → Ports (st .rows) (requestsTo u (j + 1)) marks′ (r && right)
+unfolding requestsTo
+ports-next lie u j marks marks′ right r s e h free mark p = rw (add-one j, free, mark) (ports-turn lie (requestsTo u j) marks right (requestAt u j) s e h p)
 
+-- ---- the clauses joined
 each-right : (st : State) → all (requestRight st) (st .requests) ≡ numbersApart st && (fetchedInRange st && (requestersListed st && (itemsApart st && itemsLent st)))
 unfolding requestRight numbersApart fetchedInRange requestersListed itemsApart itemsLent
 each-right st =
