@@ -1,5 +1,5 @@
 -- The listing of rows by requests: which slots it has, and what a turn of the loop over the requests adds.
-use Prim.Native.Nat.{ℕ, zero, suc, _+_, _-_, _<_, _≤_}
+use Prim.Native.Nat.{ℕ, zero, suc, _-_, _<_, _≤_, zero-le}
 use mathlib.Core.Bool.{Bool, true, false, not, cond, _&&_, _||_}
 use mathlib.Core.List.{List, [], _∷_, _++_, append-assoc, map}
 use mathlib.Core.Path.{_≡_, refl, ap, sym, subst, _∙_}
@@ -7,7 +7,7 @@ use mathlib.Core.Logic.{⊎-elim}
 use native.Mathlib.Nat.{eq-or-lt-of-le, le-of-suc-le-suc}
 use native.Mathlib.Decide.{ℕ-discrete}
 use native.Mathlib.Omega.{arith}
-use borrow.Author.Tests.{eqb-false, ne-eqb, le-leb, leb-true}
+use borrow.Author.Tests.{eqb-false, eq-eqb, ne-eqb, le-leb, leb-true}
 use lib.Dec.{leb, ltb, eqb}
 use lib.ListN.{length, getD, set, replicate, length-set, length-replicate}
 use lib.Seq.{getD-set-same, getD-set-other}
@@ -67,7 +67,46 @@ code-list-at code (suc k) l i h =
     there d true = getD-set-other l k i code 0 d
     there d false = refl
 
--- after all slots of a list, each in the listing's range
+pub list-free : (code i : ℕ) (l : List ℕ) → getD l i 0 ≡ 0 → listAt code (suc i) l ≡ set l i code
+unfolding listAt
+list-free code i l e = rw (eq-eqb (getD l i 0) 0 e) refl
+
+pub list-kept : (code i : ℕ) (l : List ℕ) → (getD l i 0 ≡ 0 → ⊥) → listAt code (suc i) l ≡ l
+unfolding listAt
+list-kept code i l e = rw (ne-eqb (getD l i 0) 0 e) refl
+
+-- ---- four slots
+pub any-four : (f : ℕ → Bool) (ss : List ℕ) → length ss ≡ 4 → f (getD ss 0 0) || (f (getD ss 1 0) || (f (getD ss 2 0) || f (getD ss 3 0))) ≡ any f ss
+unfolding any
+any-four f [] e = absurd (omega arith)
+any-four f (a ∷ []) e = absurd (omega arith)
+any-four f (a ∷ b ∷ []) e = absurd (omega arith)
+any-four f (a ∷ b ∷ c ∷ []) e = absurd (omega arith)
+any-four f (a ∷ b ∷ c ∷ d ∷ []) e = ap (λ (x : Bool). f a || (f b || (f c || x))) (none (f d))
+  where
+    none : (x : Bool) → x ≡ x || false
+    none true = refl
+    none false = refl
+any-four f (a ∷ b ∷ c ∷ d ∷ x ∷ ss) e = absurd (omega arith)
+
+pub list-four : (code : ℕ) (ss l : List ℕ) → length ss ≡ 4
+    → listAt code (getD ss 3 0) (listAt code (getD ss 2 0) (listAt code (getD ss 1 0) (listAt code (getD ss 0 0) l))) ≡ listAll code ss l
+unfolding listAll
+list-four code [] l e = absurd (omega arith)
+list-four code (a ∷ []) l e = absurd (omega arith)
+list-four code (a ∷ b ∷ []) l e = absurd (omega arith)
+list-four code (a ∷ b ∷ c ∷ []) l e = absurd (omega arith)
+list-four code (a ∷ b ∷ c ∷ d ∷ []) l e = refl
+list-four code (a ∷ b ∷ c ∷ d ∷ x ∷ ss) l e = absurd (omega arith)
+
+pub within-four : {a b c d n : ℕ} → a ≤ n → b ≤ n → c ≤ n → d ≤ n → (k : ℕ) → getD (a ∷ b ∷ c ∷ d ∷ []) k 0 ≤ n
+within-four p q r s zero = p
+within-four p q r s (suc zero) = q
+within-four p q r s (suc (suc zero)) = r
+within-four p q r s (suc (suc (suc zero))) = s
+within-four p q r s (suc (suc (suc (suc k)))) = zero-le
+
+-- ---- after all slots of a list, each in the listing's range
 abbrev pub Small : List ℕ → Type 0
 Small ss = all (λ s. leb s 1024) ss ≡ true
 

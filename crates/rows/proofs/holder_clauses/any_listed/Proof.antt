@@ -1,47 +1,43 @@
+-- `holder_clauses::any_listed` meets its contract: the four slots, one by one.
+use Rattle.rows.proofs.HolderClauses.{any-four}
+use Rattle.rows.specs.Clauses.{codeAt}
+use Rattle.rows.specs.Lists.{some}
+use denote.Ref.{now}
+use mathlib.Core.Path.{_≡_, refl, ap, sym, _∙_}
 use borrow.Author.Needs.{needs}
 use Prim.Native.Nat.{ℕ, _≤_, _<_, _-_, _+_}
 use native.Mathlib.Omega.{arith}
 use Rattle.rows.proofs.holder_clauses.any_listed.Statement.{statement}
 use Rattle.rows.proofs.holder_clauses.any_listed.Tie as tie
-use Rattle.rows.proofs.holder_clauses.any_listed.Reads as reads
-use Rattle.rows.proofs.holder_clauses.any_listed.Lts as lts
-use Rattle.rows.proofs.holder_clauses.is_listed.Reads as is-listed-reads
 
--- src/holder_clauses.rt:52:32
 array-read-is-listed : tie.Need-array-read-is-listed
 array-read-is-listed c = search needs
 
--- src/holder_clauses.rt:52:9
 is-listed-requires : tie.Need-is-listed-requires
-is-listed-requires c κs = search needs
+is-listed-requires c κs = c .pre 0
 
--- src/holder_clauses.rt:53:32
 array-read-is-listed-2 : tie.Need-array-read-is-listed-2
 array-read-is-listed-2 c = search needs
 
--- src/holder_clauses.rt:53:9
 is-listed-requires-2 : tie.Need-is-listed-requires-2
-is-listed-requires-2 c κs = search needs
+is-listed-requires-2 c κs = c .before .pre 1
 
--- src/holder_clauses.rt:54:32
 array-read-is-listed-3 : tie.Need-array-read-is-listed-3
 array-read-is-listed-3 c = search needs
 
--- src/holder_clauses.rt:54:9
 is-listed-requires-3 : tie.Need-is-listed-requires-3
-is-listed-requires-3 c κs = search needs
+is-listed-requires-3 c κs = c .before .before .pre 2
 
--- src/holder_clauses.rt:55:32
 array-read-is-listed-4 : tie.Need-array-read-is-listed-4
 array-read-is-listed-4 c = search needs
 
--- src/holder_clauses.rt:55:9
 is-listed-requires-4 : tie.Need-is-listed-requires-4
-is-listed-requires-4 c κs = search needs
+is-listed-requires-4 c κs = c .before .before .before .pre 3
 
--- src/holder_clauses.rt:48:1
 returns : tie.Need-returns
-returns c = search needs
+returns c =     let s = c .before .before .before .before in
+    rw (c .before .before .before .is-listed .ensures, c .before .before .is-listed2 .ensures, c .before .is-listed3 .ensures, c .is-listed4 .ensures)
+    (any-four (λ x. some (codeAt (now (s .args .listing)) x)) (s .args .t2) (s .good .1 .0 .1 .0 .1))
 
 pub any-listed-spec : {M : Type 1} → statement M
 any-listed-spec =

@@ -1,26 +1,29 @@
+-- `holder_clauses::is_listed` meets its contract.
+use Rattle.rows.specs.Clauses.{codeAt}
+use Rattle.rows.specs.Lists.{some}
+use Prim.Native.Nat.{ℕ, suc, _-_}
+use denote.Ref.{now}
+use mathlib.Core.Path.{_≡_, refl, ap, sym, _∙_}
 use borrow.Author.Needs.{needs}
 use Prim.Native.Nat.{ℕ, _≤_, _<_, _-_, _+_}
 use native.Mathlib.Omega.{arith}
 use Rattle.rows.proofs.holder_clauses.is_listed.Statement.{statement}
 use Rattle.rows.proofs.holder_clauses.is_listed.Tie as tie
-use Rattle.rows.proofs.holder_clauses.is_listed.Reads as reads
-use Rattle.rows.proofs.holder_clauses.is_listed.Lts as lts
 
--- src/holder_clauses.rt:42:9
 returns : tie.Need-returns
-returns c = search needs
+unfolding some codeAt
+returns c = let a = c .before .args in sym (ap (λ (s : ℕ). some (codeAt (now (a .listing)) s)) (c .if1 .taken))
 
--- src/holder_clauses.rt:44:24
 sub-code : tie.Need-sub-code
 sub-code c = search needs
 
--- src/holder_clauses.rt:44:16
 element-copy-out-code : tie.Need-element-copy-out-code
 element-copy-out-code c = search needs
 
--- src/holder_clauses.rt:37:1
 returns-2 : tie.Need-returns-2
-returns-2 c = search needs
+unfolding some codeAt
+returns-2 c =     let a = c .before .before .args in
+    let e : a .s ≡ suc (a .s - 1) = omega (arith, c .before .if1 .left) in sym (ap (λ (s : ℕ). some (codeAt (now (a .listing)) s)) e)
 
 pub is-listed-spec : {M : Type 1} → statement M
 is-listed-spec = tie.close (tie.spec returns sub-code element-copy-out-code returns-2)

@@ -1,99 +1,88 @@
+-- `holder_clauses::item_slots` meets its contract.
+use Rattle.rows.proofs.HolderClauses.{within-four}
+use Rattle.rows.proofs.RequestClauses.{items-words}
+use Rattle.rows.specs.Lies.{rowSlot}
+use mathlib.Core.List.{[], _∷_, map}
+use denote.Ref.{now}
+use mathlib.Core.Path.{_≡_, refl, ap, sym, _∙_}
 use borrow.Author.Needs.{needs}
 use Prim.Native.Nat.{ℕ, _≤_, _<_, _-_, _+_}
 use native.Mathlib.Omega.{arith}
 use Rattle.rows.proofs.holder_clauses.item_slots.Statement.{statement}
 use Rattle.rows.proofs.holder_clauses.item_slots.Tie as tie
-use Rattle.rows.proofs.holder_clauses.item_slots.Reads as reads
-use Rattle.rows.proofs.holder_clauses.item_slots.Lts as lts
-use Rattle.rows.proofs.request_clauses.slot_among.Reads as slot-among-reads
 
--- src/holder_clauses.rt:29:32
 add-slot-among : tie.Need-add-slot-among
 add-slot-among c = search needs
 
--- src/holder_clauses.rt:29:30
 mul-slot-among : tie.Need-mul-slot-among
 mul-slot-among c = search needs
 
--- src/holder_clauses.rt:29:30
 shared-slice-read-slot-among : tie.Need-shared-slice-read-slot-among
 shared-slice-read-slot-among c = search needs
 
--- src/holder_clauses.rt:29:9
 slot-among-requires : tie.Need-slot-among-requires
 slot-among-requires c κs = search needs
 
--- src/holder_clauses.rt:30:32
 add-slot-among-2 : tie.Need-add-slot-among-2
 add-slot-among-2 c = search needs
 
--- src/holder_clauses.rt:30:32
 add-slot-among-3 : tie.Need-add-slot-among-3
 add-slot-among-3 c = search needs
 
--- src/holder_clauses.rt:30:30
 mul-slot-among-2 : tie.Need-mul-slot-among-2
 mul-slot-among-2 c = search needs
 
--- src/holder_clauses.rt:30:30
 shared-slice-read-slot-among-2 : tie.Need-shared-slice-read-slot-among-2
 shared-slice-read-slot-among-2 c = search needs
 
--- src/holder_clauses.rt:30:9
 slot-among-requires-2 : tie.Need-slot-among-requires-2
 slot-among-requires-2 c κs = search needs
 
--- src/holder_clauses.rt:31:42
 mul-slot-among-3 : tie.Need-mul-slot-among-3
 mul-slot-among-3 c = search needs
 
--- src/holder_clauses.rt:31:32
 add-slot-among-4 : tie.Need-add-slot-among-4
 add-slot-among-4 c = search needs
 
--- src/holder_clauses.rt:31:32
 add-slot-among-5 : tie.Need-add-slot-among-5
 add-slot-among-5 c = search needs
 
--- src/holder_clauses.rt:31:30
 mul-slot-among-4 : tie.Need-mul-slot-among-4
 mul-slot-among-4 c = search needs
 
--- src/holder_clauses.rt:31:30
 shared-slice-read-slot-among-3 : tie.Need-shared-slice-read-slot-among-3
 shared-slice-read-slot-among-3 c = search needs
 
--- src/holder_clauses.rt:31:9
 slot-among-requires-3 : tie.Need-slot-among-requires-3
 slot-among-requires-3 c κs = search needs
 
--- src/holder_clauses.rt:32:42
 mul-slot-among-5 : tie.Need-mul-slot-among-5
 mul-slot-among-5 c = search needs
 
--- src/holder_clauses.rt:32:32
 add-slot-among-6 : tie.Need-add-slot-among-6
 add-slot-among-6 c = search needs
 
--- src/holder_clauses.rt:32:32
 add-slot-among-7 : tie.Need-add-slot-among-7
 add-slot-among-7 c = search needs
 
--- src/holder_clauses.rt:32:30
 mul-slot-among-6 : tie.Need-mul-slot-among-6
 mul-slot-among-6 c = search needs
 
--- src/holder_clauses.rt:32:30
 shared-slice-read-slot-among-4 : tie.Need-shared-slice-read-slot-among-4
 shared-slice-read-slot-among-4 c = search needs
 
--- src/holder_clauses.rt:32:9
 slot-among-requires-4 : tie.Need-slot-among-requires-4
 slot-among-requires-4 c κs = search needs
 
--- src/holder_clauses.rt:24:1
 returns : tie.Need-returns
-returns c = search needs
+returns c =     let a = c .before .before .before .before .before .before .before .before .before .args in
+    let first = c .before .before .before .before .before .before .slot-among .ensures in
+    let second = c .before .before .before .before .slot-among2 .ensures in
+    let third = c .before .before .slot-among3 .ensures in
+    let fourth = c .slot-among4 .ensures in (
+      within-four (first .0) (second .0) (third .0) (fourth .0),
+      (λ st lie e. (λ i. first .1 st lie e i ∷ second .1 st lie e i ∷ third .1 st lie e i ∷ fourth .1 st lie e i ∷ []) ∙ ap (map (rowSlot (st .rows))) (items-words (now (a .t)) (a .j))),
+    )
 
 pub item-slots-spec : {M : Type 1} → statement M
 item-slots-spec =

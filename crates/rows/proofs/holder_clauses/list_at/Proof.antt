@@ -1,34 +1,39 @@
+-- `holder_clauses::list_at` meets its contract.
+use Rattle.rows.proofs.HolderClauses.{list-free, list-kept}
+use Rattle.rows.specs.Clauses.{listAt}
+use Prim.Native.Nat.{ℕ, suc, _-_}
+use denote.Ref.{now}
+use mathlib.Core.Path.{_≡_, refl, ap, sym, _∙_}
 use borrow.Author.Needs.{needs}
 use Prim.Native.Nat.{ℕ, _≤_, _<_, _-_, _+_}
 use native.Mathlib.Omega.{arith}
 use Rattle.rows.proofs.holder_clauses.list_at.Statement.{statement}
 use Rattle.rows.proofs.holder_clauses.list_at.Tie as tie
-use Rattle.rows.proofs.holder_clauses.list_at.Reads as reads
-use Rattle.rows.proofs.holder_clauses.list_at.Lts as lts
 
--- src/holder_clauses.rt:65:9
 returns : tie.Need-returns
-returns c = search needs
+unfolding listAt
+returns c = let a = c .before .args in sym (ap (λ (s : ℕ). listAt (a .code) s (now (a .listing))) (c .if1 .taken))
 
--- src/holder_clauses.rt:67:13
 sub-i : tie.Need-sub-i
 sub-i c = search needs
 
--- src/holder_clauses.rt:68:8
 element-copy-out-if2 : tie.Need-element-copy-out-if2
 element-copy-out-if2 c = search needs
 
--- src/holder_clauses.rt:69:9
 element-write-listing : tie.Need-element-write-listing
 element-write-listing c = search needs
 
--- src/holder_clauses.rt:60:1
 returns-2 : tie.Need-returns-2
-returns-2 c = search needs
+unfolding listAt
+returns-2 c =     let a = c .before .before .before .args in
+    let e : a .s ≡ suc (a .s - 1) = omega (arith, c .before .before .if1 .left) in
+    sym (ap (λ (s : ℕ). listAt (a .code) s (now (a .listing))) e ∙ list-free (a .code) (a .s - 1) (now (a .listing)) (c .if2 .taken))
 
--- src/holder_clauses.rt:60:1
 returns-3 : tie.Need-returns-3
-returns-3 c = search needs
+unfolding listAt
+returns-3 c =     let a = c .before .before .before .args in
+    let e : a .s ≡ suc (a .s - 1) = omega (arith, c .before .before .if1 .left) in
+    sym (ap (λ (s : ℕ). listAt (a .code) s (now (a .listing))) e ∙ list-kept (a .code) (a .s - 1) (now (a .listing)) (c .if2 .left))
 
 pub list-at-spec : {M : Type 1} → statement M
 list-at-spec =

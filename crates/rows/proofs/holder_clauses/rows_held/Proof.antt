@@ -1,57 +1,54 @@
+-- `holder_clauses::rows_held` meets its contract: the rows of the first slots are held as listed, or not.
+use Rattle.rows.specs.Clauses.{heldTo}
+use native.Mathlib.Numerals.{add-one}
+use mathlib.Core.Bool.{_&&_}
+use denote.Ref.{now}
+use mathlib.Core.Path.{_≡_, refl, ap, sym, _∙_}
 use borrow.Author.Needs.{needs}
 use Prim.Native.Nat.{ℕ, _≤_, _<_, _-_, _+_}
 use native.Mathlib.Omega.{arith}
 use Rattle.rows.proofs.holder_clauses.rows_held.Statement.{statement}
 use Rattle.rows.proofs.holder_clauses.rows_held.Tie as tie
-use Rattle.rows.proofs.holder_clauses.rows_held.Reads as reads
-use Rattle.rows.proofs.holder_clauses.rows_held.Lts as lts
-use Rattle.rows.proofs.holder_clauses.system_holds.Reads as system-holds-reads
 
 abbrev Inv-loop : tie.InvT-loop
-Inv-loop t n listing right₀ i₀ right i = ?
+Inv-loop t n listing right₀ i₀ right i = (i ≤ n) × (right ≡ heldTo t listing i)
 
 abbrev μ-loop : tie.MeasureT-loop
-μ-loop t n listing right₀ i₀ right i = ?
+μ-loop t n listing right₀ i₀ right i = n - i
 
--- src/holder_clauses.rt:122:5
 loop-holds : tie.Need-loop-holds Inv-loop μ-loop
-loop-holds c = search needs
+unfolding heldTo
+loop-holds c = (search needs, refl)
 
--- src/holder_clauses.rt:123:32
 add-system-holds : tie.Need-add-system-holds Inv-loop μ-loop
 add-system-holds c = search needs
 
--- src/holder_clauses.rt:123:30
 mul-system-holds : tie.Need-mul-system-holds Inv-loop μ-loop
 mul-system-holds c = search needs
 
--- src/holder_clauses.rt:123:30
 shared-slice-read-system-holds : tie.Need-shared-slice-read-system-holds Inv-loop μ-loop
 shared-slice-read-system-holds c = search needs
 
--- src/holder_clauses.rt:123:44
 element-copy-out-system-holds : tie.Need-element-copy-out-system-holds Inv-loop μ-loop
 element-copy-out-system-holds c = search needs
 
--- src/holder_clauses.rt:123:17
 system-holds-requires : tie.Need-system-holds-requires Inv-loop μ-loop
 system-holds-requires c κs = search needs
 
--- src/holder_clauses.rt:124:9
 add-i : tie.Need-add-i Inv-loop μ-loop
 add-i c = search needs
 
--- src/holder_clauses.rt:122:5
 loop-less : tie.Need-loop-less Inv-loop μ-loop
 loop-less c = search needs
 
--- src/holder_clauses.rt:122:5
 loop-again : tie.Need-loop-again Inv-loop μ-loop
-loop-again c = search needs
+unfolding heldTo
+loop-again c = let b = c .before .before .before .before in (search needs, rw (add-one (b .loop .i)) (λ k. c .system-holds .ensures k && b .loop .inv .1 k))
 
--- src/holder_clauses.rt:116:1
 returns : tie.Need-returns Inv-loop μ-loop
-returns c = search needs
+returns c =     let b = c .before in
+    let end : b .loop .i ≡ b .before .before .args .n = omega (arith, b .loop .inv .0, c .loop-test .left) in
+    b .loop .inv .1 ∙ ap (heldTo (now (b .before .before .args .t)) (now (b .before .before .args .listing))) end
 
 pub rows-held-spec : {M : Type 1} → statement M
 rows-held-spec =
