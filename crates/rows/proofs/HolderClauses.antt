@@ -23,7 +23,7 @@ use Rattle.rows.specs.Clauses.{listingCode, listingOf, codeAt, listAt, l
 use Rattle.rows.proofs.Bools.{false-of, clash, bool-eq, and-l, and-r, and-i, or-l, or-r, some-pos, pos-some, eqb-self, member-here, member-there, all-at, any-mono, any-none}
 use Rattle.rows.proofs.Slots.{lies-well, slot-le, row-absent, row-words-at, slot-number}
 use Rattle.rows.proofs.RequestClauses.{requests-read, no-slot, slot-test, member-nonzero, and-true}
-use Rattle.rows.proofs.HolderClausesOlder.{fetchedAfter}
+use Rattle.rows.proofs.HolderClausesOlder.{fetchedAfter, older-after}
 
 -- ---- codes of the listing, at a slot plus 1
 code-none : (n x : ℕ) → codeAt (replicate n zero) x ≡ 0
@@ -55,8 +55,8 @@ unfolding codeAt listAt
 code-list-at code zero l i h = rw (ne-eqb (suc i) 0 (λ d. omega arith)) refl
 code-list-at code (suc k) l i h =
     elim (ℕ-discrete i k) [
-    yes d ↦ rw (d, eqb-self (suc k)) (here (eqb (getD l k 0) 0))
-    | no d ↦ rw (ne-eqb (suc i) (suc k) (λ e. d (omega arith))) (there d (eqb (getD l k 0) 0))
+      | yes d ↦ rw (d, eqb-self (suc k)) (here (eqb (getD l k 0) 0))
+      | no d ↦ rw (ne-eqb (suc i) (suc k) (λ e. d (omega arith))) (there d (eqb (getD l k 0) 0))
     ]
   where
     here : (b : Bool) → getD (cond b (set l k code) l) k 0 ≡ cond b code (getD l k 0)
@@ -329,3 +329,15 @@ unfolding requestsTo
 listing-next {st} {t} lie whole j l l′ older r pos lent e d p =
     let before : j ≡ suc (j - 1) = omega arith in
     listing-turn lie whole (requestsTo t (j - 1)) l l′ older r (requestAt t (j - 1)) lent e d (subst (λ (k : ℕ). Listing (st .rows) whole (requestsTo t k) l older) before p)
+
+-- all requests are listed, and the rows looked at
+pub holders-end : {st : State} {t : List ℕ} → Lies st t → (n m : ℕ) → n ≡ length (st .rows) → m ≡ length (st .requests) → (j : ℕ) → j ≤ 0 → (l : List ℕ) (older held : Bool)
+    → Listing (st .rows) (requestsTo t m) (requestsTo t j) l older → held ≡ heldTo t l n → older && held ≡ olderFetched st && systemHolds st
+unfolding requestsTo
+holders-end {st} {t} lie n m e d j h l older held p q =
+    let none : j ≡ 0 = omega arith in
+    let whole : requestsTo t m ≡ st .requests = ap (requestsTo t) d ∙ requests-read lie in
+    let (a, b) = listing-end (st .rows) (requestsTo t m) l older (subst (λ (k : ℕ). Listing (st .rows) (requestsTo t m) (requestsTo t k) l older) none p) in
+    let first : older ≡ olderFetched st = a ∙ ap (fetchedAfter (λ x. false)) whole ∙ sym (older-after st) in
+    let second : held ≡ systemHolds st = q ∙ ap (heldTo t l) e ∙ sym (held-rows lie l (λ x. ap (λ (vs : List Request). listingOf vs x) (sym whole) ∙ b x)) in
+    λ i. first i && second i

@@ -35,7 +35,7 @@ is-listed-requires-4 : tie.Need-is-listed-requires-4
 is-listed-requires-4 c κs = c .before .before .before .pre 3
 
 returns : tie.Need-returns
-returns c =     let s = c .before .before .before .before in
+returns c = let s = c .before .before .before .before in
     rw (c .before .before .before .is-listed .ensures, c .before .before .is-listed2 .ensures, c .before .is-listed3 .ensures, c .is-listed4 .ensures)
     (any-four (λ x. some (codeAt (now (s .args .listing)) x)) (s .args .t2) (s .good .1 .0 .1 .0 .1))
 

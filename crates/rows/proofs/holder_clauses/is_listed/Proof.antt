@@ -22,7 +22,7 @@ element-copy-out-code c = search needs
 
 returns-2 : tie.Need-returns-2
 unfolding some codeAt
-returns-2 c =     let a = c .before .before .args in
+returns-2 c = let a = c .before .before .args in
     let e : a .s ≡ suc (a .s - 1) = omega (arith, c .before .if1 .left) in sym (ap (λ (s : ℕ). some (codeAt (now (a .listing)) s)) e)
 
 pub is-listed-spec : {M : Type 1} → statement M

@@ -75,7 +75,7 @@ slot-among-requires-4 : tie.Need-slot-among-requires-4
 slot-among-requires-4 c κs = search needs
 
 returns : tie.Need-returns
-returns c =     let a = c .before .before .before .before .before .before .before .before .before .args in
+returns c = let a = c .before .before .before .before .before .before .before .before .before .args in
     let first = c .before .before .before .before .before .before .slot-among .ensures in
     let second = c .before .before .before .before .slot-among2 .ensures in
     let third = c .before .before .slot-among3 .ensures in

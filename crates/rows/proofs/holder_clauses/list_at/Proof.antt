@@ -25,13 +25,13 @@ element-write-listing c = search needs
 
 returns-2 : tie.Need-returns-2
 unfolding listAt
-returns-2 c =     let a = c .before .before .before .args in
+returns-2 c = let a = c .before .before .before .args in
     let e : a .s ≡ suc (a .s - 1) = omega (arith, c .before .before .if1 .left) in
     sym (ap (λ (s : ℕ). listAt (a .code) s (now (a .listing))) e ∙ list-free (a .code) (a .s - 1) (now (a .listing)) (c .if2 .taken))
 
 returns-3 : tie.Need-returns-3
 unfolding listAt
-returns-3 c =     let a = c .before .before .before .args in
+returns-3 c = let a = c .before .before .before .args in
     let e : a .s ≡ suc (a .s - 1) = omega (arith, c .before .before .if1 .left) in
     sym (ap (λ (s : ℕ). listAt (a .code) s (now (a .listing))) e ∙ list-kept (a .code) (a .s - 1) (now (a .listing)) (c .if2 .left))
 

@@ -38,7 +38,7 @@ mark-listing-requires c κs = λ k. omega (arith, c .before .before .before .bef
 
 returns : tie.Need-returns
 unfolding isFetched
-returns c =     let s = c .before .before .before .before .before .before .before .before in
+returns c = let s = c .before .before .before .before .before .before .before .before in
     let t = now (s .args .t) in
     let l = now (s .args .listing) in
     let slots = c .before .before .before .before .before .before .item-slots in

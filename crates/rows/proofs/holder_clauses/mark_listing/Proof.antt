@@ -36,7 +36,7 @@ list-at-requires-4 : tie.Need-list-at-requires-4
 list-at-requires-4 c κs = c .before .before .before .before .before .before .before .pre 3
 
 returns : tie.Need-returns
-returns c =     let s = c .before .before .before .before .before .before .before .before in
+returns c = let s = c .before .before .before .before .before .before .before .before in
     let g : ℕ → List ℕ → List ℕ = λ k l. listAt (s .args .code) (getD (s .args .t2) k 0) l in
     c .list-at4 .ensures
     ∙ ap (g 3) (c .before .before .list-at3 .ensures ∙ ap (g 2) (c .before .before .before .before .list-at2 .ensures ∙ ap (g 1) (c .before .before .before .before .before .before .list-at .ensures)))

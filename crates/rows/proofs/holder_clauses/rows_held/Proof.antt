@@ -46,7 +46,7 @@ unfolding heldTo
 loop-again c = let b = c .before .before .before .before in (search needs, rw (add-one (b .loop .i)) (λ k. c .system-holds .ensures k && b .loop .inv .1 k))
 
 returns : tie.Need-returns Inv-loop μ-loop
-returns c =     let b = c .before in
+returns c = let b = c .before in
     let end : b .loop .i ≡ b .before .before .args .n = omega (arith, b .loop .inv .0, c .loop-test .left) in
     b .loop .inv .1 ∙ ap (heldTo (now (b .before .before .args .t)) (now (b .before .before .args .listing))) end
 

@@ -24,7 +24,7 @@ element-write-marks c = search needs
 
 returns-2 : tie.Need-returns-2
 unfolding isFree withMark
-returns-2 c =     let s = c .before .before .args in
+returns-2 c = let s = c .before .before .args in
     let e : s .s ≡ suc (s .s - 1) = omega (arith, c .before .if1 .left) in (sym (ap (isFree (now (s .marks))) e), sym (ap (withMark (now (s .marks))) e))
 
 pub claim-spec : {M : Type 1} → statement M

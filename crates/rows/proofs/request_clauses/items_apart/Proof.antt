@@ -72,7 +72,7 @@ item-apart-requires-3 : tie.Need-item-apart-requires-3
 item-apart-requires-3 c κs = search needs
 
 returns : tie.Need-returns
-returns c =     let s = c .before .before .before .before .before .before .before .before in
+returns c = let s = c .before .before .before .before .before .before .before .before in
     let t = now (s .args .t) in
     let j = s .args .j in
     rw (c .before .before .item-apart .ensures, c .before .item-apart2 .ensures, c .item-apart3 .ensures)

@@ -37,7 +37,7 @@ loop-less : tie.Need-loop-less Inv-loop μ-loop
 loop-less c = search needs
 
 loop-again : tie.Need-loop-again Inv-loop μ-loop
-loop-again c =     let b = c .before .before .before .before in
+loop-again c = let b = c .before .before .before .before in
     let s = b .before .before in
     let p = c .before .before .standing-port in (
       search needs,

@@ -23,7 +23,7 @@ listed-requires : tie.Need-listed-requires
 listed-requires c κs = search needs
 
 returns : tie.Need-returns
-returns c =     let a = c .before .before .before .before .args in
+returns c = let a = c .before .before .before .before .args in
     c .listed .ensures ∙ ap (isListed (recordsIn (now (a .p)))) (asker-word (now (a .t)) (a .j))
 
 pub requester-listed-spec : {M : Type 1} → statement M

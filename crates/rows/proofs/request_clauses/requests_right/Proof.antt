@@ -34,7 +34,7 @@ loop-less : tie.Need-loop-less Inv-loop μ-loop
 loop-less c = search needs
 
 loop-again : tie.Need-loop-again Inv-loop μ-loop
-loop-again c =     let b = c .before .before in
+loop-again c = let b = c .before .before in
     let a = b .before .before .before .args in
     (search needs, (λ st lie ps e. all-next (requestRight st) (now (a .t)) (b .loop .j) (c .request-right .ensures st lie ps e) (b .loop .inv .1 st lie ps e)))
 

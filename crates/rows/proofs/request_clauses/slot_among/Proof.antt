@@ -24,17 +24,17 @@ enum-told : tie.Need-enum-told
 enum-told c = search needs
 
 returns-2 : tie.Need-returns-2
-returns-2 c =     let f = c .before .before .row-among in
+returns-2 c = let f = c .before .before .row-among in
     let x = c .before .before .before .before .before .args .x in
     (search needs, (λ st lie e. sym (found-nothing (rowSlot (st .rows) x) (f .ensures .1 st lie e) (c .enum-told .given .1))))
 
 add-result : tie.Need-add-result
-add-result c =     let f = c .before .before .before .row-among in
+add-result c = let f = c .before .before .before .row-among in
     let s = c .before .before .before .before .before .before in
     omega (arith, at-below (s .args .n) (f .result) (c .before .i .given .0 .0) (f .ensures .0) (c .before .i .given .1), s .pre .1)
 
 returns-3 : tie.Need-returns-3
-returns-3 c =     let f = c .before .before .before .row-among in
+returns-3 c = let f = c .before .before .before .row-among in
     let s = c .before .before .before .before .before .before in
     let i = c .before .i .given .0 .0 in (
       omega (arith, at-below (s .args .n) (f .result) i (f .ensures .0) (c .before .i .given .1)),

@@ -42,30 +42,34 @@ newer-than-port-requires : tie.Need-newer-than-port-requires
 newer-than-port-requires c κs = search needs
 
 returns : tie.Need-returns
-returns c =     let b = c .before .before .before in
+returns c = let b = c .before .before .before in
     let a = b .before .before .before .before .args in
     let t = now (a .t) in
     let v = requestAt t (a .j) in
     let port : ℕ = getD t (10368 + a .j) 0 in
-    let q : ℕ = getD t (10240 + a .j) 0 in
-    (b .slot-among .ensures .0, (λ st lie e.
+    let q : ℕ = getD t (10240 + a .j) 0 in (
+      b .slot-among .ensures .0,
+      (λ st lie e.
           let slot = b .slot-among .ensures .1 st lie e in
           let kind = c .before .before .word-at .ensures ∙ ap (wordAt t 1024) slot ∙ kind-word lie port in
           let same = ap (λ (x : Bool). eqb (c .before .before .word-at .result) 3 && x) (c .before .newer-than-port .ensures) ∙ stands lie v port q (c .before .before .word-at .result) (port-word t (a .j)) (number-word t (a .j)) kind in
-          standing-yes (st .rows) v (b .slot-among .result) (sym same ∙ c .if1 .taken) (slot ∙ ap (rowSlot (st .rows)) (port-word t (a .j)))))
+          standing-yes (st .rows) v (b .slot-among .result) (sym same ∙ c .if1 .taken) (slot ∙ ap (rowSlot (st .rows)) (port-word t (a .j)))),
+    )
 
 returns-2 : tie.Need-returns-2
-returns-2 c =     let b = c .before .before .before in
+returns-2 c = let b = c .before .before .before in
     let a = b .before .before .before .before .args in
     let t = now (a .t) in
     let v = requestAt t (a .j) in
     let port : ℕ = getD t (10368 + a .j) 0 in
-    let q : ℕ = getD t (10240 + a .j) 0 in
-    (search needs, (λ st lie e.
+    let q : ℕ = getD t (10240 + a .j) 0 in (
+      search needs,
+      (λ st lie e.
           let slot = b .slot-among .ensures .1 st lie e in
           let kind = c .before .before .word-at .ensures ∙ ap (wordAt t 1024) slot ∙ kind-word lie port in
           let same = ap (λ (x : Bool). eqb (c .before .before .word-at .result) 3 && x) (c .before .newer-than-port .ensures) ∙ stands lie v port q (c .before .before .word-at .result) (port-word t (a .j)) (number-word t (a .j)) kind in
-          standing-no (st .rows) v (sym same ∙ c .if1 .left)))
+          standing-no (st .rows) v (sym same ∙ c .if1 .left)),
+    )
 
 pub standing-port-spec : {M : Type 1} → statement M
 standing-port-spec =

@@ -27,7 +27,7 @@ shared-slice-read-result c = search needs
 
 returns-2 : tie.Need-returns-2
 unfolding wordAt
-returns-2 c =     let a = c .before .before .args in
+returns-2 c = let a = c .before .before .args in
     let e : a .s ≡ suc (a .s - 1) = omega (arith, c .before .if1 .left) in sym (ap (wordAt (now (a .t)) (a .c)) e)
 
 pub word-at-spec : {M : Type 1} → statement M
