@@ -41,7 +41,9 @@ pub mod ProcessRecords
 pub mod RequestClauses
 -- the loops over requests, and their clauses joined
 pub mod RequestClausesLoops
--- the listing of rows by requests
+-- the listing of rows by requests: codes at slots
 pub mod HolderClauses
 -- older requests, told from the newest
 pub mod HolderClausesOlder
+-- the loop that lists, and the rows once all requests are listed
+pub mod HolderClausesLoops

@@ -1,12 +1,12 @@
 -- What the functions that test soundness say of one slot, of marks and of the listing: slots are given plus 1, 0 for none.
 use Prim.Native.Nat.{ℕ, zero, suc, _+_}
-use mathlib.Core.Bool.{Bool, true, false, not, _&&_, _||_}
+use mathlib.Core.Bool.{Bool, true, false, not, _&&_}
 use mathlib.Core.List.{List, [], _∷_, map}
-use lib.Dec.{leb, ltb, eqb}
+use lib.Dec.{leb, eqb}
 use lib.ListN.{getD, set}
 use Rattle.rows.specs.declared.Row.{Row}
 use Rattle.rows.specs.declared.Request.{Request}
-use Rattle.rows.specs.Lists.{if_then_else_, all, member, distinct, some, nonzero}
+use Rattle.rows.specs.Lists.{if_then_else_, all, member, distinct, nonzero}
 use Rattle.rows.specs.Codes.{isSystem}
 use Rattle.rows.specs.Tables.{State, rowOf, isListed, numbers, lists}
 use Rattle.rows.specs.Sound.{portStands, mayBeListed, isFetched, same}

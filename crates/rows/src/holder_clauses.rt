@@ -1,11 +1,12 @@
 // Sound tables, who holds what is lent: the listing of rows by requests, from the newest request to the oldest.
+use crate::codes::THE_SYSTEM;
 use crate::layout::PLACE;
 use crate::layout::Q_FETCHED;
 use crate::layout::Q_ITEMS;
 use crate::layout::REQUESTS;
 use crate::request_clauses::slot_among;
 ghost use mathlib.Core.Path.{_≡_};
-ghost use mathlib.Core.Bool.{Bool, true, not, _&&_, _||_};
+ghost use mathlib.Core.Bool.{true, not, _&&_, _||_};
 ghost use mathlib.Core.List.{map};
 ghost use Prim.Native.Nat.{ℕ, _<_, _≤_};
 ghost use lib.Dec.{eqb};
@@ -17,8 +18,6 @@ ghost use Rattle.rows.specs.Sound.{itemsLent, isFetched, olderFetched, s
 ghost use Rattle.rows.specs.Layout.{requestAt};
 ghost use Rattle.rows.specs.Lies.{Lies, rowSlot};
 ghost use Rattle.rows.specs.Clauses.{listingCode, codeAt, listAt, listAll, heldTo};
-
-const WITH_SYSTEM: u32 = 200;
 
 // The slots of the items of the request in slot j.
 fn item_slots(t: &[u32], n: usize, j: usize) -> [usize; 4]
@@ -108,7 +107,7 @@ fn listed_once(t: &[u32], n: usize, listing: &mut [u8; 1024], j: usize) -> bool
 fn system_holds(place: u32, code: u8) -> bool
     ensures { λ r. ⌜ r ≡ same (isSystem place) (eqb code 2) ⌝ }
 {
-    let there = place == WITH_SYSTEM;
+    let there = place == THE_SYSTEM;
     let waits = code == 2;
     (there & waits) | (!there & !waits)
 }

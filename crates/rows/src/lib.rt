@@ -44,6 +44,7 @@ pub enum Found {
 }
 
 // ---- functions
+pub mod codes;
 pub mod find;
 pub mod holder_clauses;
 pub mod layout;

@@ -1,6 +1,8 @@
 // Sound tables, the requests: a function for each clause on one request slot, and the loops over the requests.
 // Slots of rows are given plus 1, 0 for none.
 use crate::Found;
+use crate::codes::A_CLIENT_END;
+use crate::codes::A_SERVER_END;
 use crate::find::row_among;
 use crate::layout::KIND;
 use crate::layout::Q_ASKER;
@@ -14,7 +16,7 @@ use crate::records::listed;
 ghost use mathlib.Core.Path.{_≡_};
 ghost use mathlib.Core.Bool.{not, _&&_, _||_};
 ghost use mathlib.Core.List.{[], _∷_};
-ghost use Prim.Native.Nat.{ℕ, suc, _<_, _≤_};
+ghost use Prim.Native.Nat.{suc, _<_, _≤_};
 ghost use lib.Dec.{leb, ltb};
 ghost use lib.ListN.{length};
 ghost use Rattle.rows.specs.declared.Request.{Request};
@@ -24,10 +26,6 @@ ghost use Rattle.rows.specs.Sound.{numbersApart, fetchedInRange, portsSt
 ghost use Rattle.rows.specs.Layout.{requestAt, recordsIn};
 ghost use Rattle.rows.specs.Lies.{Lies, rowSlot};
 ghost use Rattle.rows.specs.Clauses.{wordAt, requestRight, standingPort, portsRight, isFree, withMark};
-
-const CLIENT_END: u32 = 3;
-
-const SERVER_END: u32 = 4;
 
 // The slot of the row numbered x, of n rows.
 // Ruled out: the slot of another row; a slot past the rows in use.
@@ -111,7 +109,7 @@ fn may_be_listed(t: &[u32], n: usize, q: u32, e: u32) -> bool
     let s = slot_among(t, n, e);
     let kind = word_at(t, KIND, s);
     let bears = word_at(t, REQUEST, s);
-    let end = (kind == CLIENT_END) | (kind == SERVER_END);
+    let end = (kind == A_CLIENT_END) | (kind == A_SERVER_END);
     !(0 < e) | ((end & (e < q)) | ((0 < bears) & (bears == q)))
 }
 
@@ -157,7 +155,7 @@ fn standing_port(t: &[u32], n: usize, j: usize) -> usize
     let s = slot_among(t, n, port);
     let kind = word_at(t, KIND, s);
     let newer = newer_than_port(port, q);
-    if (kind == CLIENT_END) & newer {
+    if (kind == A_CLIENT_END) & newer {
         return s;
     }
     0

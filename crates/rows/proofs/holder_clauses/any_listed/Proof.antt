@@ -1,12 +1,9 @@
 -- `holder_clauses::any_listed` meets its contract: the four slots, one by one.
-use Rattle.rows.proofs.HolderClauses.{any-four}
+use borrow.Author.Needs.{needs}
+use denote.Ref.{now}
 use Rattle.rows.specs.Clauses.{codeAt}
 use Rattle.rows.specs.Lists.{some}
-use denote.Ref.{now}
-use mathlib.Core.Path.{_≡_, refl, ap, sym, _∙_}
-use borrow.Author.Needs.{needs}
-use Prim.Native.Nat.{ℕ, _≤_, _<_, _-_, _+_}
-use native.Mathlib.Omega.{arith}
+use Rattle.rows.proofs.HolderClauses.{any-four}
 use Rattle.rows.proofs.holder_clauses.any_listed.Statement.{statement}
 use Rattle.rows.proofs.holder_clauses.any_listed.Tie as tie
 

@@ -1,9 +1,6 @@
 -- `holder_clauses::code_of` meets its contract.
-use Rattle.rows.specs.Clauses.{listingCode}
 use mathlib.Core.Path.{ap, sym}
-use borrow.Author.Needs.{needs}
-use Prim.Native.Nat.{ℕ, _≤_, _<_, _-_, _+_}
-use native.Mathlib.Omega.{arith}
+use Rattle.rows.specs.Clauses.{listingCode}
 use Rattle.rows.proofs.holder_clauses.code_of.Statement.{statement}
 use Rattle.rows.proofs.holder_clauses.code_of.Tie as tie
 

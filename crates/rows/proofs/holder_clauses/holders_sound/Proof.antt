@@ -1,16 +1,16 @@
 -- `holder_clauses::holders_sound` meets its contract: what is listed decides, or else the requests to come.
-use Rattle.rows.proofs.HolderClauses.{Listing, listing-start, listing-next, items-lent, holders-end}
+use borrow.Author.Needs.{needs}
+use Prim.Native.Nat.{_≤_, _-_}
+use native.Mathlib.Omega.{arith}
+use mathlib.Core.Bool.{true}
+use mathlib.Core.Path.{_≡_}
+use denote.Ref.{now}
+use lib.ListN.{length}
 use Rattle.rows.specs.Lies.{Lies}
 use Rattle.rows.specs.Layout.{requestsTo}
 use Rattle.rows.specs.Sound.{itemsLent}
 use Rattle.rows.specs.Tables.{State}
-use lib.ListN.{length}
-use denote.Ref.{now}
-use mathlib.Core.Bool.{true}
-use mathlib.Core.Path.{_≡_}
-use borrow.Author.Needs.{needs}
-use Prim.Native.Nat.{ℕ, _≤_, _<_, _-_, _+_}
-use native.Mathlib.Omega.{arith}
+use Rattle.rows.proofs.HolderClausesLoops.{Listing, listing-start, listing-next, items-lent, holders-end}
 use Rattle.rows.proofs.holder_clauses.holders_sound.Statement.{statement}
 use Rattle.rows.proofs.holder_clauses.holders_sound.Tie as tie
 

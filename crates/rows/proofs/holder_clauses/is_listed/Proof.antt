@@ -1,12 +1,11 @@
 -- `holder_clauses::is_listed` meets its contract.
+use borrow.Author.Needs.{needs}
+use Prim.Native.Nat.{ℕ, suc, _-_}
+use native.Mathlib.Omega.{arith}
+use mathlib.Core.Path.{_≡_, ap, sym}
+use denote.Ref.{now}
 use Rattle.rows.specs.Clauses.{codeAt}
 use Rattle.rows.specs.Lists.{some}
-use Prim.Native.Nat.{ℕ, suc, _-_}
-use denote.Ref.{now}
-use mathlib.Core.Path.{_≡_, refl, ap, sym, _∙_}
-use borrow.Author.Needs.{needs}
-use Prim.Native.Nat.{ℕ, _≤_, _<_, _-_, _+_}
-use native.Mathlib.Omega.{arith}
 use Rattle.rows.proofs.holder_clauses.is_listed.Statement.{statement}
 use Rattle.rows.proofs.holder_clauses.is_listed.Tie as tie
 

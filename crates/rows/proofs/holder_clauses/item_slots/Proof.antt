@@ -1,13 +1,11 @@
 -- `holder_clauses::item_slots` meets its contract.
-use Rattle.rows.proofs.HolderClauses.{within-four}
-use Rattle.rows.proofs.RequestClauses.{items-words}
-use Rattle.rows.specs.Lies.{rowSlot}
-use mathlib.Core.List.{[], _∷_, map}
-use denote.Ref.{now}
-use mathlib.Core.Path.{_≡_, refl, ap, sym, _∙_}
 use borrow.Author.Needs.{needs}
-use Prim.Native.Nat.{ℕ, _≤_, _<_, _-_, _+_}
-use native.Mathlib.Omega.{arith}
+use mathlib.Core.List.{[], _∷_, map}
+use mathlib.Core.Path.{ap, _∙_}
+use denote.Ref.{now}
+use Rattle.rows.specs.Lies.{rowSlot}
+use Rattle.rows.proofs.RequestClauses.{items-words}
+use Rattle.rows.proofs.HolderClauses.{within-four}
 use Rattle.rows.proofs.holder_clauses.item_slots.Statement.{statement}
 use Rattle.rows.proofs.holder_clauses.item_slots.Tie as tie
 

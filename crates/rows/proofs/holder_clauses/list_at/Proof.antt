@@ -1,12 +1,11 @@
 -- `holder_clauses::list_at` meets its contract.
-use Rattle.rows.proofs.HolderClauses.{list-free, list-kept}
-use Rattle.rows.specs.Clauses.{listAt}
-use Prim.Native.Nat.{ℕ, suc, _-_}
-use denote.Ref.{now}
-use mathlib.Core.Path.{_≡_, refl, ap, sym, _∙_}
 use borrow.Author.Needs.{needs}
-use Prim.Native.Nat.{ℕ, _≤_, _<_, _-_, _+_}
+use Prim.Native.Nat.{ℕ, suc, _-_}
 use native.Mathlib.Omega.{arith}
+use mathlib.Core.Path.{_≡_, ap, sym, _∙_}
+use denote.Ref.{now}
+use Rattle.rows.specs.Clauses.{listAt}
+use Rattle.rows.proofs.HolderClauses.{list-free, list-kept}
 use Rattle.rows.proofs.holder_clauses.list_at.Statement.{statement}
 use Rattle.rows.proofs.holder_clauses.list_at.Tie as tie
 

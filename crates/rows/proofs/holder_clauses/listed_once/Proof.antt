@@ -1,17 +1,17 @@
 -- `holder_clauses::listed_once` meets its contract.
-use Rattle.rows.proofs.RequestClauses.{fetched-word}
+use borrow.Author.Needs.{needs}
+use Prim.Native.Nat.{ℕ}
+use native.Mathlib.Omega.{arith}
+use mathlib.Core.List.{List}
+use mathlib.Core.Bool.{not, _||_}
+use mathlib.Core.Path.{ap, _∙_}
+use denote.Ref.{now}
+use lib.Dec.{eqb}
 use Rattle.rows.specs.Clauses.{codeAt, listingCode, listAll}
 use Rattle.rows.specs.Layout.{requestAt}
 use Rattle.rows.specs.Sound.{isFetched}
 use Rattle.rows.specs.Lists.{any, some}
-use lib.Dec.{eqb}
-use mathlib.Core.List.{List}
-use mathlib.Core.Bool.{not, _||_}
-use denote.Ref.{now}
-use mathlib.Core.Path.{_≡_, refl, ap, sym, _∙_}
-use borrow.Author.Needs.{needs}
-use Prim.Native.Nat.{ℕ, _≤_, _<_, _-_, _+_}
-use native.Mathlib.Omega.{arith}
+use Rattle.rows.proofs.RequestClauses.{fetched-word}
 use Rattle.rows.proofs.holder_clauses.listed_once.Statement.{statement}
 use Rattle.rows.proofs.holder_clauses.listed_once.Tie as tie
 

@@ -1,13 +1,12 @@
 -- `holder_clauses::mark_listing` meets its contract: the four slots, one by one.
-use Rattle.rows.proofs.HolderClauses.{list-four}
-use Rattle.rows.specs.Clauses.{listAt}
-use lib.ListN.{getD}
-use mathlib.Core.List.{List}
-use denote.Ref.{now}
-use mathlib.Core.Path.{_≡_, refl, ap, sym, _∙_}
 use borrow.Author.Needs.{needs}
-use Prim.Native.Nat.{ℕ, _≤_, _<_, _-_, _+_}
-use native.Mathlib.Omega.{arith}
+use Prim.Native.Nat.{ℕ}
+use mathlib.Core.List.{List}
+use mathlib.Core.Path.{ap, _∙_}
+use denote.Ref.{now}
+use lib.ListN.{getD}
+use Rattle.rows.specs.Clauses.{listAt}
+use Rattle.rows.proofs.HolderClauses.{list-four}
 use Rattle.rows.proofs.holder_clauses.mark_listing.Statement.{statement}
 use Rattle.rows.proofs.holder_clauses.mark_listing.Tie as tie
 

@@ -1,12 +1,12 @@
 -- `holder_clauses::rows_held` meets its contract: the rows of the first slots are held as listed, or not.
-use Rattle.rows.specs.Clauses.{heldTo}
-use native.Mathlib.Numerals.{add-one}
-use mathlib.Core.Bool.{_&&_}
-use denote.Ref.{now}
-use mathlib.Core.Path.{_≡_, refl, ap, sym, _∙_}
 use borrow.Author.Needs.{needs}
-use Prim.Native.Nat.{ℕ, _≤_, _<_, _-_, _+_}
+use Prim.Native.Nat.{_≤_, _-_}
+use native.Mathlib.Numerals.{add-one}
 use native.Mathlib.Omega.{arith}
+use mathlib.Core.Bool.{_&&_}
+use mathlib.Core.Path.{_≡_, refl, ap, _∙_}
+use denote.Ref.{now}
+use Rattle.rows.specs.Clauses.{heldTo}
 use Rattle.rows.proofs.holder_clauses.rows_held.Statement.{statement}
 use Rattle.rows.proofs.holder_clauses.rows_held.Tie as tie
 

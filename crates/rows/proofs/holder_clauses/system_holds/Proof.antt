@@ -1,10 +1,7 @@
 -- `holder_clauses::system_holds` meets its contract.
+use mathlib.Core.Path.{refl}
 use Rattle.rows.specs.Sound.{same}
 use Rattle.rows.specs.Codes.{withSystem, isSystem}
-use mathlib.Core.Path.{refl}
-use borrow.Author.Needs.{needs}
-use Prim.Native.Nat.{ℕ, _≤_, _<_, _-_, _+_}
-use native.Mathlib.Omega.{arith}
 use Rattle.rows.proofs.holder_clauses.system_holds.Statement.{statement}
 use Rattle.rows.proofs.holder_clauses.system_holds.Tie as tie
 

@@ -1,11 +1,10 @@
 -- `request_clauses::fetched_in_range` meets its contract.
-use Rattle.rows.proofs.RequestClauses.{fetched-word}
-use lib.Dec.{leb}
-use denote.Ref.{now}
-use mathlib.Core.Path.{_≡_, refl, ap, sym, _∙_}
 use borrow.Author.Needs.{needs}
-use Prim.Native.Nat.{ℕ, _≤_, _<_, _-_, _+_}
-use native.Mathlib.Omega.{arith}
+use Prim.Native.Nat.{ℕ}
+use mathlib.Core.Path.{ap}
+use denote.Ref.{now}
+use lib.Dec.{leb}
+use Rattle.rows.proofs.RequestClauses.{fetched-word}
 use Rattle.rows.proofs.request_clauses.fetched_in_range.Statement.{statement}
 use Rattle.rows.proofs.request_clauses.fetched_in_range.Tie as tie
 

@@ -1,13 +1,9 @@
 -- `request_clauses::item_apart` meets its contract.
-use Rattle.rows.proofs.RequestClauses.{member-three}
-use Rattle.rows.specs.Lists.{some}
-use lib.Dec.{ltb}
 use mathlib.Core.Bool.{Bool, not, _||_}
-use denote.Ref.{now}
-use mathlib.Core.Path.{_≡_, refl, ap, sym, _∙_}
-use borrow.Author.Needs.{needs}
-use Prim.Native.Nat.{ℕ, _≤_, _<_, _-_, _+_}
-use native.Mathlib.Omega.{arith}
+use mathlib.Core.Path.{ap}
+use lib.Dec.{ltb}
+use Rattle.rows.specs.Lists.{some}
+use Rattle.rows.proofs.RequestClauses.{member-three}
 use Rattle.rows.proofs.request_clauses.item_apart.Statement.{statement}
 use Rattle.rows.proofs.request_clauses.item_apart.Tie as tie
 

@@ -1,13 +1,12 @@
 -- `request_clauses::items_apart` meets its contract: each item against those after it.
-use Rattle.rows.proofs.RequestClauses.{items-apart, items-words}
-use Rattle.rows.specs.Lists.{distinct, nonzero}
-use lib.ListN.{getD}
-use mathlib.Core.List.{List}
-use denote.Ref.{now}
-use mathlib.Core.Path.{_≡_, refl, ap, sym, _∙_}
 use borrow.Author.Needs.{needs}
-use Prim.Native.Nat.{ℕ, _≤_, _<_, _-_, _+_}
-use native.Mathlib.Omega.{arith}
+use Prim.Native.Nat.{ℕ, _+_}
+use mathlib.Core.List.{List}
+use mathlib.Core.Path.{ap, _∙_}
+use denote.Ref.{now}
+use lib.ListN.{getD}
+use Rattle.rows.specs.Lists.{distinct, nonzero}
+use Rattle.rows.proofs.RequestClauses.{items-apart, items-words}
 use Rattle.rows.proofs.request_clauses.items_apart.Statement.{statement}
 use Rattle.rows.proofs.request_clauses.items_apart.Tie as tie
 

@@ -1,17 +1,16 @@
 -- `request_clauses::items_lent` meets its contract: the four items, one by one.
-use Rattle.rows.proofs.RequestClauses.{number-word, items-words, items-all}
+use borrow.Author.Needs.{needs}
+use Prim.Native.Nat.{ℕ, _+_}
+use mathlib.Core.Bool.{Bool}
+use mathlib.Core.List.{List}
+use mathlib.Core.Path.{ap, sym, _∙_}
+use denote.Ref.{now}
+use lib.ListN.{getD}
 use Rattle.rows.specs.Layout.{requestAt}
 use Rattle.rows.specs.Sound.{mayBeListed}
 use Rattle.rows.specs.Tables.{rowOf}
 use Rattle.rows.specs.Lists.{all, nonzero}
-use lib.ListN.{getD}
-use mathlib.Core.Bool.{Bool}
-use mathlib.Core.List.{List}
-use denote.Ref.{now}
-use mathlib.Core.Path.{_≡_, refl, ap, sym, _∙_}
-use borrow.Author.Needs.{needs}
-use Prim.Native.Nat.{ℕ, _≤_, _<_, _-_, _+_}
-use native.Mathlib.Omega.{arith}
+use Rattle.rows.proofs.RequestClauses.{number-word, items-words, items-all}
 use Rattle.rows.proofs.request_clauses.items_lent.Statement.{statement}
 use Rattle.rows.proofs.request_clauses.items_lent.Tie as tie
 

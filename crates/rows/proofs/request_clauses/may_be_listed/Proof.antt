@@ -1,11 +1,9 @@
 -- `request_clauses::may_be_listed` meets its contract.
-use Rattle.rows.proofs.RequestClauses.{may-be-listed, kind-word, bears-word}
-use Rattle.rows.specs.Clauses.{wordAt}
-use denote.Ref.{now}
-use mathlib.Core.Path.{_≡_, refl, ap, sym, _∙_}
 use borrow.Author.Needs.{needs}
-use Prim.Native.Nat.{ℕ, _≤_, _<_, _-_, _+_}
-use native.Mathlib.Omega.{arith}
+use mathlib.Core.Path.{ap, _∙_}
+use denote.Ref.{now}
+use Rattle.rows.specs.Clauses.{wordAt}
+use Rattle.rows.proofs.RequestClauses.{may-be-listed, kind-word, bears-word}
 use Rattle.rows.proofs.request_clauses.may_be_listed.Statement.{statement}
 use Rattle.rows.proofs.request_clauses.may_be_listed.Tie as tie
 

@@ -1,11 +1,9 @@
 -- `request_clauses::newer_than_port` meets its contract.
-use lib.Dec.{ltb}
-use native.Mathlib.Numerals.{add-one}
-use denote.Ref.{now}
-use mathlib.Core.Path.{_≡_, refl, ap, sym, _∙_}
 use borrow.Author.Needs.{needs}
-use Prim.Native.Nat.{ℕ, _≤_, _<_, _-_, _+_}
-use native.Mathlib.Omega.{arith}
+use Prim.Native.Nat.{ℕ}
+use native.Mathlib.Numerals.{add-one}
+use mathlib.Core.Path.{ap}
+use lib.Dec.{ltb}
 use Rattle.rows.proofs.request_clauses.newer_than_port.Statement.{statement}
 use Rattle.rows.proofs.request_clauses.newer_than_port.Tie as tie
 

@@ -1,15 +1,14 @@
 -- `request_clauses::number_apart` meets its contract.
-use Rattle.rows.proofs.RequestClauses.{apart-slot, number-word}
-use Rattle.rows.specs.Tables.{numbers}
-use Rattle.rows.specs.Lists.{member}
+use borrow.Author.Needs.{needs}
+use Prim.Native.Nat.{ℕ, _+_}
+use mathlib.Core.Bool.{not}
+use mathlib.Core.Path.{ap, _∙_}
+use denote.Ref.{now}
 use lib.ListN.{getD}
 use lib.Dec.{eqb}
-use mathlib.Core.Bool.{not}
-use denote.Ref.{now}
-use mathlib.Core.Path.{_≡_, refl, ap, sym, _∙_}
-use borrow.Author.Needs.{needs}
-use Prim.Native.Nat.{ℕ, _≤_, _<_, _-_, _+_}
-use native.Mathlib.Omega.{arith}
+use Rattle.rows.specs.Tables.{numbers}
+use Rattle.rows.specs.Lists.{member}
+use Rattle.rows.proofs.RequestClauses.{apart-slot, number-word}
 use Rattle.rows.proofs.request_clauses.number_apart.Statement.{statement}
 use Rattle.rows.proofs.request_clauses.number_apart.Tie as tie
 

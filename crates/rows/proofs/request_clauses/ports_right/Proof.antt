@@ -1,16 +1,16 @@
 -- `request_clauses::ports_right` meets its contract: the marks are the slots of the ports so far.
-use Rattle.rows.proofs.RequestClausesLoops.{Ports, ports-start, ports-next}
-use Rattle.rows.proofs.RequestClauses.{requests-read}
+use borrow.Author.Needs.{needs}
+use Prim.Native.Nat.{ℕ, _≤_, _-_}
+use native.Mathlib.Omega.{arith}
+use mathlib.Core.Path.{_≡_, ap, _∙_}
+use denote.Ref.{now}
+use lib.ListN.{length}
 use Rattle.rows.specs.Clauses.{portsRight}
 use Rattle.rows.specs.Lies.{Lies}
 use Rattle.rows.specs.Layout.{requestsTo}
 use Rattle.rows.specs.Tables.{State}
-use lib.ListN.{length}
-use denote.Ref.{now}
-use mathlib.Core.Path.{_≡_, refl, ap, sym, _∙_}
-use borrow.Author.Needs.{needs}
-use Prim.Native.Nat.{ℕ, _≤_, _<_, _-_, _+_}
-use native.Mathlib.Omega.{arith}
+use Rattle.rows.proofs.RequestClausesLoops.{Ports, ports-start, ports-next}
+use Rattle.rows.proofs.RequestClauses.{requests-read}
 use Rattle.rows.proofs.request_clauses.ports_right.Statement.{statement}
 use Rattle.rows.proofs.request_clauses.ports_right.Tie as tie
 

@@ -1,15 +1,13 @@
 -- `request_clauses::request_right` meets its contract.
+use borrow.Author.Needs.{needs}
+use mathlib.Core.List.{List}
+use mathlib.Core.Bool.{_&&_}
+use mathlib.Core.Path.{ap, sym, _∙_}
+use denote.Ref.{now}
 use Rattle.rows.specs.Clauses.{requestRight}
 use Rattle.rows.specs.Layout.{requestAt}
 use Rattle.rows.specs.Tables.{isListed}
 use Rattle.rows.specs.declared.Process.{Process}
-use mathlib.Core.List.{List}
-use mathlib.Core.Bool.{_&&_}
-use denote.Ref.{now}
-use mathlib.Core.Path.{_≡_, refl, ap, sym, _∙_}
-use borrow.Author.Needs.{needs}
-use Prim.Native.Nat.{ℕ, _≤_, _<_, _-_, _+_}
-use native.Mathlib.Omega.{arith}
 use Rattle.rows.proofs.request_clauses.request_right.Statement.{statement}
 use Rattle.rows.proofs.request_clauses.request_right.Tie as tie
 

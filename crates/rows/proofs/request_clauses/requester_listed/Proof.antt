@@ -1,12 +1,10 @@
 -- `request_clauses::requester_listed` meets its contract.
-use Rattle.rows.proofs.RequestClauses.{asker-word}
+use borrow.Author.Needs.{needs}
+use mathlib.Core.Path.{ap, _∙_}
+use denote.Ref.{now}
 use Rattle.rows.specs.Layout.{recordsIn}
 use Rattle.rows.specs.Tables.{isListed}
-use denote.Ref.{now}
-use mathlib.Core.Path.{_≡_, refl, ap, sym, _∙_}
-use borrow.Author.Needs.{needs}
-use Prim.Native.Nat.{ℕ, _≤_, _<_, _-_, _+_}
-use native.Mathlib.Omega.{arith}
+use Rattle.rows.proofs.RequestClauses.{asker-word}
 use Rattle.rows.proofs.request_clauses.requester_listed.Statement.{statement}
 use Rattle.rows.proofs.request_clauses.requester_listed.Tie as tie
 

@@ -1,16 +1,16 @@
 -- `request_clauses::requests_right` meets its contract: the requests of the first slots pass, or not.
-use Rattle.rows.proofs.RequestClauses.{requests-read, all-next}
+use borrow.Author.Needs.{needs}
+use Prim.Native.Nat.{ℕ, _≤_, _-_}
+use native.Mathlib.Omega.{arith}
+use mathlib.Core.Path.{_≡_, refl, ap, _∙_}
+use denote.Ref.{now}
+use lib.ListN.{length}
 use Rattle.rows.specs.Clauses.{requestRight}
 use Rattle.rows.specs.Lies.{Lies}
 use Rattle.rows.specs.Layout.{requestsTo, recordsIn}
 use Rattle.rows.specs.Tables.{State}
 use Rattle.rows.specs.Lists.{all}
-use lib.ListN.{length}
-use denote.Ref.{now}
-use mathlib.Core.Path.{_≡_, refl, ap, sym, _∙_}
-use borrow.Author.Needs.{needs}
-use Prim.Native.Nat.{ℕ, _≤_, _<_, _-_, _+_}
-use native.Mathlib.Omega.{arith}
+use Rattle.rows.proofs.RequestClauses.{requests-read, all-next}
 use Rattle.rows.proofs.request_clauses.requests_right.Statement.{statement}
 use Rattle.rows.proofs.request_clauses.requests_right.Tie as tie
 

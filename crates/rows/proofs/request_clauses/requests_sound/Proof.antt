@@ -1,8 +1,6 @@
 -- `request_clauses::requests_sound` meets its contract: the clauses, in another order.
-use Rattle.rows.proofs.RequestClausesLoops.{requests-joined}
 use borrow.Author.Needs.{needs}
-use Prim.Native.Nat.{ℕ, _≤_, _<_, _-_, _+_}
-use native.Mathlib.Omega.{arith}
+use Rattle.rows.proofs.RequestClausesLoops.{requests-joined}
 use Rattle.rows.proofs.request_clauses.requests_sound.Statement.{statement}
 use Rattle.rows.proofs.request_clauses.requests_sound.Tie as tie
 

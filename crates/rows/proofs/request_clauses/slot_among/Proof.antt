@@ -1,13 +1,11 @@
 -- `request_clauses::slot_among` meets its contract: 0 is no row's number, and what the search finds is the slot.
+use borrow.Author.Needs.{needs}
+use native.Mathlib.Numerals.{add-one}
+use native.Mathlib.Omega.{arith}
+use mathlib.Core.Path.{ap, sym, _∙_}
+use Rattle.rows.specs.Lies.{rowSlot}
 use Rattle.rows.proofs.RequestClauses.{no-slot}
 use Rattle.rows.proofs.Slots.{found-at, found-nothing, at-below}
-use Rattle.rows.specs.Lies.{rowSlot}
-use native.Mathlib.Numerals.{add-one}
-use denote.Ref.{now}
-use mathlib.Core.Path.{_≡_, refl, ap, sym, _∙_}
-use borrow.Author.Needs.{needs}
-use Prim.Native.Nat.{ℕ, _≤_, _<_, _-_, _+_}
-use native.Mathlib.Omega.{arith}
 use Rattle.rows.proofs.request_clauses.slot_among.Statement.{statement}
 use Rattle.rows.proofs.request_clauses.slot_among.Tie as tie
 

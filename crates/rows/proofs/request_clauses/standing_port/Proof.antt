@@ -1,16 +1,15 @@
 -- `request_clauses::standing_port` meets its contract.
-use Rattle.rows.proofs.RequestClauses.{port-word, number-word, kind-word, stands, standing-yes, standing-no}
+use borrow.Author.Needs.{needs}
+use Prim.Native.Nat.{ℕ, _+_}
+use mathlib.Core.Bool.{Bool, _&&_}
+use mathlib.Core.Path.{ap, sym, _∙_}
+use denote.Ref.{now}
+use lib.ListN.{getD}
+use lib.Dec.{eqb}
 use Rattle.rows.specs.Clauses.{wordAt}
 use Rattle.rows.specs.Lies.{rowSlot}
 use Rattle.rows.specs.Layout.{requestAt}
-use lib.ListN.{getD}
-use lib.Dec.{eqb}
-use mathlib.Core.Bool.{Bool, _&&_}
-use denote.Ref.{now}
-use mathlib.Core.Path.{_≡_, refl, ap, sym, _∙_}
-use borrow.Author.Needs.{needs}
-use Prim.Native.Nat.{ℕ, _≤_, _<_, _-_, _+_}
-use native.Mathlib.Omega.{arith}
+use Rattle.rows.proofs.RequestClauses.{port-word, number-word, kind-word, stands, standing-yes, standing-no}
 use Rattle.rows.proofs.request_clauses.standing_port.Statement.{statement}
 use Rattle.rows.proofs.request_clauses.standing_port.Tie as tie
 
