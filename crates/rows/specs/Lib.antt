@@ -11,4 +11,5 @@ pub mod Laid
 pub mod AtSlot
 pub mod Seen
 pub mod Changes
+pub mod Clauses
 pub mod Computes
