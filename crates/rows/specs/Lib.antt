@@ -7,9 +7,5 @@ pub mod Sound
 pub mod Layout
 pub mod Lies
 pub mod Searches
-pub mod Laid
-pub mod AtSlot
-pub mod Seen
 pub mod Changes
-pub mod Clauses
 pub mod Computes
