@@ -1,10 +1,10 @@
 // Sound tables, who holds what is lent: the listing of rows by requests, from the newest request to the oldest.
+use crate::request_clauses::slot_among;
 use rows::codes::THE_SYSTEM;
 use rows::layout::PLACE;
 use rows::layout::Q_FETCHED;
 use rows::layout::Q_ITEMS;
 use rows::layout::REQUESTS;
-use crate::request_clauses::slot_among;
 ghost use mathlib.Core.Path.{_≡_};
 ghost use mathlib.Core.Bool.{true, not, _&&_, _||_};
 ghost use mathlib.Core.List.{map};

@@ -1,16 +1,16 @@
 // Sound tables as words, of any length and any content: first that the words are laid, then the clauses, group by group.
-use rows::find::requests_in;
-use rows::find::rows_in;
 use crate::holder_clauses::holders_sound;
 use crate::laid::requests_laid;
 use crate::laid::rows_laid;
-use rows::layout::LENGTH;
-use rows::layout::RECORDS;
 use crate::record_clauses::next_sound;
 use crate::record_clauses::processes_placed;
 use crate::record_clauses::records_sound;
 use crate::request_clauses::requests_sound;
 use crate::rows_sound::rows_sound;
+use rows::find::requests_in;
+use rows::find::rows_in;
+use rows::layout::LENGTH;
+use rows::layout::RECORDS;
 ghost use mathlib.Core.Path.{_≡_};
 ghost use mathlib.Core.Bool.{true, _&&_};
 ghost use Prim.Native.Nat.{ℕ, _+_, _<_, _≤_};
