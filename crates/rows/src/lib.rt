@@ -45,6 +45,7 @@ pub enum Found {
 
 // ---- functions
 pub mod capcaps;
+pub mod codes;
 pub mod find;
 pub mod layout;
 pub mod read;

@@ -1,0 +1,163 @@
+-- Soundness as the code tests it: first that the words are laid, then the clauses group by group.
+use Prim.Native.Nat.{ℕ}
+use mathlib.Core.Bool.{Bool, true, false, not, _&&_}
+use mathlib.Core.List.{List}
+use mathlib.Core.Path.{_≡_, refl, ap, sym, subst, _∙_}
+use borrow.Author.Tests.{eq-eqb, ne-eqb}
+use lib.ListN.{length}
+use Rattle.rows.specs.Lists.{sameList}
+use Rattle.rows.specs.Limits.{processes, rowSlots, requestSlots}
+use Rattle.rows.specs.Tables.{State}
+use Rattle.rows.specs.Sound.{rowsRise, requestsRise, numbersApart, belowNext, nextInRange, rowsFit, requestsFit, recordsFit, objectsInRange, rightsInRange, placesInRange, fetchedInRange, sourcesRight, depthsRight, copiesMatch, recordsInRange, endsPaired, portsStand, requestersListed, itemsFew, itemsApart, itemsLent, onePerPort, copiesListed, olderFetched, systemHolds, processesPlaced, sound}
+use Rattle.rows.specs.Layout.{rowColumns, requestColumns, requestsAt, nextAt, tablesLength, processesLength, wordsOf, recordsIn, rowsIn, requestsIn, stateOf, rightLengths, soundWords}
+use Rattle.rows.specs.Lies.{laidWell, Lies}
+use Rattle.soundness.specs.Laid.{Tells, RowsLaid, RequestsLaid}
+use Rattle.rows.proofs.Bools.{false-of, clash, bool-eq, and-l, and-r, and-i, not-t, not-f}
+use Rattle.rows.proofs.Sound.{Sound, sound-open, sound-close}
+use Rattle.rows.proofs.LayoutColumns.{list-same}
+use Rattle.rows.proofs.LayoutWords.{words-state}
+use Rattle.rows.proofs.ProcessRecords.{length-in}
+use Rattle.rows.proofs.LiesWords.{sound-lies}
+use Rattle.soundness.proofs.LaidWords.{laid-lies, lies-rows-laid, lies-requests-laid}
+
+-- ---- the groups
+abbrev pub ofNext : State → Bool
+ofNext st = nextInRange st && belowNext st
+
+abbrev pub ofRows : State → Bool
+ofRows st =
+    objectsInRange st
+    && (rightsInRange st && (placesInRange st && (sourcesRight st && (depthsRight st && (copiesMatch st && (endsPaired st && copiesListed st))))))
+
+abbrev pub ofRequests : State → Bool
+ofRequests st =
+    numbersApart st && (fetchedInRange st && (portsStand st && (requestersListed st && (itemsApart st && (itemsLent st && onePerPort st)))))
+
+abbrev pub ofHolders : State → Bool
+ofHolders st = olderFetched st && systemHolds st
+
+-- each follows from soundness
+module _ (st : State) (e : sound st ≡ true) where
+  sound-next : ofNext st ≡ true
+  sound-next = let s = sound-open st e in rw (s .next-in-range, s .below-next) refl
+
+  sound-rows : ofRows st ≡ true
+  sound-rows =
+      let s = sound-open st e in
+      rw (s .objects-in-range, s .rights-in-range, s .places-in-range, s .sources-right, s .depths-right, s .copies-match, s .ends-paired, s .copies-listed) refl
+
+  sound-requests : ofRequests st ≡ true
+  sound-requests =
+      let s = sound-open st e in
+      rw (s .numbers-apart, s .fetched-in-range, s .ports-stand, s .requesters-listed, s .items-apart, s .items-lent, s .one-per-port) refl
+
+  sound-holders : ofHolders st ≡ true
+  sound-holders = let s = sound-open st e in rw (s .older-fetched, s .system-holds) refl
+
+-- and soundness from all of them
+module _ (st : State) {t : List ℕ} (lie : Lies st t) (fit : recordsFit st ≡ true) (next : ofNext st ≡ true) (records : recordsInRange st ≡ true)
+    (rows : ofRows st ≡ true) (requests : ofRequests st ≡ true) (holders : ofHolders st ≡ true) where
+  all-clauses : processesPlaced st ≡ true → Sound st
+  unfolding laidWell
+  all-clauses placed =
+      let well : rowsRise st && (requestsRise st && (rowsFit st && (requestsFit st && (itemsFew st && _)))) ≡ true = lie .well in
+      let later : depthsRight st && (copiesMatch st && (endsPaired st && copiesListed st)) ≡ true = search and-r in
+      record {
+        rows-rise = search and-l;
+        requests-rise = search (and-l, and-r);
+        numbers-apart = search and-l;
+        below-next = search (and-l, and-r);
+        next-in-range = search and-l;
+        rows-fit = search (and-l, and-r);
+        requests-fit = search (and-l, and-r);
+        records-fit = fit;
+        objects-in-range = search and-l;
+        rights-in-range = search (and-l, and-r);
+        places-in-range = search (and-l, and-r);
+        fetched-in-range = search (and-l, and-r);
+        sources-right = search (and-l, and-r);
+        depths-right = search and-l;
+        copies-match = search (and-l, and-r);
+        records-in-range = records;
+        ends-paired = search (and-l, and-r);
+        ports-stand = search (and-l, and-r);
+        requesters-listed = search (and-l, and-r);
+        items-few = search (and-l, and-r);
+        items-apart = search (and-l, and-r);
+        items-lent = search (and-l, and-r);
+        one-per-port = search (and-l, and-r);
+        copies-listed = search (and-l, and-r);
+        older-fetched = search and-l;
+        system-holds = search (and-l, and-r);
+        processes-placed = placed;
+      }
+
+-- the tests of the groups, each of which may take those before it as given
+module _ (st : State) {t : List ℕ} (lie : Lies st t) (fit : recordsFit st ≡ true) where
+  pub groups-sound : (rows requests holders placed : Bool) → rows ≡ ofRows st → requests ≡ ofRequests st → (itemsLent st ≡ true → holders ≡ ofHolders st) → placed ≡ processesPlaced st
+      → ofNext st ≡ true → recordsInRange st ≡ true → rows && (requests && (holders && placed)) ≡ sound st
+  groups-sound rows requests holders placed er eq eh ep next records = bool-eq (rows && (requests && (holders && placed))) (sound st) forth back
+    where
+      forth : rows && (requests && (holders && placed)) ≡ true → sound st ≡ true
+      forth e =
+          let q : ofRequests st ≡ true = sym eq ∙ and-l requests (holders && placed) (and-r rows (requests && (holders && placed)) e) in
+          let rest : holders && placed ≡ true = and-r requests (holders && placed) (and-r rows (requests && (holders && placed)) e) in
+          sound-close st
+          (all-clauses st lie fit next records (sym er ∙ and-l rows (requests && (holders && placed)) e) q (sym (eh (search (and-l, and-r))) ∙ and-l holders placed rest)
+          (sym ep ∙ and-r holders placed rest))
+
+      back : sound st ≡ true → rows && (requests && (holders && placed)) ≡ true
+      back e =
+          rw (er ∙ sound-rows st e, eq ∙ sound-requests st e, eh (sound-open st e .items-lent) ∙ sound-holders st e, ep ∙ sound-open st e .processes-placed) refl
+
+-- the plain clauses come first
+pub clauses-sound : (st : State) (next records tables : Bool) → next ≡ ofNext st → records ≡ recordsInRange st → (ofNext st ≡ true → recordsInRange st ≡ true → tables ≡ sound st) → next && (records && tables) ≡ sound st
+clauses-sound st next records tables en er et =
+    bool-eq (next && (records && tables)) (sound st)
+    (λ e.
+    let rest : records && tables ≡ true = and-r next (records && tables) e in
+    sym (et (sym en ∙ and-l next (records && tables) e) (sym er ∙ and-l records tables rest)) ∙ and-r records tables rest)
+    (λ e. rw (en ∙ sound-next st e, er ∙ sound-open st e .records-in-range, et (sound-next st e) (sound-open st e .records-in-range) ∙ e) refl)
+
+pub records-fit : (st : State) (p : List ℕ) → length p ≡ 192 → st .processes ≡ recordsIn p → recordsFit st ≡ true
+unfolding recordsFit processes
+records-fit st p long e = eq-eqb (length (st .processes)) 64 (ap length e ∙ length-in 64 p long)
+
+-- ---- the words
+module _ (t p : List ℕ) where
+  pub tables-short : (length t ≡ 11265 → ⊥) → false ≡ soundWords t p
+  unfolding soundWords rightLengths tablesLength nextAt requestsAt rowColumns requestColumns rowSlots requestSlots
+  tables-short h = rw (ne-eqb (length t) 11265 h) refl
+
+  pub records-short : length t ≡ 11265 → (length p ≡ 192 → ⊥) → false ≡ soundWords t p
+  unfolding soundWords rightLengths tablesLength nextAt requestsAt rowColumns requestColumns rowSlots requestSlots processesLength processes
+  records-short e h = rw (eq-eqb (length t) 11265 e, ne-eqb (length p) 192 h) refl
+
+  -- sound words hold the state read from them
+  pub sound-words-lie : soundWords t p ≡ true → Lies (stateOf t p) t
+  unfolding soundWords
+  sound-words-lie e =
+      let s : sound (stateOf t p) ≡ true = search and-r in
+      subst (λ (l : List ℕ). Lies (stateOf t p) l) (words-state t p e .0) (sound-lies (stateOf t p) (sound-open (stateOf t p) s))
+
+  -- so tests that tell whether rows and requests are laid refuse where one fails
+  module _ (n m : ℕ) (a b : Bool) (en : n ≡ rowsIn t) (em : m ≡ requestsIn t) (rows : Tells a (RowsLaid t n)) (requests : Tells b (RequestsLaid t m)) where
+    pub not-laid : not (a && b) ≡ true → false ≡ soundWords t p
+    not-laid h =
+        sym (false-of (soundWords t p)
+        (λ s.
+        let lie = sound-words-lie s in
+        clash (and-i a b (rows .only (rw en (lies-rows-laid t p lie))) (requests .only (rw em (lies-requests-laid t p lie)))) (not-t (a && b) h)))
+
+    -- and where none fails, the state read from the words lies in them
+    pub tells-lies : length t ≡ 11265 → not (a && b) ≡ false → Lies (stateOf t p) t
+    tells-lies long h =
+        let both : a && b ≡ true = not-f (a && b) h in
+        laid-lies t p (subst (λ (k : ℕ). RowsLaid t k) en (rows .yes′ (and-l a b both))) (subst (λ (k : ℕ). RequestsLaid t k) em (requests .yes′ (and-r a b both))) long
+
+  -- where the state read from the words lies in them, its clauses decide
+  pub laid-sound : length t ≡ 11265 → length p ≡ 192 → Lies (stateOf t p) t → sound (stateOf t p) ≡ soundWords t p
+  unfolding soundWords rightLengths tablesLength nextAt requestsAt rowColumns requestColumns rowSlots requestSlots processesLength processes
+  laid-sound et ep lie =
+      let same : sameList (wordsOf (stateOf t p)) t ≡ true = subst (λ (l : List ℕ). sameList (wordsOf (stateOf t p)) l ≡ true) (sym (lie .words)) (list-same (wordsOf (stateOf t p))) in
+      rw (eq-eqb (length t) 11265 et, eq-eqb (length p) 192 ep, same) refl

@@ -1,0 +1,12 @@
+-- `row_clauses::is_end` meets its contract: the definition, test by test.
+use mathlib.Core.Path.{refl}
+use Rattle.rows.specs.Codes.{clientEnd, serverEnd, isClient, isServer, isEnd}
+use Rattle.soundness.proofs.row_clauses.is_end.Statement.{statement}
+use Rattle.soundness.proofs.row_clauses.is_end.Tie as tie
+
+returns : tie.Need-returns
+unfolding isEnd isClient isServer clientEnd serverEnd
+returns c = refl
+
+pub is-end-spec : {M : Type 1} → statement M
+is-end-spec = tie.close (tie.spec returns)

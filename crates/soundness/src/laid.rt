@@ -1,0 +1,122 @@
+// The first stage of `sound`: numbers rise, sources stand before their rows, unused slots are 0. Every word is looked at, with no way out early, so
+// that the loops run over many words at once.
+use rows::layout::DEPTH;
+use rows::layout::KIND;
+use rows::layout::NUMBER;
+use rows::layout::Q_NUMBER;
+use rows::layout::Q_PORT;
+use rows::layout::REQUESTS;
+use rows::layout::ROWS;
+use rows::layout::SOURCE;
+use rows::layout::VIA;
+ghost use mathlib.Core.Path.{_≡_};
+ghost use Prim.Native.Nat.{ℕ, _+_, _*_, _<_, _≤_};
+ghost use lib.ListN.{length, getD};
+ghost use Rattle.soundness.specs.Laid.{Tells, Rising, Older, ZeroFrom, RowsLaid, RequestsLaid};
+
+// Whether the words of a column from place k on are 0.
+// Ruled out: yes where the last word is not 0; no for what stands before place k.
+pub fn zero_from(column: &[u32], k: usize) -> bool
+    ensures { λ r. ⌜ Tells r (ZeroFrom k (now (column .entry))) ⌝ }
+{
+    let mut zero = true;
+    let mut i = k;
+    while i < column.len() {
+        zero = zero & (column[i] == 0);
+        i += 1;
+    }
+    zero
+}
+
+// Whether the first k words of a column rise, from above 0.
+// Ruled out: yes where two words are the same; yes where the first is 0.
+pub fn rising(column: &[u32], k: usize) -> bool
+    requires { ⌜ k ≤ length (now column) ⌝ }
+    ensures { λ r. ⌜ Tells r (Rising k (now (column .entry))) ⌝ }
+{
+    let mut rise = true;
+    let mut last: u32 = 0;
+    let mut i = 0;
+    while i < k {
+        let n = column[i];
+        rise = rise & (last < n);
+        last = n;
+        i += 1;
+    }
+    rise
+}
+
+// Whether each of the first k words of a column of sources is 0 or the slot of an older row, plus 1.
+// Ruled out: yes where a row is its own source; no where it comes from the row just before it.
+pub fn older(column: &[u32], k: usize) -> bool
+    requires { ⌜ (k ≤ length (now column)) × (k ≤ 1024) ⌝ }
+    ensures { λ r. ⌜ Tells r (Older k (now (column .entry))) ⌝ }
+{
+    let mut old = true;
+    let mut i = 0;
+    while i < k {
+        let s = column[i];
+        i += 1;
+        let next = i as u32;
+        old = old & (s < next);
+    }
+    old
+}
+
+// Whether the slots from n on are 0 in each column of rows.
+// Ruled out: yes where a word of one column alone is left; no for the row at slot n - 1.
+pub fn rows_unused(t: &[u32], n: usize) -> bool
+    requires { ⌜ length (now t) ≡ 11265 ⌝ }
+    ensures { λ r. ⌜ Tells r ((c i : ℕ) → c < 10 → n ≤ i → i < 1024 → getD (now (t .entry)) (c * 1024 + i) 0 ≡ 0) ⌝ }
+{
+    let mut unused = true;
+    let mut c = 0;
+    while c < 10 {
+        let start = c * ROWS;
+        let end = start + ROWS;
+        unused = unused & zero_from(&t[start..end], n);
+        c += 1;
+    }
+    unused
+}
+
+// Whether the slots from m on are 0 in each column of requests.
+// Ruled out: yes where an item is left in a slot; no for the next number, which follows the columns.
+pub fn requests_unused(t: &[u32], m: usize) -> bool
+    requires { ⌜ length (now t) ≡ 11265 ⌝ }
+    ensures { λ r. ⌜ Tells r ((c i : ℕ) → c < 8 → m ≤ i → i < 128 → getD (now (t .entry)) (10240 + (c * 128 + i)) 0 ≡ 0) ⌝ }
+{
+    let mut unused = true;
+    let mut c = 0;
+    while c < 8 {
+        let start = Q_NUMBER + c * REQUESTS;
+        let end = start + REQUESTS;
+        unused = unused & zero_from(&t[start..end], m);
+        c += 1;
+    }
+    unused
+}
+
+// Whether n rows stand in the first slots, as a state lays them out.
+// Ruled out: yes where a source is not older than its row; yes where two numbers fall.
+pub fn rows_laid(t: &[u32], n: usize) -> bool
+    requires { ⌜ (length (now t) ≡ 11265) × (n ≤ 1024) ⌝ }
+    ensures { λ r. ⌜ Tells r (RowsLaid (now (t .entry)) n) ⌝ }
+{
+    let numbers = rising(&t[NUMBER..KIND], n);
+    let sources = older(&t[SOURCE..VIA], n);
+    let vias = older(&t[VIA..DEPTH], n);
+    let unused = rows_unused(t, n);
+    numbers & (sources & (vias & unused))
+}
+
+// Whether m requests stand in the first slots, as a state lays them out.
+// Ruled out: yes where two requests have one number; yes where a slot after them is in use.
+pub fn requests_laid(t: &[u32], m: usize) -> bool
+    requires { ⌜ (length (now t) ≡ 11265) × (m ≤ 128) ⌝ }
+    ensures { λ r. ⌜ Tells r (RequestsLaid (now (t .entry)) m) ⌝ }
+{
+    let numbers = rising(&t[Q_NUMBER..Q_PORT], m);
+    let unused = requests_unused(t, m);
+    numbers & unused
+}

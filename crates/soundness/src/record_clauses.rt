@@ -1,0 +1,121 @@
+// The clauses of soundness of the process records and of the next number, each named as in specs/Sound.antt.
+use rows::Found;
+use rows::Process;
+use rows::codes::A_SUBDIRECTORY;
+use rows::codes::BEFORE_CLISTS;
+use rows::codes::LAST_NODE;
+use rows::find::row_among;
+use rows::layout::KIND;
+use rows::layout::NEXT;
+use rows::layout::NUMBER;
+use rows::layout::PROCESSES;
+use rows::layout::Q_NUMBER;
+use rows::layout::Q_PORT;
+use rows::read::row_at;
+ghost use mathlib.Core.Bool.{_&&_};
+ghost use mathlib.Core.Path.{_≡_};
+ghost use Prim.Native.Nat.{_<_, _≤_};
+ghost use lib.ListN.{length, getD};
+ghost use Rattle.rows.specs.Tables.{State, noProcess};
+ghost use Rattle.rows.specs.Sound.{belowNext, nextInRange, recordInRange, recordsInRange, processPlaced, processesPlaced};
+ghost use Rattle.rows.specs.Layout.{recordsIn};
+ghost use Rattle.rows.specs.Lies.{Lies};
+ghost use Rattle.soundness.specs.Laid.{before};
+
+// one more than the greatest number
+const LAST_NEXT: u32 = 1000001;
+
+// ---- the next number
+// The last of the first k words of a column, 0 for none. Ruled out: the word after it; the first word.
+pub fn last_of(column: &[u32], k: usize) -> u32
+    requires { ⌜ k ≤ length (now column) ⌝ }
+    ensures { λ r. ⌜ r ≡ before (now (column .entry)) k ⌝ }
+{
+    if k == 0 {
+        return 0;
+    }
+    column[k - 1]
+}
+
+// Ruled out: a next number of 1,000,002; one that a row or a request has.
+pub fn next_sound(t: &[u32], n: usize, m: usize) -> bool
+    requires { ⌜ (length (now t) ≡ 11265) × (n ≤ 1024) × (m ≤ 128) ⌝ }
+    ensures { λ r. ⌜ ((st : State) → Lies st (now (t .entry)) → n ≡ length (st .rows) → m ≡ length (st .requests) → r ≡ (nextInRange st && belowNext st)) ⌝ }
+{
+    let next = t[NEXT];
+    let row = last_of(&t[NUMBER..KIND], n);
+    let request = last_of(&t[Q_NUMBER..Q_PORT], m);
+    let in_range = (1 <= next) & (next <= LAST_NEXT);
+    in_range & ((row < next) & (request < next))
+}
+
+// ---- the process records
+// The record of process i + 1. Ruled out: the record after it; two fields in each other's place.
+pub fn record_at(p: &[u32], i: usize) -> Process
+    requires { ⌜ (length (now p) ≡ 192) × (i < 64) ⌝ }
+    ensures { λ r. ⌜ r ≡ getD (recordsIn (now (p .entry))) i noProcess ⌝ }
+{
+    let at = 3 * i;
+    Process {
+        prime: p[at],
+        active: p[at + 1],
+        through: p[at + 2],
+    }
+}
+
+// Ruled out: a prime node of 33; a record with a node of 0 that has gone through a row.
+pub fn record_in_range(x: Process) -> bool
+    ensures { λ r. ⌜ r ≡ recordInRange x ⌝ }
+{
+    let unused = (x.prime == 0) & ((x.active == 0) & (x.through == 0));
+    let prime = (1 <= x.prime) & (x.prime <= LAST_NODE);
+    let active = (1 <= x.active) & (x.active <= LAST_NODE);
+    unused | (prime & active)
+}
+
+// Ruled out: yes where the last record is out of range; no for a record that is not used.
+pub fn records_sound(p: &[u32]) -> bool
+    requires { ⌜ length (now p) ≡ 192 ⌝ }
+    ensures { λ r. ⌜ ((st : State) → st .processes ≡ recordsIn (now (p .entry)) → r ≡ recordsInRange st) ⌝ }
+{
+    let mut in_range = true;
+    let mut i = 0;
+    while i < PROCESSES {
+        let x = record_at(p, i);
+        in_range = in_range & record_in_range(x);
+        i += 1;
+    }
+    in_range
+}
+
+// Of the record of process q. Ruled out: a row of another process's c-list; one that is no subdirectory.
+pub fn process_placed(t: &[u32], n: usize, q: u32, x: Process) -> bool
+    requires { ⌜ (length (now t) ≡ 11265) × (n ≤ 1024) × (q ≤ 64) ⌝ }
+    ensures { λ r. ⌜ ((st : State) → Lies st (now (t .entry)) → n ≡ length (st .rows) → r ≡ processPlaced (st .rows) q x) ⌝ }
+{
+    if x.through == 0 {
+        return x.active == x.prime;
+    }
+    let Found::At(i) = row_among(t, n, x.through) else {
+        return false;
+    };
+    let r = row_at(t, i);
+    let home = BEFORE_CLISTS + q;
+    (r.kind == A_SUBDIRECTORY) & ((r.place == home) & (r.object == x.active))
+}
+
+// Ruled out: yes where process 64 is not in its place; the records counted from 0.
+pub fn processes_placed(t: &[u32], p: &[u32], n: usize) -> bool
+    requires { ⌜ (length (now t) ≡ 11265) × (length (now p) ≡ 192) × (n ≤ 1024) ⌝ }
+    ensures { λ r. ⌜ ((st : State) → Lies st (now (t .entry)) → st .processes ≡ recordsIn (now (p .entry)) → n ≡ length (st .rows) → r ≡ processesPlaced st) ⌝ }
+{
+    let mut placed = true;
+    let mut i = 0;
+    while i < PROCESSES {
+        let x = record_at(p, i);
+        let q = i as u32 + 1;
+        placed = placed & process_placed(t, n, q, x);
+        i += 1;
+    }
+    placed
+}

@@ -1,0 +1,68 @@
+// Sound tables as words, of any length and any content: first that the words are laid, then the clauses, group by group.
+use crate::holder_clauses::holders_sound;
+use crate::laid::requests_laid;
+use crate::laid::rows_laid;
+use crate::record_clauses::next_sound;
+use crate::record_clauses::processes_placed;
+use crate::record_clauses::records_sound;
+use crate::request_clauses::requests_sound;
+use crate::rows_sound::rows_sound;
+use rows::find::requests_in;
+use rows::find::rows_in;
+use rows::layout::LENGTH;
+use rows::layout::RECORDS;
+ghost use mathlib.Core.Path.{_≡_};
+ghost use mathlib.Core.Bool.{true, _&&_};
+ghost use Prim.Native.Nat.{ℕ, _+_, _<_, _≤_};
+ghost use lib.ListN.{length, getD};
+ghost use Rattle.rows.specs.Tables.{State};
+ghost use Rattle.rows.specs.Sound.{belowNext, nextInRange, recordsInRange, sound};
+ghost use Rattle.rows.specs.Layout.{recordsIn, soundWords};
+ghost use Rattle.rows.specs.Lies.{Lies};
+
+// The clauses of rows, requests and processes, where the next number and the records are in range.
+fn tables_sound(t: &[u32], p: &[u32], n: usize, m: usize) -> bool
+    requires sizes { ⌜ (length (now t) ≡ 11265) × (length (now p) ≡ 192) × (n ≤ 1024) × (m ≤ 128) ⌝ }
+    requires sources { ⌜ ((i : ℕ) → i < n → getD (now t) (6144 + i) 0 ≤ i) ⌝ }
+    requires vias { ⌜ ((i : ℕ) → i < n → getD (now t) (7168 + i) 0 ≤ i) ⌝ }
+    ensures { λ r. ⌜ ((st : State) → Lies st (now (t .entry)) → st .processes ≡ recordsIn (now (p .entry)) → n ≡ length (st .rows) → m ≡ length (st .requests) → nextInRange st && belowNext st ≡ true → recordsInRange st ≡ true → r ≡ sound st) ⌝ }
+{
+    let rows = rows_sound(t, p, n, m);
+    let requests = requests_sound(t, p, n, m);
+    let holders = holders_sound(t, n, m);
+    let placed = processes_placed(t, p, n);
+    rows & (requests & (holders & placed))
+}
+
+// All clauses, where the words are laid.
+fn clauses_sound(t: &[u32], p: &[u32], n: usize, m: usize) -> bool
+    requires sizes { ⌜ (length (now t) ≡ 11265) × (length (now p) ≡ 192) × (n ≤ 1024) × (m ≤ 128) ⌝ }
+    requires sources { ⌜ ((i : ℕ) → i < n → getD (now t) (6144 + i) 0 ≤ i) ⌝ }
+    requires vias { ⌜ ((i : ℕ) → i < n → getD (now t) (7168 + i) 0 ≤ i) ⌝ }
+    ensures { λ r. ⌜ ((st : State) → Lies st (now (t .entry)) → st .processes ≡ recordsIn (now (p .entry)) → n ≡ length (st .rows) → m ≡ length (st .requests) → r ≡ sound st) ⌝ }
+{
+    let next = next_sound(t, n, m);
+    let records = records_sound(p);
+    let tables = tables_sound(t, p, n, m);
+    next & (records & tables)
+}
+
+// Ruled out: yes for tables with one clause broken, or with a word in an unused slot; no for sound tables.
+pub fn sound(tables: &[u32], processes: &[u32]) -> bool
+    ensures { λ r. ⌜ r ≡ soundWords (now (tables .entry)) (now (processes .entry)) ⌝ }
+{
+    if tables.len() != LENGTH {
+        return false;
+    }
+    if processes.len() != RECORDS {
+        return false;
+    }
+    let n = rows_in(tables);
+    let m = requests_in(tables);
+    let rows = rows_laid(tables, n);
+    let requests = requests_laid(tables, m);
+    if !(rows & requests) {
+        return false;
+    }
+    clauses_sound(tables, processes, n, m)
+}
