@@ -1,23 +1,27 @@
 -- New rows before the old ones keep the tables sound; a refusal leaves them.
 use Prim.Native.Nat.{ℕ, suc, _+_, _<_, _≤_}
-use mathlib.Core.Bool.{Bool, true, false, not, cond, _&&_, _||_}
+use mathlib.Core.Bool.{Bool, true, false, not, _&&_}
 use mathlib.Core.List.{List, [], _∷_, _++_}
 use mathlib.Core.Path.{_≡_, refl, sym, ap, _∙_}
 use lib.Dec.{leb, ltb, eqb}
 use lib.ListN.{length}
-use borrow.Author.Tests.{eqb-true, eq-eqb, ne-eqb, ltb-true, ltb-false, lt-ltb, leb-true, le-leb}
+use borrow.Author.Tests.{eq-eqb, ne-eqb, ltb-true, ltb-false, lt-ltb, leb-true, le-leb}
 use native.Mathlib.Omega.{arith}
 use Rattle.rows.specs.declared.Row.{Row}
 use Rattle.rows.specs.declared.Request.{Request}
 use Rattle.rows.specs.declared.Process.{Process}
-use Rattle.rows.specs.Lists.{filter, all, each, topOf, rises, firstWith, member, between, some, nonzero}
+use Rattle.rows.specs.Lists.{all, each, topOf, rises, firstWith, member, between, some, nonzero}
 use Rattle.rows.specs.Limits.{greatestNumber, rowSlots}
 use Rattle.rows.specs.Codes.{subdirectory, clientEnd, serverEnd, isClient, isServer, isEnd, isSubdirectory, inClist, isSystem}
 use Rattle.rows.specs.Tables.{State, noRow, rowOf, numbers, lists}
 use Rattle.rows.specs.Sound.{rowsRise, requestsRise, numbersApart, belowNext, nextInRange, rowsFit, requestsFit, recordsFit, objectInRange, objectsInRange, rightInRange, rightsInRange, placeInRange, placesInRange, fetchedInRange, sourceRight, sourcesRight, depthRight, depthsRight, copyMatches, copiesMatch, recordsInRange, isPairedWith, otherEnd, endPaired, endsPaired, portStands, portsStand, requestersListed, itemsFew, itemsApart, mayBeListed, itemsLent, onePerPort, copyListed, copiesListed, olderFetched, awaitsFetch, same, systemHolds, processPlaced, placedFrom, processesPlaced}
 use Rattle.rows.proofs.Bools.{false-of, clash, and-l, and-r, and-i, not-t, or-l, or-map, all-mono, all-and, all-at}
-use Rattle.rows.proofs.Keyed.{first-there, rises-range, rises-first, rises-rest, rises-cons}
+use Rattle.rows.proofs.Keyed.{rises-cons}
 use Rattle.rows.proofs.Sound.{Sound}
+use Rattle.rows.proofs.Lists.{all-append, member-nonzero}
+use Rattle.rows.proofs.RowSources.{row-there}
+use Rattle.rows.proofs.Places.{no-row-listed}
+use Rattle.rows.proofs.SoundFacts.{same-eq, rows-top, row-below, requests-below, requests-top, next-some}
 use Rattle.calls.specs.Rules.{Out, refusedIf, rowsFull, numbersSpent, withRows}
 
 -- a refusal leaves the tables: what is left is the case in which the test fails
@@ -26,69 +30,7 @@ unfolding refusedIf
 unless o true k s f = s
 unless o false k s f = f refl
 
--- ---- what stands
-module _ {A : Type 0} where
-  pub all-append : (f : A → Bool) (xs ys : List A) → all f xs ≡ true → all f ys ≡ true → all f (xs ++ ys) ≡ true
-  unfolding all
-  all-append f [] ys p q = q
-  all-append f (x ∷ xs) ys p q = and-i (f x) (all f (xs ++ ys)) (and-l (f x) (all f xs) p) (all-append f xs ys (and-r (f x) (all f xs) p) q)
-
-  -- keys that rise are below what is above the first
-  pub rises-below : (key : A → ℕ) (b : ℕ) (xs : List A) → rises key xs ≡ true → topOf key xs < b → all (λ x. ltb (key x) b) xs ≡ true
-  unfolding all topOf
-  rises-below key b [] e h = refl
-  rises-below key b (x ∷ xs) e h =
-      let lt = rises-first key x xs e in
-      and-i (ltb (key x) b) (all (λ x. ltb (key x) b) xs) (lt-ltb (key x) b h) (rises-below key b xs (rises-rest key x xs e) (omega arith))
-
--- a row that passes a test that noRow fails is there
-pub row-there : (P : Row → Bool) → P noRow ≡ false → (rs : List Row) (n : ℕ) → P (rowOf rs n) ≡ true → member n (numbers rs) ≡ true
-unfolding rowOf numbers
-row-there P z rs n t = first-there (λ r. r .number) noRow P z rs n t
-
-pub rows-top : (st : State) → Sound st → topOf (λ r. r .number) (st .rows) < st .next
-unfolding belowNext
-rows-top st s =
-    ltb-true (topOf (λ r. r .number) (st .rows)) (st .next)
-    (and-l (ltb (topOf (λ r. r .number) (st .rows)) (st .next)) (ltb (topOf (λ v. v .number) (st .requests)) (st .next)) (s .below-next))
-
-pub requests-top : (st : State) → Sound st → topOf (λ v. v .number) (st .requests) < st .next
-unfolding belowNext
-requests-top st s =
-    ltb-true (topOf (λ v. v .number) (st .requests)) (st .next)
-    (and-r (ltb (topOf (λ r. r .number) (st .rows)) (st .next)) (ltb (topOf (λ v. v .number) (st .requests)) (st .next)) (s .below-next))
-
--- the numbers of the rows are above 0 and below the next number
-pub row-below : (st : State) → Sound st → (n : ℕ) → member n (numbers (st .rows)) ≡ true → (0 < n) × (n < st .next)
-unfolding rowsRise numbers
-row-below st s n t =
-    let (lo, hi) = rises-range (λ r. r .number) (st .rows) (s .rows-rise) n t in
-    let h = rows-top st s in (lo, omega arith)
-
-pub requests-below : (st : State) → Sound st → all (λ v. ltb (v .number) (st .next)) (st .requests) ≡ true
-unfolding requestsRise
-requests-below st s = rises-below (λ v. v .number) (st .next) (st .requests) (s .requests-rise) (requests-top st s)
-
-pub next-some : (st : State) → Sound st → 0 < st .next
-next-some st s = let h = rows-top st s in omega arith
-
 -- ---- what a request lists
-pub member-nonzero : (e : ℕ) → some e ≡ true → (ns : List ℕ) → member e ns ≡ true → member e (nonzero ns) ≡ true
-unfolding nonzero filter member
-member-nonzero e p [] t = t
-member-nonzero e p (n ∷ ns) t = pick (member-nonzero e p ns) (some n) refl (eqb e n) refl t
-  where
-    pick : (member e ns ≡ true → member e (filter some ns) ≡ true) → (b : Bool) → some n ≡ b → (c : Bool) → eqb e n ≡ c → c || member e ns ≡ true
-        → member e (cond b (n ∷ filter some ns) (filter some ns)) ≡ true
-    pick ih true q true h t = rw h refl
-    pick ih true q false h t = rw h (ih t)
-    pick ih false q true h t = clash (ap some (sym (eqb-true e n h)) ∙ p) q
-    pick ih false q false h t = ih t
-
-no-row-listed : (v : Request) → mayBeListed v noRow ≡ false
-unfolding mayBeListed noRow isEnd isClient isServer clientEnd serverEnd some
-no-row-listed v = refl
-
 -- what is no row is in no request's list
 pub none-lists : (st : State) → Sound st → (e : ℕ) → member e (numbers (st .rows)) ≡ false → all (λ v. not (lists e v)) (st .requests) ≡ true
 unfolding itemsLent lists
@@ -100,7 +42,7 @@ none-lists st s e f =
         ap not (false-of (some e && member e (v .items)) (λ t.
         clash
         (row-there (mayBeListed v) (no-row-listed v) (st .rows) e
-        (all-at (λ e. mayBeListed v (rowOf (st .rows) e)) (nonzero (v .items)) a e (member-nonzero e (and-l (some e) (member e (v .items)) t) (v .items) (and-r (some e) (member e (v .items)) t))))
+        (all-at (λ e. mayBeListed v (rowOf (st .rows) e)) (nonzero (v .items)) a e (member-nonzero (v .items) e ∙ t)))
         f))
 
 pub not-awaited : (e : ℕ) (vs : List Request) → all (λ v. not (lists e v)) vs ≡ true → awaitsFetch vs e ≡ false
@@ -250,14 +192,10 @@ module _ (st : State) (s : Sound st) (new : List Row) (a : all (λ r. leb (st .n
   new-unlisted e h =
       not-awaited e (st .requests) (none-lists st s e (false-of (member e (numbers (st .rows))) (λ t. let (lo, hi) = row-below st s e t in omega arith)))
 
-  same-false : (x y : Bool) → x ≡ false → y ≡ false → same x y ≡ true
-  unfolding same
-  same-false x y p q = rw (p, q) refl
-
   new-away : all (λ r. not (isSystem (r .place))) new ≡ true → all (λ r. same (isSystem (r .place)) (awaitsFetch (st .requests) (r .number))) new ≡ true
   new-away w =
       all-and {A = Row} (λ r. leb (st .next) (r .number)) (λ r. not (isSystem (r .place))) (λ r. same (isSystem (r .place)) (awaitsFetch (st .requests) (r .number)))
-      (λ r h t. same-false (isSystem (r .place)) (awaitsFetch (st .requests) (r .number)) (not-t (isSystem (r .place)) t) (new-unlisted (r .number) (leb-true (st .next) (r .number) h)))
+      (λ r h t. same-eq (isSystem (r .place)) (awaitsFetch (st .requests) (r .number)) (not-t (isSystem (r .place)) t ∙ sym (new-unlisted (r .number) (leb-true (st .next) (r .number) h))))
       new a w
 
 -- ---- the tables with the new rows

@@ -1,18 +1,19 @@
 -- ask keeps the tables sound.
 use Prim.Native.Nat.{ℕ, suc, _<_, _≤_}
-use mathlib.Core.Bool.{Bool, true, false, not, cond, _&&_}
+use mathlib.Core.Bool.{Bool, true, false, not, _&&_}
 use mathlib.Core.List.{List, [], _∷_, map}
-use mathlib.Core.Path.{_≡_, refl, sym, subst}
+use mathlib.Core.Path.{_≡_, sym, subst}
 use lib.Dec.{leb}
 use lib.ListN.{length}
 use borrow.Author.Tests.{leb-false}
-use Rattle.rows.specs.Lists.{filter, any, all, distinct, some}
+use Rattle.rows.specs.Lists.{any, all, distinct, some}
 use Rattle.rows.specs.Limits.{allRights, requestSlots, mostItems}
 use Rattle.rows.specs.Codes.{isClient}
 use Rattle.rows.specs.Tables.{State, rowOf, isListed}
 use Rattle.rows.specs.Sound.{recordsFit, recordsInRange}
 use Rattle.rows.proofs.Bools.{and-i, not-f, or-fl, or-fr, all-and, all-filter}
 use Rattle.rows.proofs.Sound.{Sound}
+use Rattle.rows.proofs.Lists.{filter-passes, none-all}
 use Rattle.calls.specs.declared.Item.{Item}
 use Rattle.calls.specs.Rules.{notHeld, hasOpen, tooDeep, requestsFull}
 use Rattle.calls.specs.Loans.{moves, copies, copyDepth, Lending, lent, newRequest, withRequest}
@@ -70,29 +71,14 @@ closed-form st p c is =
     }
 
 -- ---- what the refusals leave
-module _ {A : Type 0} where
-  none-all : (f : A → Bool) (xs : List A) → any f xs ≡ false → all (λ x. not (f x)) xs ≡ true
-  unfolding any all
-  none-all f [] e = refl
-  none-all f (x ∷ xs) e = rw (or-fl (f x) (any f xs) e) (none-all f xs (or-fr (f x) (any f xs) e))
-
-  filter-all : (f : A → Bool) (xs : List A) → all f (filter f xs) ≡ true
-  unfolding filter all
-  filter-all f [] = refl
-  filter-all f (x ∷ xs) = pick (filter-all f xs) (f x) refl
-    where
-      pick : all f (filter f xs) ≡ true → (b : Bool) → f x ≡ b → all f (cond b (x ∷ filter f xs) (filter f xs)) ≡ true
-      pick ih true q = and-i (f x) (all f (filter f xs)) q ih
-      pick ih false q = ih
-
-  all-both : (f g : A → Bool) (xs : List A) → all f xs ≡ true → all g xs ≡ true → all (λ x. f x && g x) xs ≡ true
-  all-both f g xs p q = all-and f g (λ x. f x && g x) (λ x. and-i (f x) (g x)) xs p q
+all-both : {A : Type 0} (f g : A → Bool) (xs : List A) → all f xs ≡ true → all g xs ≡ true → all (λ x. f x && g x) xs ≡ true
+all-both f g xs p q = all-and f g (λ x. f x && g x) (λ x. and-i (f x) (g x)) xs p q
 
 all-lendable : (st : State) (p c : ℕ) (is : List Item) → all (λ i. not (notHeld st p (i .row))) is ≡ true → all (λ i. not (lacksRight st i)) is ≡ true
     → any (λ i. tooDeep (copyDepth st c i)) (copies st is) ≡ false → all (λ i. leb (i .rights) allRights) is ≡ true → all (lendable st p c) (copies st is) ≡ true
 unfolding lendable copies
 all-lendable st p c is held right deep within =
-    all-both (λ i. not (moves st i)) _ (copies st is) (filter-all (λ i. not (moves st i)) is)
+    all-both (λ i. not (moves st i)) _ (copies st is) (filter-passes (λ i. not (moves st i)) is)
     (all-both (λ i. not (notHeld st p (i .row))) _ (copies st is) (all-filter (λ i. not (moves st i)) (λ i. not (notHeld st p (i .row))) is held)
     (all-both (λ i. not (lacksRight st i)) _ (copies st is) (all-filter (λ i. not (moves st i)) (λ i. not (lacksRight st i)) is right)
     (all-both (λ i. not (tooDeep (copyDepth st c i))) (λ i. leb (i .rights) allRights) (copies st is) (none-all (λ i. tooDeep (copyDepth st c i)) (copies st is) deep)

@@ -11,32 +11,26 @@ use Rattle.rows.specs.declared.Request.{Request}
 use Rattle.rows.specs.declared.Process.{Process}
 use Rattle.rows.specs.Lists.{firstWith, member}
 use Rattle.rows.specs.Limits.{allRights, greatestDepth}
-use Rattle.rows.specs.Codes.{clientEnd, isOperation, isSubdirectory, isClient, isServer, isEnd, isCopied, inClist, withSystem, isSystem, mayTransfer, within}
-use Rattle.rows.specs.Tables.{State, noRow, rowOf, requestOf, depthOver, numbers, lists}
+use Rattle.rows.specs.Codes.{isOperation, isSubdirectory, isClient, isServer, isEnd, isCopied, withSystem, isSystem, mayTransfer, within}
+use Rattle.rows.specs.Tables.{State, rowOf, requestOf, depthOver, numbers, lists}
 use Rattle.rows.specs.Sound.{objectInRange, rightInRange, placeInRange, isPortEnd, isLentCopy, sourceRight, depthRight, copyMatches, endPaired, copyListed, isFetched, awaitsFetch, same}
 use Rattle.rows.proofs.Bools.{clash, and-l, and-r, and-i, or-r, or-fl, or-fr, not-t, not-f, eqb-self, pos-some}
 use Rattle.rows.proofs.Sound.{Sound}
+use Rattle.rows.proofs.SoundFacts.{row-below, next-some, row-object}
+use Rattle.rows.proofs.Places.{system-no-node, system-in-range}
+use Rattle.rows.proofs.RowSources.{client-there}
 use Rattle.closing.specs.Closing.{placedIn}
 use Rattle.calls.specs.declared.Item.{Item}
 use Rattle.calls.specs.Rules.{notHeld, tooDeep, copyOf}
 use Rattle.calls.specs.Loans.{itemRow, moves, copyDepth, copyLent, newRequest}
 use Rattle.calls.specs.Calls.{lacksRight}
-use Rattle.calls.proofs.AddRow.{row-there, row-below, next-some}
-use Rattle.calls.proofs.Stand.{clist-no-row, row-object}
 use Rattle.calls.proofs.KeptMoved.{moved, row-same, end-right}
-use Rattle.calls.proofs.KeptLoans.{system-no-node, system-in-range}
+use Rattle.calls.proofs.Stand.{held-there}
 
 -- what the refusals and the text leave of an item that is copied
 unfoldable pub lendable : State → ℕ → ℕ → Item → Bool
 lendable st p c i =
     not (moves st i) && (not (notHeld st p (i .row)) && (not (lacksRight st i) && (not (tooDeep (copyDepth st c i)) && leb (i .rights) allRights)))
-
-pub held-there : (st : State) (p e : ℕ) → notHeld st p e ≡ false → member e (numbers (st .rows)) ≡ true
-unfolding notHeld
-held-there st p e h = row-there (λ r. eqb (r .place) (inClist p)) (clist-no-row p) (st .rows) e (not-f (eqb (rowOf (st .rows) e .place) (inClist p)) h)
-
-pub client-there : (st : State) (c : ℕ) → isClient (rowOf (st .rows) c .kind) ≡ true → member c (numbers (st .rows)) ≡ true
-client-there st c h = row-there (λ r. isClient (r .kind)) (unfold noRow isClient clientEnd in refl) (st .rows) c h
 
 -- what is no end is an operation or a subdirectory
 no-end-copied : (ps : List Process) (r : Row) → isEnd (r .kind) ≡ false → objectInRange ps r ≡ true → isCopied (r .kind) ≡ true
@@ -129,7 +123,7 @@ module _ (st : State) (s : Sound st) (p c : ℕ) (client : isClient (rowOf (st .
           right : isLentCopy requests′ rs (copyLent st c (st .next) n i) ≡ true
           right =
               unfold isLentCopy copyLent copyOf itemRow in
-              rw (pos-some (st .next) (next-some st s), system-no-node, no-end-copied (st .processes) (rowOf (st .rows) (i .row)) no-end object-of, kind-of (i .row) there, no-end-copied (st .processes) (rowOf (st .rows) (i .row)) no-end object-of, kind-of c (client-there st c client), client, request-new)
+              rw (pos-some (st .next) (next-some st s), system-no-node, no-end-copied (st .processes) (rowOf (st .rows) (i .row)) no-end object-of, kind-of (i .row) there, no-end-copied (st .processes) (rowOf (st .rows) (i .row)) no-end object-of, kind-of c (client-there (st .rows) c client), client, request-new)
               (unfold newRequest in eqb-self c)
 
       pub copy-depth : depthRight (copyLent st c (st .next) n i) rs ≡ true
@@ -139,7 +133,7 @@ module _ (st : State) (s : Sound st) (p c : ℕ) (client : isClient (rowOf (st .
           depth-of m e = found-same (λ r. r .depth) (λ r. unfold placedIn in refl) m e
 
           equal : depthRight (copyLent st c (st .next) n i) rs ≡ eqb (copyDepth st c i) (copyDepth st c i) && leb (copyDepth st c i) greatestDepth
-          equal = unfold depthRight copyLent copyOf copyDepth depthOver in rw (depth-of (i .row) there, depth-of c (client-there st c client)) refl
+          equal = unfold depthRight copyLent copyOf copyDepth depthOver in rw (depth-of (i .row) there, depth-of c (client-there (st .rows) c client)) refl
 
       pub copy-matches : copyMatches (copyLent st c (st .next) n i) rs ≡ true
       copy-matches =

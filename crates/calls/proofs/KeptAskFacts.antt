@@ -18,17 +18,19 @@ use Rattle.rows.specs.Sound.{requestsRise, copyListed}
 use Rattle.rows.proofs.Bools.{false-of, clash, and-l, and-r, or-cases, not-t, pos-some}
 use Rattle.rows.proofs.Keyed.{first-none, rises-range, keys-map}
 use Rattle.rows.proofs.Sound.{Sound}
+use Rattle.rows.proofs.SoundFacts.{row-below, requests-top, next-some}
+use Rattle.rows.proofs.RowSources.{row-there}
 use Rattle.closing.specs.Closing.{placedIn}
 use Rattle.calls.specs.declared.Item.{Item}
 use Rattle.calls.specs.Rules.{notHeld, hasOpen}
 use Rattle.calls.specs.Loans.{copies, newRequest}
-use Rattle.calls.proofs.AddRow.{row-below, row-there, requests-top, next-some}
 use Rattle.calls.proofs.KeptMoved.{moved, moved-number, row-moved, row-same}
 use Rattle.calls.proofs.KeptLoans.{no-request-lists}
 use Rattle.calls.proofs.KeptAskItems.{named, listed, stacked}
 use Rattle.calls.proofs.KeptAskList.{member-pad, named-at, named-listed, copy-listed, listed-cases}
 use Rattle.calls.proofs.KeptAskStack.{row-stacked, numbers-stacked}
-use Rattle.calls.proofs.KeptAskCopy.{lendable, held-there}
+use Rattle.calls.proofs.KeptAskCopy.{lendable}
+use Rattle.calls.proofs.Stand.{held-there}
 
 -- what the refusals and the text leave of an ask
 pub record Asked (st : State) (p c : ℕ) (is : List Item) : Type 0 where

@@ -12,6 +12,7 @@ use Rattle.rows.specs.Codes.{withSystem}
 use Rattle.rows.specs.Tables.{State}
 use Rattle.closing.specs.Closing.{placedIn}
 use Rattle.rows.proofs.Bools.{eqb-sym}
+use Rattle.rows.proofs.Lists.{map-same}
 use Rattle.calls.specs.declared.Item.{Item}
 use Rattle.calls.specs.Rules.{copyOf}
 use Rattle.calls.specs.Loans.{moves, copies, copyLent, Lending, toSystem, lendEnd, lendCopy, lendItem, lendItems}
@@ -30,10 +31,6 @@ listed st (i ∷ is) n = if moves st i then i .row ∷ listed st is n else n ∷
 unfoldable pub stacked : State → ℕ → ℕ → List Item → ℕ → List Row → List Row
 stacked st c v [] n rs = rs
 stacked st c v (i ∷ ks) n rs = stacked st c v ks (suc n) (copyLent st c v n i ∷ rs)
-
-map-same : {A : Type 0} (g : A → A) → ((x : A) → g x ≡ x) → (xs : List A) → map g xs ≡ xs
-map-same g h [] = refl
-map-same g h (x ∷ xs) = rw (h x, map-same g h xs) refl
 
 map-eq : {A : Type 0} (f g : A → A) → ((x : A) → f x ≡ g x) → (xs : List A) → map f xs ≡ map g xs
 map-eq f g h [] = refl

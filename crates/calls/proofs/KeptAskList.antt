@@ -17,13 +17,6 @@ use Rattle.calls.specs.Loans.{itemRow, moves, copies}
 use Rattle.calls.proofs.KeptAskItems.{named, listed}
 
 -- ---- a list with 0 after it
-pub length-pad : (d n : ℕ) (ns : List ℕ) → length ns ≤ n → length (pad d n ns) ≡ n
-unfolding pad
-length-pad d zero [] h = refl
-length-pad d zero (m ∷ ns) h = absurd (omega arith)
-length-pad d (suc n) [] h = ap suc (length-pad d n [] (omega arith))
-length-pad d (suc n) (m ∷ ns) h = ap suc (length-pad d n ns (omega arith))
-
 pub nonzero-pad : (n : ℕ) (ns : List ℕ) → nonzero (pad 0 n ns) ≡ nonzero ns
 unfolding nonzero filter pad some
 nonzero-pad zero ns = refl

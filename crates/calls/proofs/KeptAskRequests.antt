@@ -2,59 +2,44 @@
 use Prim.Native.Nat.{ℕ, suc, _+_, _<_, _≤_}
 use mathlib.Core.Bool.{Bool, true, false, not, _&&_, _||_}
 use mathlib.Core.List.{List, [], _∷_, map}
-use mathlib.Core.Path.{_≡_, refl, ap, _∙_, subst}
+use mathlib.Core.Path.{_≡_, refl, sym, ap, _∙_}
 use mathlib.Core.Logic.{_⊎_, inl, inr}
 use lib.Dec.{leb, ltb, eqb}
 use lib.ListN.{length}
 use borrow.Author.Tests.{eqb-true, eq-eqb, ltb-true, le-leb, lt-ltb}
 use native.Mathlib.Omega.{arith}
-use Rattle.rows.specs.declared.Row.{Row}
 use Rattle.rows.specs.declared.Request.{Request}
 use Rattle.rows.specs.Lists.{any, all, each, topOf, member, distinct, between, some, nonzero}
 use Rattle.rows.specs.Limits.{greatestNumber, requestSlots, mostItems}
-use Rattle.rows.specs.Codes.{clientEnd, serverEnd, isClient, isServer, isEnd, inClist, isSystem}
+use Rattle.rows.specs.Codes.{clientEnd, isClient, isEnd, inClist, isSystem}
 use Rattle.rows.specs.Tables.{State, noRow, noRequest, rowOf, requestOf, openOn, isListed, numbers, lists}
-use Rattle.rows.specs.Sound.{requestsRise, numbersApart, belowNext, nextInRange, requestsFit, fetchedInRange, isPairedWith, otherEnd, endPaired, endsPaired, portStands, portsStand, requestersListed, itemsFew, itemsApart, mayBeListed, itemsLent, onePerPort, isFetched, olderFetchedBy, olderFetched, awaitsFetch}
+use Rattle.rows.specs.Sound.{requestsRise, numbersApart, belowNext, nextInRange, requestsFit, fetchedInRange, isPairedWith, portStands, portsStand, requestersListed, itemsFew, itemsApart, mayBeListed, itemsLent, onePerPort, isFetched, olderFetchedBy, olderFetched, awaitsFetch}
 use Rattle.rows.proofs.Bools.{false-of, clash, and-l, and-r, and-i, or-l, or-r, not-t, not-f, eqb-self, pos-some, all-mono, all-and, member-here, member-there}
 use Rattle.rows.proofs.Keyed.{all-first, first-key, rises-cons, rises-range}
 use Rattle.rows.proofs.Sound.{Sound}
+use Rattle.rows.proofs.RowSources.{end-there}
+use Rattle.rows.proofs.SoundFacts.{row-below, requests-top, requests-below, next-some, clist-not-system, row-number, client-paired, eq-same}
+use Rattle.rows.proofs.Picked.{all-found}
+use Rattle.rows.proofs.LayoutColumns.{length-pad}
+use Rattle.rows.proofs.Lists.{all-of-member}
+use Rattle.rows.proofs.Places.{no-row-listed}
 use Rattle.closing.specs.Closing.{placedIn}
 use Rattle.calls.specs.declared.Item.{Item}
 use Rattle.calls.specs.Rules.{notHeld, hasOpen}
 use Rattle.calls.specs.Loans.{copies, newRequest}
-use Rattle.calls.proofs.AddRow.{row-there, row-below, requests-top, requests-below, next-some, none-lists}
-use Rattle.calls.proofs.Stand.{clist-not-system}
-use Rattle.calls.proofs.KeptLists.{all-found}
-use Rattle.calls.proofs.KeptLoans.{listers-fetched, held-so, same-left, row-number}
+use Rattle.calls.proofs.AddRow.{none-lists}
+use Rattle.calls.proofs.KeptLoans.{listers-fetched, held-so}
 use Rattle.calls.proofs.KeptAskItems.{named, listed}
-use Rattle.calls.proofs.KeptAskList.{length-pad, nonzero-pad, nonzero-all, named-end, listed-length, listed-some, listed-apart, listed-cases}
+use Rattle.calls.proofs.KeptAskList.{nonzero-pad, nonzero-all, named-end, listed-length, listed-some, listed-apart, listed-cases}
 use Rattle.calls.proofs.KeptAskStack.{bears-stacked}
-use Rattle.calls.proofs.KeptAskCopy.{held-there, client-there}
 use Rattle.calls.proofs.KeptAskFacts.{Asked, lentRows, askedRows, asked, askedState, named-held, named-old, lists-cases, old-number, old-passes}
 use Rattle.calls.proofs.KeptAskRows.{rows-top′}
-
--- what holds of each member holds of all
-all-members : (f : ℕ → Bool) (ns : List ℕ) → ((n : ℕ) → member n ns ≡ true → f n ≡ true) → all f ns ≡ true
-unfolding all
-all-members f [] h = refl
-all-members f (n ∷ ns) h = and-i (f n) (all f ns) (h n (member-here n ns)) (all-members f ns (λ m t. h m (member-there m n ns t)))
+use Rattle.calls.proofs.Stand.{held-there}
 
 any-members : (f : ℕ → Bool) (ns : List ℕ) → ((n : ℕ) → member n ns ≡ true → f n ≡ false) → any f ns ≡ false
 unfolding any
 any-members f [] h = refl
 any-members f (n ∷ ns) h = rw (h n (member-here n ns)) (any-members f ns (λ m t. h m (member-there m n ns t)))
-
-no-row-listed : (v : Request) → mayBeListed v noRow ≡ false
-unfolding mayBeListed noRow isEnd isClient isServer clientEnd serverEnd some
-no-row-listed v = refl
-
--- after a client end comes the server end
-paired-server : (rs : List Row) (r : Row) → isClient (r .kind) ≡ true → endPaired rs r ≡ true → isEnd (rowOf rs (suc (r .number)) .kind) ≡ true
-unfolding endPaired isPairedWith otherEnd
-paired-server rs r cl e = and-l (isEnd (rowOf rs (suc (r .number)) .kind)) (eqb (r .object) (rowOf rs (suc (r .number)) .object) && eqb (r .source) (rowOf rs (suc (r .number)) .source)) (rw (is-end, cl) at e)
-  where
-    is-end : isEnd (r .kind) ≡ true
-    is-end = unfold isEnd in or-l (isClient (r .kind)) (isServer (r .kind)) cl
 
 module _ (st : State) (s : Sound st) (p c : ℕ) (is : List Item) (a : Asked st p c is) where
   -- what holds of the old requests and of the new one
@@ -107,14 +92,8 @@ module _ (st : State) (s : Sound st) (p c : ℕ) (is : List Item) (a : Asked st 
   -- ---- the port and the requester
   -- the other end of port c has number c + 1
   server-older : suc c < st .next
-  unfolding endsPaired
-  server-older = row-below st s (suc c) (row-there (λ r. isEnd (r .kind)) (unfold noRow isEnd isClient isServer clientEnd serverEnd in refl) (st .rows) (suc c) server) .1
-    where
-      paired : endPaired (st .rows) (rowOf (st .rows) c) ≡ true
-      paired = unfold rowOf numbers in all-first (λ r. r .number) noRow (endPaired (st .rows)) (st .rows) c (s .ends-paired) (client-there st c (a .client))
-
-      server : isEnd (rowOf (st .rows) (suc c) .kind) ≡ true
-      server = subst (λ n. isEnd (rowOf (st .rows) (suc n) .kind) ≡ true) (row-number st s c (client-there st c (a .client))) (paired-server (st .rows) (rowOf (st .rows) c) (a .client) paired)
+  unfolding isPairedWith
+  server-older = row-below st s (suc c) (end-there (st .rows) (suc c) (and-l (isEnd (rowOf (st .rows) (suc c) .kind)) _ (client-paired st s c (a .client)))) .1
 
   pub ports-stand : portsStand (askedState st p c is) ≡ true
   unfolding portsStand
@@ -178,7 +157,7 @@ module _ (st : State) (s : Sound st) (p c : ℕ) (is : List Item) (a : Asked st 
   items-lent =
       requests-all (λ v. all (λ e. mayBeListed v (rowOf (askedRows st c is) e)) (nonzero (v .items)))
       (ap (all (λ e. mayBeListed (asked st p c is) (rowOf (askedRows st c is) e))) its-listed
-      ∙ all-members (λ e. mayBeListed (asked st p c is) (rowOf (askedRows st c is) e)) (listed st is (suc (st .next))) (λ e t. lent e (listed-cases st is (suc (st .next)) e t)))
+      ∙ all-of-member (λ e. mayBeListed (asked st p c is) (rowOf (askedRows st c is) e)) (listed st is (suc (st .next))) (λ e t. lent e (listed-cases st is (suc (st .next)) e t)))
       (all-mono (λ v. all (λ e. mayBeListed v (rowOf (st .rows) e)) (nonzero (v .items))) (λ v. all (λ e. mayBeListed v (rowOf (askedRows st c is) e)) (nonzero (v .items)))
       (λ v. all-mono (λ e. mayBeListed v (rowOf (st .rows) e)) (λ e. mayBeListed v (rowOf (askedRows st c is) e)) (older v) (nonzero (v .items))) (st .requests) (s .items-lent))
     where
@@ -189,7 +168,7 @@ module _ (st : State) (s : Sound st) (p c : ℕ) (is : List Item) (a : Asked st 
       lent e (inl g) =
           older (asked st p c is) e
           (unfold mayBeListed newRequest in
-          rw (named-end st is e g, row-number st s e (held-there st p e (named-held st s p c is a e g)), lt-ltb e (st .next) (named-old st s p c is a e g .1)) refl)
+          rw (named-end st is e g, row-number (st .rows) e (held-there st p e (named-held st s p c is a e g)), lt-ltb e (st .next) (named-old st s p c is a e g .1)) refl)
       lent e (inr (lo, hi)) =
           unfold mayBeListed newRequest in
           or-r (isEnd (rowOf (askedRows st c is) e .kind) && ltb (rowOf (askedRows st c is) e .number) (st .next)) (some (rowOf (askedRows st c is) e .request) && eqb (rowOf (askedRows st c is) e .request) (st .next))
@@ -215,7 +194,7 @@ module _ (st : State) (s : Sound st) (p c : ℕ) (is : List Item) (a : Asked st 
       unshared : (w : ℕ) → member w (map (λ v. v .number) (st .requests)) ≡ true → isFetched (requestOf (st .requests) w) ≡ false
           → (e : ℕ) → (named st is e ≡ true) ⊎ ((suc (st .next) ≤ e) × (e < suc (st .next) + length (copies st is))) → lists e (requestOf (st .requests) w) ≡ false
       unshared w t f e (inl g) =
-          let all-fetched = listers-fetched e (st .requests) (s .older-fetched) (same-left (isSystem (rowOf (st .rows) e .place)) (awaitsFetch (st .requests) e) (held-so st s e (held-there st p e (named-held st s p c is a e g))) (in-clist e g)) in
+          let all-fetched = listers-fetched e (st .requests) (s .older-fetched) (sym (eq-same (isSystem (rowOf (st .rows) e .place)) (awaitsFetch (st .requests) e) (held-so st s e (held-there st p e (named-held st s p c is a e g)))) ∙ in-clist e g) in
           not-t (lists e (requestOf (st .requests) w)) (rw f at (at w t (λ w. isFetched w || not (lists e w)) all-fetched))
       unshared w t f e (inr (lo, hi)) =
           let new : member e (numbers (st .rows)) ≡ false = false-of (member e (numbers (st .rows))) (λ m. let (l, h) = row-below st s e m in omega arith) in

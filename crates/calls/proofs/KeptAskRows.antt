@@ -17,15 +17,17 @@ use Rattle.rows.specs.Sound.{rowsRise, rowsFit, recordsFit, objectInRange, obje
 use Rattle.rows.proofs.Bools.{false-of, clash, and-l, or-map, or-r, not-f, all-mono, all-eq}
 use Rattle.rows.proofs.Keyed.{rises-map}
 use Rattle.rows.proofs.Sound.{Sound}
+use Rattle.rows.proofs.RowSources.{row-there}
+use Rattle.rows.proofs.SoundFacts.{row-below, rows-top, row-number, same-eq}
+use Rattle.rows.proofs.Places.{copied-no-end, clist-not-node, system-no-node, system-in-range}
+use Rattle.rows.proofs.Lists.{all-map}
 use Rattle.closing.specs.Closing.{placedIn}
 use Rattle.calls.specs.declared.Item.{Item}
 use Rattle.calls.specs.Rules.{notHeld}
 use Rattle.calls.specs.Loans.{copies, copyLent, newRequest}
-use Rattle.calls.proofs.AddRow.{row-there, row-below, rows-top}
-use Rattle.calls.proofs.Stand.{copied-no-end, clist-not-node}
-use Rattle.calls.proofs.KeptLists.{all-map, top-map}
+use Rattle.calls.proofs.KeptLists.{top-map}
 use Rattle.calls.proofs.KeptMoved.{moved, mayMove, moved-same, moved-number, moved-stays, moved-goes, kind-same, depths-moved, copies-moved, objects-moved, rights-moved, paired-moved, sources-moved}
-use Rattle.calls.proofs.KeptLoans.{of-rows, row-number, held-so, same-eq, system-no-node, system-in-range, placed-still}
+use Rattle.calls.proofs.KeptLoans.{of-rows, held-so, placed-still}
 use Rattle.calls.proofs.KeptAskItems.{named, listed}
 use Rattle.calls.proofs.KeptAskList.{named-end}
 use Rattle.calls.proofs.KeptAskStack.{row-stacked, length-stacked, rises-stacked, top-stacked, all-stacked, each-stacked}
@@ -103,8 +105,8 @@ module _ (st : State) (s : Sound st) (p c : ℕ) (is : List Item) (a : Asked st 
           → not (named st is (rowOf (st .rows) n .number)) || (not (isNode (rowOf (st .rows) n .place)) && (isEnd (rowOf (st .rows) n .kind) || some (rowOf (st .rows) n .request))) ≡ true
       pick n m true g =
           let at : rowOf (st .rows) n .place ≡ inClist p = unfold notHeld in eqb-true (rowOf (st .rows) n .place) (inClist p) (not-f (eqb (rowOf (st .rows) n .place) (inClist p)) (named-held st s p c is a n g)) in
-          rw (row-number st s n m, g, at, clist-not-node p, named-end st is n g) refl
-      pick n m false g = rw (row-number st s n m, g) refl
+          rw (row-number (st .rows) n m, g, at, clist-not-node p, named-end st is n g) refl
+      pick n m false g = rw (row-number (st .rows) n m, g) refl
 
   pub sources-right : sourcesRight (askedState st p c is) ≡ true
   unfolding sourcesRight
@@ -191,12 +193,12 @@ module _ (st : State) (s : Sound st) (p c : ℕ) (is : List Item) (a : Asked st 
       pick : (n : ℕ) → member n (numbers (st .rows)) ≡ true → (b : Bool) → named st is n ≡ b → holds (moved (named st is) withSystem (rowOf (st .rows) n)) ≡ true
       pick n m true g =
           same-eq (isSystem (moved (named st is) withSystem (rowOf (st .rows) n) .place)) (awaitsFetch (asked st p c is ∷ st .requests) (moved (named st is) withSystem (rowOf (st .rows) n) .number))
-          (ap isSystem (moved-goes (named st is) withSystem (rowOf (st .rows) n) (ap (named st is) (row-number st s n m) ∙ g))
+          (ap isSystem (moved-goes (named st is) withSystem (rowOf (st .rows) n) (ap (named st is) (row-number (st .rows) n m) ∙ g))
           ∙ at-system
-          ∙ sym (ap (awaitsFetch (asked st p c is ∷ st .requests)) (moved-number (named st is) withSystem (rowOf (st .rows) n) ∙ row-number st s n m) ∙ awaited n g))
+          ∙ sym (ap (awaitsFetch (asked st p c is ∷ st .requests)) (moved-number (named st is) withSystem (rowOf (st .rows) n) ∙ row-number (st .rows) n m) ∙ awaited n g))
       pick n m false g =
-          rw (moved-stays (named st is) withSystem (rowOf (st .rows) n) (ap (named st is) (row-number st s n m) ∙ g))
-          (rw (row-number st s n m, as-before n (row-below st s n m .1) g) (held-so st s n m))
+          rw (moved-stays (named st is) withSystem (rowOf (st .rows) n) (ap (named st is) (row-number (st .rows) n m) ∙ g))
+          (rw (row-number (st .rows) n m, as-before n (row-below st s n m .1) g) (held-so st s n m))
 
   -- ---- processes
   pub processes-placed : processesPlaced (askedState st p c is) ≡ true
@@ -213,4 +215,4 @@ module _ (st : State) (s : Sound st) (p c : ℕ) (is : List Item) (a : Asked st 
           let m : member e (numbers (st .rows)) ≡ true = row-there (λ r. isSubdirectory (r .kind)) (unfold noRow isSubdirectory subdirectory in refl) (st .rows) e sub in
           let below : e < st .next = row-below st s e m .1 in
           let g : named st is e ≡ false = false-of (named st is e) (λ g. clash (named-end st is e g) (no-end (rowOf (st .rows) e .kind) sub)) in
-          old-found st s p c is a e (omega arith) ∙ moved-stays (named st is) withSystem (rowOf (st .rows) e) (ap (named st is) (row-number st s e m) ∙ g)
+          old-found st s p c is a e (omega arith) ∙ moved-stays (named st is) withSystem (rowOf (st .rows) e) (ap (named st is) (row-number (st .rows) e m) ∙ g)

@@ -5,7 +5,7 @@ use mathlib.Core.List.{List, [], _∷_, map}
 use mathlib.Core.Path.{_≡_, refl, sym, ap, _∙_, subst}
 use lib.Dec.{leb, ltb, eqb}
 use lib.ListN.{length, length-map}
-use borrow.Author.Tests.{eqb-true, eqb-false}
+use borrow.Author.Tests.{eqb-true}
 use native.Mathlib.Omega.{arith}
 use Rattle.rows.specs.declared.Row.{Row}
 use Rattle.rows.specs.declared.Request.{Request}
@@ -14,17 +14,19 @@ use Rattle.rows.specs.Limits.{processes, mostItems}
 use Rattle.rows.specs.Codes.{subdirectory, isSubdirectory, isEnd, inClist, withSystem, isNode, isSystem}
 use Rattle.rows.specs.Tables.{State, noRow, noRequest, rowOf, requestOf, openOn, isListed, numbers, lists}
 use Rattle.rows.specs.Sound.{rowsRise, requestsRise, numbersApart, belowNext, nextInRange, rowsFit, requestsFit, recordsFit, objectsInRange, rightsInRange, placeInRange, placesInRange, fetchedInRange, sourcesRight, depthsRight, copiesMatch, recordsInRange, endPaired, endsPaired, portStands, portsStand, requestersListed, itemsFew, itemsApart, itemsLent, mayBeListed, onePerPort, copyListed, copiesListed, isFetched, olderFetchedBy, olderFetched, awaitsFetch, same, systemHolds, processesPlaced}
-use Rattle.rows.proofs.Bools.{false-of, true-of, clash, and-l, and-r, or-l, or-r, or-fl, or-fr, any-eq, all-mono, all-eq, all-at, pos-some}
+use Rattle.rows.proofs.Bools.{false-of, true-of, clash, and-l, or-l, or-r, or-fl, or-fr, any-eq, all-mono, all-eq, all-at, not-zero}
 use Rattle.rows.proofs.Keyed.{all-first, first-there, rises-map, rises-range, keys-map}
 use Rattle.rows.proofs.Sound.{Sound}
+use Rattle.rows.proofs.Lists.{member-nonzero, all-map}
+use Rattle.rows.proofs.Places.{clist-not-node, clist-no-system, system-no-node}
+use Rattle.rows.proofs.SoundFacts.{clist-not-system, clist-in-range, row-number, same-eq, eq-same}
 use Rattle.closing.specs.Closing.{placedIn}
 use Rattle.calls.specs.Loans.{handedTo, nowFetched, withFetched}
 use Rattle.calls.specs.Calls.{doFetch}
-use Rattle.calls.proofs.AddRow.{unless, member-nonzero}
-use Rattle.calls.proofs.Stand.{clist-not-node, clist-not-system, clist-in-range}
-use Rattle.calls.proofs.KeptLists.{all-map, each-map, top-map, other-there, other-same}
+use Rattle.calls.proofs.AddRow.{unless}
+use Rattle.calls.proofs.KeptLists.{each-map, top-map, other-there, other-same}
 use Rattle.calls.proofs.KeptMoved.{moved, mayMove, moved-same, moved-stays, moved-goes, moved-number, row-moved, depths-moved, copies-moved, objects-moved, rights-moved, paired-moved, ports-moved, listed-moved, sources-moved}
-use Rattle.calls.proofs.KeptLoans.{of-rows, row-number, held-so, same-right, same-eq, listers-fetched, now-same, now-number, now-lists, still-fetched, request-now, fetched-now, awaits-same, clist-no-system, system-no-node, placed-still}
+use Rattle.calls.proofs.KeptLoans.{of-rows, held-so, listers-fetched, now-same, now-number, now-lists, still-fetched, request-now, fetched-now, awaits-same, placed-still}
 
 -- v is an open request of sound tables, not fetched, and p a listed process
 module _ (st : State) (s : Sound st) (p : ℕ) (v : Request) (found : requestOf (st .requests) (v .number) ≡ v) (there : member (v .number) (map (λ v. v .number) (st .requests)) ≡ true)
@@ -55,7 +57,7 @@ module _ (st : State) (s : Sound st) (p : ℕ) (v : Request) (found : requestOf 
       clash (of-request (λ w. isFetched w || not (lists e w)) (listers-fetched e (st .requests) (unfold olderFetched in s .older-fetched) a)) (rw (unfetched, g) refl)
 
   item : (e : ℕ) → some e && member e (v .items) ≡ true → member e (nonzero (v .items)) ≡ true
-  item e q = member-nonzero e (and-l (some e) (member e (v .items)) q) (v .items) (and-r (some e) (member e (v .items)) q)
+  item e q = member-nonzero (v .items) e ∙ q
 
   may-be : (e : ℕ) → goes e ≡ true → mayBeListed v (rowOf (st .rows) e) ≡ true
   may-be e g =
@@ -66,7 +68,7 @@ module _ (st : State) (s : Sound st) (p : ℕ) (v : Request) (found : requestOf 
   system-had : (n : ℕ) → member n (numbers (st .rows)) ≡ true → goes n ≡ true → rowOf (st .rows) n .place ≡ withSystem
   system-had n m g =
       unfold isSystem in eqb-true (rowOf (st .rows) n .place) withSystem
-      (same-right (isSystem (rowOf (st .rows) n .place)) (awaitsFetch (st .requests) n) (held-so st s n m) (awaited n g))
+      (eq-same (isSystem (rowOf (st .rows) n .place)) (awaitsFetch (st .requests) n) (held-so st s n m) ∙ awaited n g)
 
   may-move : all (mayMove goes) (st .rows) ≡ true
   unfolding mayMove mayBeListed
@@ -79,9 +81,9 @@ module _ (st : State) (s : Sound st) (p : ℕ) (v : Request) (found : requestOf 
       pick : (n : ℕ) → member n (numbers (st .rows)) ≡ true → (b : Bool) → goes n ≡ b
           → not (goes (rowOf (st .rows) n .number)) || (not (isNode (rowOf (st .rows) n .place)) && (isEnd (rowOf (st .rows) n .kind) || some (rowOf (st .rows) n .request))) ≡ true
       pick n m true g =
-          rw (row-number st s n m, g, system-had n m g, system-no-node)
+          rw (row-number (st .rows) n m, g, system-had n m g, system-no-node)
           (ended (isEnd (rowOf (st .rows) n .kind)) (ltb (rowOf (st .rows) n .number) (v .number)) (some (rowOf (st .rows) n .request)) (eqb (rowOf (st .rows) n .request) (v .number)) (may-be n g))
-      pick n m false g = rw (row-number st s n m, g) refl
+      pick n m false g = rw (row-number (st .rows) n m, g) refl
 
   positive : 0 < v .number
   positive = rises-range (λ v. v .number) (st .requests) (unfold requestsRise in s .requests-rise) (v .number) there .0
@@ -256,14 +258,14 @@ module _ (st : State) (s : Sound st) (p : ℕ) (v : Request) (found : requestOf 
           → same (isSystem (moved goes (inClist p) (rowOf (st .rows) n) .place)) (awaitsFetch requests′ (moved goes (inClist p) (rowOf (st .rows) n) .number)) ≡ true
       pick n m true g =
           same-eq (isSystem (moved goes (inClist p) (rowOf (st .rows) n) .place)) (awaitsFetch requests′ (moved goes (inClist p) (rowOf (st .rows) n) .number))
-          (ap isSystem (moved-goes goes (inClist p) (rowOf (st .rows) n) (ap goes (row-number st s n m) ∙ g))
+          (ap isSystem (moved-goes goes (inClist p) (rowOf (st .rows) n) (ap goes (row-number (st .rows) n m) ∙ g))
           ∙ clist-not-system st s p listed
           ∙ sym
-          (ap (awaitsFetch requests′) (moved-number goes (inClist p) (rowOf (st .rows) n) ∙ row-number st s n m)
+          (ap (awaitsFetch requests′) (moved-number goes (inClist p) (rowOf (st .rows) n) ∙ row-number (st .rows) n m)
           ∙ fetched-now (v .number) n (st .requests) (unfold olderFetched in s .older-fetched) there (rw found unfetched) (rw found g)))
       pick n m false g =
-          rw (moved-stays goes (inClist p) (rowOf (st .rows) n) (ap goes (row-number st s n m) ∙ g))
-          (rw (row-number st s n m, awaits-same (v .number) n (st .requests) (unfold requestsRise in s .requests-rise) (rw found g)) (held-so st s n m))
+          rw (moved-stays goes (inClist p) (rowOf (st .rows) n) (ap goes (row-number (st .rows) n m) ∙ g))
+          (rw (row-number (st .rows) n m, awaits-same (v .number) n (st .requests) (unfold requestsRise in s .requests-rise) (rw found g)) (held-so st s n m))
 
   processes-placed : processesPlaced after ≡ true
   unfolding processesPlaced
@@ -275,8 +277,8 @@ module _ (st : State) (s : Sound st) (p : ℕ) (v : Request) (found : requestOf 
       stays e k hi sub at =
           let m : member e (numbers (st .rows)) ≡ true = unfold numbers rowOf in first-there (λ r. r .number) noRow (λ r. isSubdirectory (r .kind)) (unfold noRow isSubdirectory subdirectory in refl) (st .rows) e sub in
           let in-clist : isSystem (rowOf (st .rows) e .place) ≡ false = ap isSystem at ∙ clist-no-system k hi in
-          let g : goes e ≡ false = false-of (goes e) (λ g. clash (same-right (isSystem (rowOf (st .rows) e .place)) (awaitsFetch (st .requests) e) (held-so st s e m) (awaited e g)) in-clist) in
-          moved-stays goes (inClist p) (rowOf (st .rows) e) (ap goes (row-number st s e m) ∙ g)
+          let g : goes e ≡ false = false-of (goes e) (λ g. clash (eq-same (isSystem (rowOf (st .rows) e .place)) (awaitsFetch (st .requests) e) (held-so st s e m) ∙ awaited e g) in-clist) in
+          moved-stays goes (inClist p) (rowOf (st .rows) e) (ap goes (row-number (st .rows) e m) ∙ g)
 
   fetched-sound : Sound after
   fetched-sound =
@@ -332,5 +334,5 @@ fetch-kept st s p e listed =
 
     taken : eqb (v .number) 0 ≡ false → isFetched v ≡ false → Sound (withFetched p v st)
     taken z f =
-        let t : some (v .number) ≡ true = pos-some (v .number) (let ne = eqb-false (v .number) 0 z in omega arith) in
+        let t : some (v .number) ≡ true = not-zero (v .number) z in
         fetched-sound st s p v (open-found (st .requests) c (s .requests-rise) t) (open-there (st .requests) c t) f listed

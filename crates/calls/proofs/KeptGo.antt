@@ -8,25 +8,20 @@ use lib.ListN.{getD, set, length-set}
 use native.Mathlib.Omega.{arith}
 use Rattle.rows.specs.declared.Row.{Row}
 use Rattle.rows.specs.declared.Process.{Process}
-use Rattle.rows.specs.Lists.{all, between, some}
+use Rattle.rows.specs.Lists.{between, some}
 use Rattle.rows.specs.Limits.{processes, nodes}
 use Rattle.rows.specs.Codes.{isSubdirectory, inClist, isNode, ownerOf}
 use Rattle.rows.specs.Tables.{State, noProcess, rowOf, processAt, isListed}
 use Rattle.rows.specs.Sound.{rowsRise, requestsRise, numbersApart, belowNext, nextInRange, rowsFit, requestsFit, recordsFit, objectInRange, objectsInRange, rightsInRange, placeInRange, placesInRange, fetchedInRange, sourcesRight, depthsRight, copiesMatch, recordUnused, recordInRange, recordsInRange, endsPaired, portsStand, requestersListed, itemsFew, itemsApart, itemsLent, onePerPort, copiesListed, olderFetched, systemHolds, processPlaced, placedFrom, processesPlaced}
 use Rattle.rows.proofs.Bools.{and-l, and-r, and-i, or-l, or-r, not-f, eqb-self, pos-some, all-eq}
 use Rattle.rows.proofs.Sound.{Sound}
+use Rattle.rows.proofs.SoundFacts.{row-below, listed-range, prime-node, row-object, subdirectory-node, clist-there}
+use Rattle.rows.proofs.Lists.{all-set}
 use Rattle.calls.specs.Rules.{Out, notHeld, withRecord}
 use Rattle.calls.specs.Calls.{done, goHome, goThrough, doGo}
-use Rattle.calls.proofs.AddRow.{unless, row-there, row-below}
-use Rattle.calls.proofs.Stand.{clist-no-row, listed-range, prime-node, row-object, subdirectory-node}
+use Rattle.calls.proofs.AddRow.{unless}
 
 -- ---- the records with one replaced
-all-set : {A : Type 0} (f : A → Bool) (xs : List A) (i : ℕ) (x : A) → all f xs ≡ true → f x ≡ true → all f (set xs i x) ≡ true
-unfolding all
-all-set f [] i x t h = refl
-all-set f (y ∷ xs) zero x t h = and-i (f x) (all f xs) h (and-r (f y) (all f xs) t)
-all-set f (y ∷ xs) (suc i) x t h = and-i (f y) (all f (set xs i x)) (and-l (f y) (all f xs) t) (all-set f xs i x (and-r (f y) (all f xs) t) h)
-
 prime-set : (xs : List Process) (i : ℕ) (x : Process) → x .prime ≡ getD xs i noProcess .prime → (j : ℕ) → getD (set xs i x) j noProcess .prime ≡ getD xs j noProcess .prime
 prime-set [] i x e j = refl
 prime-set (y ∷ xs) zero x e zero = e
@@ -116,9 +111,9 @@ module _ (st : State) (s : Sound st) (p : ℕ) (l : isListed (st .processes) p �
   unfolding goThrough processPlaced
   through-kept e h k =
       let r = rowOf (st .rows) e in
-      let there = row-there (λ r. eqb (r .place) (inClist p)) (clist-no-row p) (st .rows) e h in
+      let there = clist-there (st .rows) p e h in
       let x : Process = record { prime = processAt (st .processes) p .prime; active = r .object; through = e } in
-      record-kept st s p l x refl (subdirectory-node (st .processes) r k (row-object st s e there))
+      record-kept st s p l x refl (subdirectory-node (st .processes) r (row-object st s e there) k)
       (or-r (eqb e 0 && eqb (x .active) (x .prime)) _
       (and-i (some e) _ (pos-some e (row-below st s e there .0)) (and-i (isSubdirectory (r .kind)) _ k (and-i (eqb (r .place) (inClist p)) _ h (eqb-self (r .object))))))
 

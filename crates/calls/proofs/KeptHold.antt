@@ -15,10 +15,14 @@ use Rattle.rows.specs.Tables.{State, rowOf, processAt, isListed, numbers, depth
 use Rattle.rows.specs.Sound.{rightInRange, placeInRange, isOpening, isRegistered, isHeld, sourceRight, copyMatches, processPlaced}
 use Rattle.rows.proofs.Bools.{and-l, and-r, and-i, or-cases, or-l, or-r, not-f, eqb-self}
 use Rattle.rows.proofs.Sound.{Sound}
+use Rattle.rows.proofs.RowSources.{node-there}
+use Rattle.rows.proofs.Places.{copied-no-end, node-not-system, node-in-range, clist-not-node}
+use Rattle.rows.proofs.SoundFacts.{clist-is, clist-not-system, clist-in-range, active-node, placed-at, row-object, row-right, in-node-copied, not-lent-held, unlent-unborne, clist-there}
+use Rattle.rows.proofs.Standing.{standing-shape, standing-copy}
 use Rattle.calls.specs.Rules.{notHeld, tooDeep, rowsFull, numbersSpent, withRows, copyOf}
 use Rattle.calls.specs.Calls.{made, withHeld, doHold, withRegistered, doRegister}
-use Rattle.calls.proofs.AddRow.{unless, row-there, add-row}
-use Rattle.calls.proofs.Stand.{copied-no-end, no-row-node, node-not-system, node-in-range, clist-no-row, clist-not-node, clist-is, clist-not-system, clist-in-range, active-node, placed-at, olderRows, row-object, row-right, row-source, row-matches, older-row, copy-object, depth-is, in-node-copied, not-lent-held, unlent-unborne}
+use Rattle.calls.proofs.AddRow.{unless, add-row}
+use Rattle.calls.proofs.Stand.{copy-object, depth-is}
 
 -- ---- the copy
 within-self : (r : ℕ) → within r r ≡ true
@@ -65,10 +69,10 @@ module _ (st : State) (s : Sound st) (p : ℕ) (l : isListed (st .processes) p �
       → Sound (withHeld st p e (processAt (st .processes) p .through) (depthOver (st .rows) e (processAt (st .processes) p .through)))
   unfolding withHeld copyOf sourceRight isHeld copyMatches
   held-row e n d f m =
-      let there = row-there (λ r. isNode (r .place)) no-row-node (st .rows) e n in
+      let there = node-there (st .rows) e n in
       let r = rowOf (st .rows) e in
       let via = processAt (st .processes) p .through in
-      let c = in-node-copied (st .requests) r (olderRows st s e there) (row-source st s e there) n in
+      let c = in-node-copied (st .requests) (st .rows) r (standing-shape st s e there) n in
       let new = copied st e (inClist p) e via (depthOver (st .rows) e via) in
       copy-added st s e (inClist p) e via (depthOver (st .rows) e via) there c
       (clist-in-range st s p l new refl)
@@ -94,24 +98,22 @@ module _ (st : State) (s : Sound st) (p : ℕ) (l : isListed (st .processes) p �
       → Sound (withRegistered st p e (depthOver (st .rows) (rowOf (st .rows) e .source) 0))
   unfolding withRegistered copyOf sourceRight isHeld isRegistered copyMatches inNode
   registered-row e h k u d f m =
-      let there = row-there (λ r. eqb (r .place) (inClist p)) (clist-no-row p) (st .rows) e h in
+      let there = clist-there (st .rows) p e h in
       let r = rowOf (st .rows) e in
-      let older = olderRows st s e there in
       let node = processAt (st .processes) p .active in
       let outside : isNode (r .place) ≡ false = ap isNode (eqb-true (r .place) (inClist p) h) ∙ clist-not-node p in
-      let held : isHeld older r ≡ true = not-lent-held (st .requests) r older (row-source st s e there) outside k (unlent-unborne st e there u) in
+      let held : isHeld (st .rows) r ≡ true = not-lent-held (st .requests) (st .rows) r (standing-shape st s e there) outside k (unlent-unborne st e there u) in
       let c : isCopied (r .kind) ≡ true = and-l (isCopied (r .kind)) _ (and-r (isClist (r .place)) _ held) in
-      let above : isNode (rowOf older (r .source) .place) ≡ true = and-l (isNode (rowOf older (r .source) .place)) _ (and-r (isCopied (r .kind)) _ (and-r (isClist (r .place)) _ held)) in
-      let z : rowOf older (r .source) ≡ rowOf (st .rows) (r .source) = older-row st s e there (λ r. isNode (r .place)) no-row-node (r .source) above in
+      let above : isNode (rowOf (st .rows) (r .source) .place) ≡ true = and-l (isNode (rowOf (st .rows) (r .source) .place)) _ (and-r (isCopied (r .kind)) _ (and-r (isClist (r .place)) _ held)) in
       let d′ = depthOver (st .rows) (r .source) 0 in
       let new = copied st e node (r .source) 0 d′ in
       copy-added st s e node (r .source) 0 d′ there c
       (node-in-range (st .processes) new (active-node st s p l))
       (node-not-system node (active-node st s p l))
       (or-r (isOpening new) _ (or-l (isRegistered (st .rows) new) _
-      (and-i (isNode node) _ (active-node st s p l) (and-i (isCopied (r .kind)) _ c (and-i (isNode (rowOf (st .rows) (r .source) .place)) true (rw z at above) refl)))))
+      (and-i (isNode node) _ (active-node st s p l) (and-i (isCopied (r .kind)) _ c (and-i (isNode (rowOf (st .rows) (r .source) .place)) true above refl)))))
       refl d
-      (rw z at (row-matches st s e there))
+      (standing-copy st s e there)
       f m
 
 pub register-kept : (st : State) → Sound st → (p e : ℕ) → isListed (st .processes) p ≡ true → Sound (doRegister st p e .after)

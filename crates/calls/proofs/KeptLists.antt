@@ -1,6 +1,6 @@
 -- Laws of lists that the proofs on ask and fetch share: mapped lists, look-up by two keys.
 use Prim.Native.Nat.{ℕ, _<_}
-use mathlib.Core.Bool.{Bool, true, false, cond, _&&_, _||_}
+use mathlib.Core.Bool.{Bool, true, false, cond, _||_}
 use mathlib.Core.List.{List, [], _∷_, map}
 use mathlib.Core.Path.{_≡_, refl, ap, _∙_}
 use lib.Dec.{eqb}
@@ -11,11 +11,6 @@ use Rattle.rows.proofs.Bools.{clash, and-l, and-r, and-i, or-l, or-r, eqb-self}
 use Rattle.rows.proofs.Keyed.{rises-rest, rises-older}
 
 module _ {A : Type 0} where
-  pub all-map : {B : Type 0} (f : B → Bool) (g : A → B) (xs : List A) → all f (map g xs) ≡ all (λ x. f (g x)) xs
-  unfolding all
-  all-map f g [] = refl
-  all-map f g (x ∷ xs) = ap (λ b. f (g x) && b) (all-map f g xs)
-
   -- what holds of each element with those after it, after a change of the elements, all of which pass P
   pub each-map : (P : A → Bool) (F G : A → List A → Bool) (g : A → A)
       → ((x : A) (xs : List A) → P x ≡ true → all P xs ≡ true → F x xs ≡ true → G (g x) (map g xs) ≡ true)
@@ -37,19 +32,6 @@ module _ {A : Type 0} where
     unfolding topOf
     top-map g k [] = refl
     top-map g k (x ∷ xs) = k x
-
-    -- what holds of all that can be looked up holds of all
-    pub all-found : (P : A → Bool) (xs : List A) → rises key xs ≡ true → ((n : ℕ) → member n (map key xs) ≡ true → P (firstWith key none xs n) ≡ true) → all P xs ≡ true
-    unfolding all firstWith member
-    all-found P [] e h = refl
-    all-found P (x ∷ xs) e h =
-        and-i (P x) (all P xs) (rw (eqb-self (key x)) at (h (key x) (or-l (eqb (key x) (key x)) (member (key x) (map key xs)) (eqb-self (key x)))))
-        (all-found P xs (rises-rest key x xs e) (λ n t. older n t))
-      where
-        older : (n : ℕ) → member n (map key xs) ≡ true → P (firstWith key none xs n) ≡ true
-        older n t =
-            let lt : n < key x = rises-older key x xs e n t in
-            rw (ne-eqb (key x) n (λ z. omega arith)) at (h n (or-r (eqb n (key x)) (member n (map key xs)) t))
 
     -- what a look-up by another key finds, the first key finds too
     pub other-there : (by : A → ℕ) → key none ≡ 0 → (xs : List A) (c : ℕ) → some (key (firstWith by none xs c)) ≡ true → member (key (firstWith by none xs c)) (map key xs) ≡ true

@@ -10,34 +10,21 @@ use native.Mathlib.Omega.{arith}
 use Rattle.rows.specs.declared.Row.{Row}
 use Rattle.rows.specs.declared.Request.{Request}
 use Rattle.rows.specs.declared.Process.{Process}
-use Rattle.rows.specs.Lists.{any, all, each, firstWith, rises, member, between, some}
-use Rattle.rows.specs.Limits.{processes, nodes}
-use Rattle.rows.specs.Codes.{isSubdirectory, inClist, withSystem, isNode, isClist, isSystem}
+use Rattle.rows.specs.Lists.{any, all, each, firstWith, rises, member, some}
+use Rattle.rows.specs.Codes.{isSubdirectory, inClist, isSystem}
 use Rattle.rows.specs.Tables.{State, noRow, noRequest, rowOf, requestOf, numbers, lists}
-use Rattle.rows.specs.Sound.{placeInRange, isFetched, olderFetchedBy, awaitsFetch, same, systemHolds, rowsRise, processPlaced, placedFrom}
-use Rattle.rows.proofs.Bools.{false-of, clash, and-l, and-r, and-i, or-map, or-l, or-r, not-t, not-f, eqb-sym-f, all-mono}
-use Rattle.rows.proofs.Keyed.{all-first, first-key, first-map, first-none, rises-rest, rises-fresh}
+use Rattle.rows.specs.Sound.{isFetched, olderFetchedBy, awaitsFetch, same, systemHolds, rowsRise, processPlaced, placedFrom}
+use Rattle.rows.proofs.Bools.{false-of, clash, and-l, and-r, and-i, or-map, or-l, or-r, not-t, not-f, eqb-sym-f, all-mono, and-rf}
+use Rattle.rows.proofs.Keyed.{all-first, first-map, first-none, rises-rest, rises-fresh}
 use Rattle.rows.proofs.Sound.{Sound}
+use Rattle.rows.proofs.Picked.{all-found}
+use Rattle.rows.proofs.Lists.{any-at}
+use Rattle.rows.proofs.SoundFacts.{row-number}
 use Rattle.calls.specs.Loans.{nowFetched}
-use Rattle.calls.proofs.KeptLists.{all-found}
-
--- ---- lists of numbers
-any-at : (f : ℕ → Bool) (ns : List ℕ) (n : ℕ) → member n ns ≡ true → f n ≡ true → any f ns ≡ true
-unfolding any member
-any-at f [] n m e = clash m refl
-any-at f (k ∷ ns) n m e = pick (any-at f ns n) (eqb n k) refl m
-  where
-    pick : (member n ns ≡ true → f n ≡ true → any f ns ≡ true) → (b : Bool) → eqb n k ≡ b → b || member n ns ≡ true → f k || any f ns ≡ true
-    pick ih true q m = or-l (f k) (any f ns) (ap f (sym (eqb-true n k q)) ∙ e)
-    pick ih false q m = or-r (f k) (any f ns) (ih m e)
 
 pub no-request-lists : (e : ℕ) → lists e noRequest ≡ false
 unfolding lists noRequest member
-no-request-lists e = pick (some e)
-  where
-    pick : (b : Bool) → b && false ≡ false
-    pick true = refl
-    pick false = refl
+no-request-lists e = and-rf (some e) false refl
 
 -- ---- what awaits fetch
 module _ (e : ℕ) where
@@ -145,19 +132,6 @@ module _ (q e : ℕ) where
       pick ih true z l = rw (now-lists q e w, l) (ih (none-after z))
       pick ih false z l = rw (now-other q w z) (rw (ih l) refl)
 
--- ---- places
-pub clist-no-system : (p : ℕ) → p ≤ 64 → isSystem (inClist p) ≡ false
-unfolding isSystem inClist withSystem
-clist-no-system p hi = ne-eqb (100 + p) 200 (λ z. omega arith)
-
-pub system-no-node : isNode withSystem ≡ false
-unfolding isNode withSystem between nodes
-system-no-node = refl
-
-pub system-in-range : (ps : List Process) (r : Row) → r .place ≡ withSystem → placeInRange ps r ≡ true
-unfolding placeInRange isClist isSystem withSystem between inClist processes
-system-in-range ps r e = rw (e, system-no-node) refl
-
 -- every process stays placed, if the subdirectory rows in c-lists stay
 pub placed-still : (rs rs′ : List Row) → ((e p : ℕ) → p ≤ 64 → isSubdirectory (rowOf rs e .kind) ≡ true → rowOf rs e .place ≡ inClist p → rowOf rs′ e ≡ rowOf rs e)
     → (p : ℕ) (ps : List Process) → p + length ps ≤ 65 → placedFrom rs p ps ≡ true → placedFrom rs′ p ps ≡ true
@@ -187,26 +161,7 @@ module _ (st : State) (s : Sound st) where
   pub of-rows : (P : Row → Bool) → ((n : ℕ) → member n (numbers (st .rows)) ≡ true → P (rowOf (st .rows) n) ≡ true) → all P (st .rows) ≡ true
   of-rows P h = unfold numbers rowOf in all-found (λ r. r .number) noRow P (st .rows) (unfold rowsRise in s .rows-rise) h
 
-  pub row-number : (n : ℕ) → member n (numbers (st .rows)) ≡ true → rowOf (st .rows) n .number ≡ n
-  unfolding numbers rowOf
-  row-number n m = first-key (λ r. r .number) noRow (st .rows) n m
-
   pub held-so : (n : ℕ) → member n (numbers (st .rows)) ≡ true → same (isSystem (rowOf (st .rows) n .place)) (awaitsFetch (st .requests) n) ≡ true
   held-so n m =
-      subst (λ k. same (isSystem (rowOf (st .rows) n .place)) (awaitsFetch (st .requests) k) ≡ true) (row-number n m)
+      subst (λ k. same (isSystem (rowOf (st .rows) n .place)) (awaitsFetch (st .requests) k) ≡ true) (row-number (st .rows) n m)
       (unfold numbers rowOf in all-first (λ r. r .number) noRow (λ r. same (isSystem (r .place)) (awaitsFetch (st .requests) (r .number))) (st .rows) n (unfold systemHolds in s .system-holds) m)
-
-pub same-right : (a b : Bool) → same a b ≡ true → b ≡ true → a ≡ true
-unfolding same
-same-right true b e q = refl
-same-right false b e q = clash q (not-t b e)
-
-pub same-left : (a b : Bool) → same a b ≡ true → a ≡ false → b ≡ false
-unfolding same
-same-left true b e q = clash refl q
-same-left false b e q = not-t b e
-
-pub same-eq : (a b : Bool) → a ≡ b → same a b ≡ true
-unfolding same
-same-eq true b e = rw (← e) refl
-same-eq false b e = rw (← e) refl

@@ -3,9 +3,7 @@ use Prim.Native.Nat.{ℕ}
 use mathlib.Core.Bool.{Bool, true, false, not, cond, _&&_, _||_}
 use mathlib.Core.List.{List, map}
 use mathlib.Core.Path.{_≡_, refl, sym, ap, _∙_}
-use mathlib.Core.Logic.{_⊎_, inl, inr}
 use lib.Dec.{eqb}
-use borrow.Author.Tests.{eqb-true}
 use Rattle.rows.specs.declared.Row.{Row}
 use Rattle.rows.specs.declared.Request.{Request}
 use Rattle.rows.specs.declared.Process.{Process}
@@ -14,10 +12,12 @@ use Rattle.rows.specs.Codes.{isEnd, isCopied, isNode, within}
 use Rattle.rows.specs.Tables.{noRow, rowOf, requestOf, depthOver}
 use Rattle.rows.specs.Sound.{objectInRange, rightInRange, isOpening, isRegistered, isHeld, isPortEnd, isLentCopy, sourceRight, depthRight, copyMatches, isPairedWith, otherEnd, endPaired, copyListed, portStands, mayBeListed}
 use Rattle.closing.specs.Closing.{placedIn}
-use Rattle.rows.proofs.Bools.{clash, and-l, and-r, and-i, or-r, or-cases, not-t, all-mono, all-eq, all-and}
+use Rattle.rows.proofs.Bools.{clash, and-l, and-r, and-i, or-r, not-t, all-mono, all-eq, all-and, or-l, zero-none}
 use Rattle.rows.proofs.Keyed.{first-map, first-none, all-first}
-use Rattle.calls.proofs.Stand.{copied-no-end}
-use Rattle.calls.proofs.KeptLists.{all-map, each-map, each-map-eq}
+use Rattle.rows.proofs.Places.{copied-no-end}
+use Rattle.rows.proofs.Lists.{all-map}
+use Rattle.rows.proofs.RowSources.{Shape, opening, registered, held, port-end, lent-copy, shape}
+use Rattle.calls.proofs.KeptLists.{each-map, each-map-eq}
 
 -- the rows whose numbers pass the test go to place x
 unfoldable pub moved : (ℕ → Bool) → ℕ → Row → Row
@@ -27,41 +27,18 @@ moved t x r = if t (r .number) then placedIn x r else r
 unfoldable pub mayMove : (ℕ → Bool) → Row → Bool
 mayMove t r = not (t (r .number)) || (not (isNode (r .place)) && (isEnd (r .kind) || some (r .request)))
 
-none-borne : (n : ℕ) → eqb n 0 ≡ true → some n ≡ false
-none-borne n e = let z : n ≡ 0 = eqb-true n 0 e in rw z (unfold some in refl)
-
 -- a copied row that bears nothing is neither
 neither : (k n : ℕ) → isCopied k ≡ true → eqb n 0 ≡ true → isEnd k || some n ≡ false
-neither k n c e = rw (copied-no-end k c, none-borne n e) refl
+neither k n c e = rw (copied-no-end k c, zero-none n e) refl
 
 -- of the five kinds of row, an end and a lent copy may move
-may-be : (vs : List Request) (rs : List Row) (r : Row) → isEnd (r .kind) || some (r .request) ≡ true → sourceRight vs r rs ≡ true → isPortEnd rs r || isLentCopy vs rs r ≡ true
-unfolding sourceRight
-may-be vs rs r m e = first (or-cases (isOpening r) (isRegistered rs r || (isHeld rs r || (isPortEnd rs r || isLentCopy vs rs r))) e)
-  where
-    out : isCopied (r .kind) ≡ true → eqb (r .request) 0 ≡ true → isPortEnd rs r || isLentCopy vs rs r ≡ true
-    out c z = clash m (neither (r .kind) (r .request) c z)
-
-    opening : isOpening r ≡ true → isPortEnd rs r || isLentCopy vs rs r ≡ true
-    opening q = unfold isOpening in out (search (and-l, and-r)) (search (and-l, and-r))
-
-    registered : isRegistered rs r ≡ true → isPortEnd rs r || isLentCopy vs rs r ≡ true
-    registered q = unfold isRegistered in out (search (and-l, and-r)) (search (and-l, and-r))
-
-    held : isHeld rs r ≡ true → isPortEnd rs r || isLentCopy vs rs r ≡ true
-    held q = unfold isHeld in out (search (and-l, and-r)) (search (and-l, and-r))
-
-    third : (isHeld rs r ≡ true) ⊎ (isPortEnd rs r || isLentCopy vs rs r ≡ true) → isPortEnd rs r || isLentCopy vs rs r ≡ true
-    third (inl q) = held q
-    third (inr q) = q
-
-    second : (isRegistered rs r ≡ true) ⊎ (isHeld rs r || (isPortEnd rs r || isLentCopy vs rs r) ≡ true) → isPortEnd rs r || isLentCopy vs rs r ≡ true
-    second (inl q) = registered q
-    second (inr q) = third (or-cases (isHeld rs r) (isPortEnd rs r || isLentCopy vs rs r) q)
-
-    first : (isOpening r ≡ true) ⊎ (isRegistered rs r || (isHeld rs r || (isPortEnd rs r || isLentCopy vs rs r)) ≡ true) → isPortEnd rs r || isLentCopy vs rs r ≡ true
-    first (inl q) = opening q
-    first (inr q) = second (or-cases (isRegistered rs r) (isHeld rs r || (isPortEnd rs r || isLentCopy vs rs r)) q)
+may-be : (vs : List Request) (rs : List Row) (r : Row) → isEnd (r .kind) || some (r .request) ≡ true → Shape vs rs r → isPortEnd rs r || isLentCopy vs rs r ≡ true
+unfolding isOpening isRegistered isHeld
+may-be vs rs r m (opening q) = clash m (neither (r .kind) (r .request) (search (and-l, and-r)) (search (and-l, and-r)))
+may-be vs rs r m (registered q) = clash m (neither (r .kind) (r .request) (search (and-l, and-r)) (search (and-l, and-r)))
+may-be vs rs r m (held q) = clash m (neither (r .kind) (r .request) (search (and-l, and-r)) (search (and-l, and-r)))
+may-be vs rs r m (port-end q) = or-l (isPortEnd rs r) (isLentCopy vs rs r) q
+may-be vs rs r m (lent-copy q) = or-r (isPortEnd rs r) (isLentCopy vs rs r) q
 
 pub end-right : (vs : List Request) (rs : List Row) (r : Row) → isPortEnd rs r || isLentCopy vs rs r ≡ true → sourceRight vs r rs ≡ true
 unfolding sourceRight
@@ -184,7 +161,7 @@ module _ (t : ℕ → Bool) (x : ℕ) (z : t 0 ≡ false) where
         pick true q =
             let n : isNode (r .place) ≡ false = not-t (isNode (r .place)) (and-l (not (isNode (r .place))) (isEnd (r .kind) || some (r .request)) q) in
             end-right vs′ (map (moved t x) rs) (placedIn x r)
-            (rw (ended n, lent n) (may-be vs rs r (and-r (not (isNode (r .place))) (isEnd (r .kind) || some (r .request)) q) e))
+            (rw (ended n, lent n) (may-be vs rs r (and-r (not (isNode (r .place))) (isEnd (r .kind) || some (r .request)) q) (shape vs r rs e)))
         pick false q = stayed ∙ e
 
     pub sources-moved : (vs vs′ : List Request) (rs : List Row) → all (mayMove t) rs ≡ true → ((r : Row) → copyListed vs r ≡ true → requestOf vs′ (r .request) .port ≡ requestOf vs (r .request) .port)

@@ -16,10 +16,12 @@ use Rattle.rows.specs.Tables.{State, rowOf, isListed, depthOver}
 use Rattle.rows.specs.Sound.{objectInRange, rightInRange, isOpening, isRegistered, isHeld, isPortEnd, sourceRight, copyMatches, isPairedWith, otherEnd, endPaired}
 use Rattle.rows.proofs.Bools.{and-i, or-l, or-r, not-f, eqb-self}
 use Rattle.rows.proofs.Sound.{Sound}
+use Rattle.rows.proofs.SoundFacts.{row-below, next-some, clist-not-system, clist-in-range, row-object, manager-listed, clist-there}
+use Rattle.rows.proofs.Places.{clist-not-node}
 use Rattle.calls.specs.Rules.{notHeld, tooDeep, rowsFull, numbersSpent}
 use Rattle.calls.specs.Calls.{made, portEnd, withPort, doPort, doComes}
-use Rattle.calls.proofs.AddRow.{unless, row-there, row-below, next-some, row-before, New, Added, added-none, added-one, added-sound, rows-room, numbers-room}
-use Rattle.calls.proofs.Stand.{clist-no-row, clist-not-node, clist-not-system, clist-in-range, row-object, manager-listed, depth-is}
+use Rattle.calls.proofs.AddRow.{unless, row-before, New, Added, added-none, added-one, added-sound, rows-room, numbers-room}
+use Rattle.calls.proofs.Stand.{depth-is}
 
 -- an end from operation row e is a new row
 module _ (st : State) (s : Sound st) (rs : List Row) (e d : ℕ) where
@@ -66,7 +68,7 @@ module _ (st : State) (s : Sound st) (p : ℕ) (l : isListed (st .processes) p �
   port-rows e h k t f m =
       let rs = st .rows in
       let n = st .next in
-      let there = row-there (λ r. eqb (r .place) (inClist p)) (clist-no-row p) rs e h in
+      let there = clist-there rs p e h in
       let d = depthOver rs e 0 in
       let manager = rowOf rs e .object in
       let client = portEnd clientEnd n n (inClist p) e d in
@@ -81,7 +83,7 @@ module _ (st : State) (s : Sound st) (p : ℕ) (l : isListed (st .processes) p �
       let two : Added st (server ∷ client ∷ []) (suc (suc n)) =
       added-one st (client ∷ []) (suc n) server (omega arith) (omega arith)
       (end-new st s (client ∷ rs) e d serverEnd (suc n) n manager refl (server-object (st .processes) n (inClist manager) e d)
-      (manager-listed (st .processes) (rowOf rs e) k (row-object st s e there)) (rw at-e k) (rw (at-e, at-0) refl) t)
+      (manager-listed (st .processes) (rowOf rs e) (row-object st s e there) k) (rw at-e k) (rw (at-e, at-0) refl) t)
       one in
       added-sound st s (server ∷ client ∷ []) (suc (suc n)) two (ends-pair n (inClist p) (inClist manager) e d rs)
 

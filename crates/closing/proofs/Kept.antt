@@ -15,8 +15,10 @@ use Rattle.rows.specs.Tables.{State, rowOf, marked, bears}
 use Rattle.rows.specs.Sound.{nextInRange, isPairedWith, otherEnd}
 use Rattle.rows.proofs.Bools.{clash, and-l, and-r, some-pos, member-cases}
 use Rattle.rows.proofs.Sound.{Sound}
+use Rattle.rows.proofs.SoundFacts.{row-number, paired-at}
+use Rattle.rows.proofs.RowSources.{end-there}
 use Rattle.closing.specs.Closing.{closes, settled, closing, closeRequest, isEndOf, closePort, isRow, dropRow}
-use Rattle.closing.proofs.KeptFacts.{Stands, row-number, end-at, end-stands, paired-at}
+use Rattle.closing.proofs.KeptFacts.{Stands, end-at}
 use Rattle.closing.proofs.KeptMarks.{Closed, Closable, closable-closed}
 use Rattle.closing.proofs.KeptLookups.{rows-rise-kept}
 use Rattle.closing.proofs.KeptProcesses.{records-fit-kept, records-in-range-kept}
@@ -77,7 +79,7 @@ module _ (st : State) (s : Sound st) where
       let p : isPairedWith r o ≡ true = paired-at st s n t k in
       let e : isEnd (o .kind) ≡ true = and-l (isEnd (o .kind)) (eqb (r .object) (o .object) && eqb (r .source) (o .source)) p in
       record {
-        stands = end-stands st (otherEnd r) e;
+        stands = end-there (st .rows) (otherEnd r) e;
         is-end = e;
         port = eqb-true _ _ (and-l (eqb (r .object) (o .object)) (eqb (r .source) (o .source)) (and-r (isEnd (o .kind)) (eqb (r .object) (o .object) && eqb (r .source) (o .source)) p));
       }
@@ -107,7 +109,7 @@ module _ (st : State) (s : Sound st) where
   drop-kept e h = closing-kept (isRow e) [] st s (record { pairs = pairs; bearing = λ n t m. clash m refl })
     where
       other : (n : ℕ) → Stands st n → isEnd (rowOf (st .rows) n .kind) ≡ true → isRow e (rowOf (st .rows) n) ≡ false
-      other n t k = ne-eqb (rowOf (st .rows) n .number) e (λ z. clash (ap (λ m. isEnd (rowOf (st .rows) m .kind)) (sym z ∙ row-number st n t) ∙ k) h)
+      other n t k = ne-eqb (rowOf (st .rows) n .number) e (λ z. clash (ap (λ m. isEnd (rowOf (st .rows) m .kind)) (sym z ∙ row-number (st .rows) n t) ∙ k) h)
 
       pairs : (n : ℕ) → Stands st n → isEnd (rowOf (st .rows) n .kind) ≡ true → isRow e (rowOf (st .rows) n) ≡ isRow e (rowOf (st .rows) (otherEnd (rowOf (st .rows) n)))
       pairs n t k = other n t k ∙ sym (other (otherEnd (rowOf (st .rows) n)) (pair-at n t k .stands) (pair-at n t k .is-end))

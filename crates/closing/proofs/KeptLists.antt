@@ -8,34 +8,21 @@ use lib.Dec.{eqb}
 use lib.ListN.{length}
 use borrow.Author.Tests.{eqb-true, ne-eqb}
 use native.Mathlib.Omega.{arith}
-use Rattle.rows.specs.Lists.{filter, any, all, each, firstWith, topOf, rises, member, distinct, some, nonzero}
-use Rattle.rows.proofs.Bools.{false-of, clash, and-l, and-r, and-i, not-t, or-l, or-r, or-map, eqb-self, some-pos, member-here, member-there}
+use Rattle.rows.specs.Lists.{filter, any, each, firstWith, topOf, rises, member, distinct, some, nonzero}
+use Rattle.rows.proofs.Bools.{false-of, clash, and-l, and-r, and-i, not-t, or-r, or-map, eqb-self, some-pos, member-here, member-there}
 use Rattle.rows.proofs.Keyed.{rises-rest, rises-first, rises-cons, rises-older, olderOf}
+use Rattle.rows.proofs.Agree.{first-here, first-older}
+use Rattle.rows.proofs.Lists.{member-nonzero}
 
 -- ---- a list with rising keys is told by what look-up finds
 module _ {A : Type 0} (key : A → ℕ) where
   module _ (none : A) where
-    pub first-here : (x : A) (xs : List A) → firstWith key none (x ∷ xs) (key x) ≡ x
-    unfolding firstWith
-    first-here x xs = rw (eqb-self (key x)) refl
-
-    pub first-rest : (x : A) (xs : List A) → rises key (x ∷ xs) ≡ true → (n : ℕ) → member n (map key xs) ≡ true → firstWith key none (x ∷ xs) n ≡ firstWith key none xs n
-    unfolding firstWith
-    first-rest x xs e n t = let h : n < key x = rises-older key x xs e n t in rw (ne-eqb (key x) n (λ p. omega arith)) refl
-
-    pub all-of-first : (P : A → Bool) (xs : List A) → rises key xs ≡ true → ((n : ℕ) → member n (map key xs) ≡ true → P (firstWith key none xs n) ≡ true) → all P xs ≡ true
-    unfolding all
-    all-of-first P [] e h = refl
-    all-of-first P (x ∷ xs) e h =
-        and-i (P x) (all P xs) (ap P (sym (first-here x xs)) ∙ h (key x) (member-here (key x) (map key xs)))
-        (all-of-first P xs (rises-rest key x xs e) (λ n t. ap P (sym (first-rest x xs e n t)) ∙ h n (member-there n (key x) (map key xs) t)))
-
     pub each-of-first : (F : A → List A → Bool) (xs : List A) → rises key xs ≡ true
         → ((n : ℕ) → member n (map key xs) ≡ true → F (firstWith key none xs n) (olderOf key xs n) ≡ true) → each F xs ≡ true
     unfolding each
     each-of-first F [] e h = refl
     each-of-first F (x ∷ xs) e h =
-        and-i (F x xs) (each F xs) (ap (λ y. F y xs) (sym (first-here x xs)) ∙ ap (F (firstWith key none (x ∷ xs) (key x))) (sym here) ∙ h (key x) (member-here (key x) (map key xs)))
+        and-i (F x xs) (each F xs) (ap (λ y. F y xs) (sym (first-here key none x xs)) ∙ ap (F (firstWith key none (x ∷ xs) (key x))) (sym here) ∙ h (key x) (member-here (key x) (map key xs)))
         (each-of-first F xs (rises-rest key x xs e) rest)
       where
         here : olderOf key (x ∷ xs) (key x) ≡ xs
@@ -45,7 +32,7 @@ module _ {A : Type 0} (key : A → ℕ) where
         there n t = let lt : n < key x = rises-older key x xs e n t in unfold olderOf in rw (ne-eqb (key x) n (λ p. omega arith)) refl
 
         rest : (n : ℕ) → member n (map key xs) ≡ true → F (firstWith key none xs n) (olderOf key xs n) ≡ true
-        rest n t = subst (λ ys. F (firstWith key none xs n) ys ≡ true) (there n t) (subst (λ y. F y (olderOf key (x ∷ xs) n) ≡ true) (first-rest x xs e n t) (h n (member-there n (key x) (map key xs) t)))
+        rest n t = subst (λ ys. F (firstWith key none xs n) ys ≡ true) (there n t) (subst (λ y. F y (olderOf key (x ∷ xs) n) ≡ true) (first-older key none x xs n (rises-older key x xs e n t)) (h n (member-there n (key x) (map key xs) t)))
 
     -- one that passes is found
     pub any-first : (P : A → Bool) (xs : List A) → rises key xs ≡ true → any P xs ≡ true → (n : ℕ) × (member n (map key xs) ≡ true) × (P (firstWith key none xs n) ≡ true)
@@ -55,8 +42,8 @@ module _ {A : Type 0} (key : A → ℕ) where
       where
         pick : (any P xs ≡ true → (n : ℕ) × (member n (map key xs) ≡ true) × (P (firstWith key none xs n) ≡ true)) → (b : Bool) → P x ≡ b → b || any P xs ≡ true
             → (n : ℕ) × (member n (map key (x ∷ xs)) ≡ true) × (P (firstWith key none (x ∷ xs) n) ≡ true)
-        pick ih true q t = (key x, member-here (key x) (map key xs), ap P (first-here x xs) ∙ q)
-        pick ih false q t = let (n, m, p) = ih t in (n, member-there n (key x) (map key xs) m, ap P (first-rest x xs e n m) ∙ p)
+        pick ih true q t = (key x, member-here (key x) (map key xs), ap P (first-here key none x xs) ∙ q)
+        pick ih false q t = let (n, m, p) = ih t in (n, member-there n (key x) (map key xs) m, ap P (first-older key none x xs n (rises-older key x xs e n m)) ∙ p)
 
   -- ---- older elements are elements
   pub any-older : (P : A → Bool) (xs : List A) (n : ℕ) → any P (olderOf key xs n) ≡ true → any P xs ≡ true
@@ -84,25 +71,6 @@ module _ {A : Type 0} (key : A → ℕ) where
       pick (r, h) lt true = (rises-cons key x (filter p xs) (omega arith) r, omega arith)
       pick (r, h) lt false = (r, omega arith)
 
-  pub keys-kept : (p : A → Bool) (xs : List A) (n : ℕ) → member n (map key (filter p xs)) ≡ true → member n (map key xs) ≡ true
-  unfolding member filter
-  keys-kept p [] n t = t
-  keys-kept p (x ∷ xs) n t = pick (keys-kept p xs n) (p x) t
-    where
-      pick : (member n (map key (filter p xs)) ≡ true → member n (map key xs) ≡ true) → (b : Bool) → member n (map key (cond b (x ∷ filter p xs) (filter p xs))) ≡ true
-          → eqb n (key x) || member n (map key xs) ≡ true
-      pick ih true t = or-map (eqb n (key x)) (member n (map key (filter p xs))) (member n (map key xs)) ih t
-      pick ih false t = or-r (eqb n (key x)) (member n (map key xs)) (ih t)
-
-  pub distinct-filter : (p : A → Bool) (xs : List A) → distinct (map key xs) ≡ true → distinct (map key (filter p xs)) ≡ true
-  unfolding distinct filter
-  distinct-filter p [] e = e
-  distinct-filter p (x ∷ xs) e = pick (distinct-filter p xs (and-r (not (member (key x) (map key xs))) (distinct (map key xs)) e)) (not-t _ (and-l (not (member (key x) (map key xs))) (distinct (map key xs)) e)) (p x)
-    where
-      pick : distinct (map key (filter p xs)) ≡ true → member (key x) (map key xs) ≡ false → (b : Bool) → distinct (map key (cond b (x ∷ filter p xs) (filter p xs))) ≡ true
-      pick ih fr true = rw (ih, false-of (member (key x) (map key (filter p xs))) (λ t. clash (keys-kept p xs (key x) t) fr)) refl
-      pick ih fr false = ih
-
 -- keys alone tell whether they rise
 pub rises-keys : {A : Type 0} (key : A → ℕ) (xs ys : List A) → map key xs ≡ map key ys → rises key xs ≡ rises key ys
 unfolding rises topOf
@@ -117,26 +85,7 @@ rises-keys key xs ys e = of-keys xs ∙ ap (rises (λ n. n)) e ∙ sym (of-keys 
     of-keys (z ∷ zs) = rw (of-keys zs, top-keys zs) refl
 
 -- ---- all, each, length
-pub all-of-member : (f : ℕ → Bool) (ns : List ℕ) → ((n : ℕ) → member n ns ≡ true → f n ≡ true) → all f ns ≡ true
-unfolding all
-all-of-member f [] h = refl
-all-of-member f (n ∷ ns) h = and-i (f n) (all f ns) (h n (member-here n ns)) (all-of-member f ns (λ m t. h m (member-there m n ns t)))
-
-pub any-of-member : (f : ℕ → Bool) (ns : List ℕ) (n : ℕ) → member n ns ≡ true → f n ≡ true → any f ns ≡ true
-unfolding any member
-any-of-member f [] n t h = t
-any-of-member f (m ∷ ns) n t h = pick (any-of-member f ns n) (eqb n m) refl t
-  where
-    pick : (member n ns ≡ true → f n ≡ true → any f ns ≡ true) → (b : Bool) → eqb n m ≡ b → b || member n ns ≡ true → f m || any f ns ≡ true
-    pick ih true q t = or-l (f m) (any f ns) (ap f (sym (eqb-true n m q)) ∙ h)
-    pick ih false q t = or-r (f m) (any f ns) (ih t h)
-
 module _ {A : Type 0} where
-  pub all-map : (h : A → A) (P Q : A → Bool) → ((x : A) → P x ≡ true → Q (h x) ≡ true) → (xs : List A) → all P xs ≡ true → all Q (map h xs) ≡ true
-  unfolding all
-  all-map h P Q k [] e = refl
-  all-map h P Q k (x ∷ xs) e = and-i (Q (h x)) (all Q (map h xs)) (k x (and-l (P x) (all P xs) e)) (all-map h P Q k xs (and-r (P x) (all P xs) e))
-
   pub length-filter : (p : A → Bool) (xs : List A) → length (filter p xs) ≤ length xs
   unfolding filter
   length-filter p [] = omega arith
@@ -178,21 +127,6 @@ module _ (t : ℕ → Bool) where
       pick : (any P (trim is) ≡ true → any P is ≡ true) → (b : Bool) → P (cond b 0 x) || any P (trim is) ≡ true → P x || any P is ≡ true
       pick ih true e = or-r (P x) (any P is) (ih (rw z at e))
       pick ih false e = or-map (P x) (any P (trim is)) (any P is) ih e
-
-pub member-nonzero : (is : List ℕ) (n : ℕ) → member n (nonzero is) ≡ some n && member n is
-unfolding nonzero filter member
-member-nonzero [] n = none (some n)
-  where
-    none : (a : Bool) → false ≡ a && false
-    none true = refl
-    none false = refl
-member-nonzero (x ∷ is) n = pick (member-nonzero is n) (some x) refl (eqb n x) refl
-  where
-    pick : member n (nonzero is) ≡ some n && member n is → (b : Bool) → some x ≡ b → (c : Bool) → eqb n x ≡ c → member n (cond b (x ∷ nonzero is) (nonzero is)) ≡ some n && (c || member n is)
-    pick ih true p true q = rw (q, ap some (eqb-true n x q) ∙ p) refl
-    pick ih true p false q = rw q ih
-    pick ih false p true q = let z : some n ≡ false = ap some (eqb-true n x q) ∙ p in rw z (ih ∙ ap (λ b. b && member n is) z)
-    pick ih false p false q = ih
 
 pub distinct-trim : (t : ℕ → Bool) (is : List ℕ) → distinct (nonzero is) ≡ true → distinct (nonzero (trim t is)) ≡ true
 unfolding trim nonzero filter distinct some

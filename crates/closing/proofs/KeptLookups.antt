@@ -10,12 +10,14 @@ use Rattle.rows.specs.declared.Row.{Row}
 use Rattle.rows.specs.declared.Request.{Request}
 use Rattle.rows.specs.Lists.{any, all, each, filter, member, rises, some}
 use Rattle.rows.specs.Codes.{inClist}
-use Rattle.rows.specs.Tables.{State, noRow, noRequest, rowOf, requestOf, lists}
+use Rattle.rows.specs.Tables.{State, noRow, noRequest, rowOf, requestOf, lists, numbers}
 use Rattle.rows.specs.Sound.{rowsRise}
-use Rattle.rows.proofs.Bools.{clash, and-l, and-r, and-i, not-t, or-fl, or-fr, any-none, member-cases}
+use Rattle.rows.proofs.Bools.{clash, and-l, and-r, and-i, not-t, or-fl, or-fr, any-none, member-cases, and-rf}
 use Rattle.rows.proofs.Keyed.{first-map, first-filter, keys-map, keys-filter, all-first, each-first, rises-map, rises-rest, older-first, olderOf}
+use Rattle.rows.proofs.Picked.{all-found}
+use Rattle.rows.proofs.Lists.{picked-sub}
 use Rattle.closing.specs.Closing.{oldestListing, placedIn, returned, listedIn, leaves, withItems, trimmed, remaining, settled}
-use Rattle.closing.proofs.KeptLists.{all-of-first, each-of-first, rises-filter, rises-keys, keys-kept, trim, member-trim}
+use Rattle.closing.proofs.KeptLists.{each-of-first, rises-filter, rises-keys, trim, member-trim}
 use Rattle.closing.proofs.KeptFacts.{Stands}
 
 -- ---- an item of a trimmed list
@@ -33,7 +35,7 @@ trimmed-lists f g vs v e = pick (some e) refl
 
 -- ---- the requests that stay open
 module _ (f : Request → Bool) (g : List ℕ) where
-  pub remaining-keys : (key : Request → ℕ) → ((is : List ℕ) (v : Request) → key (withItems is v) ≡ key v) → (vs : List Request) → map key (remaining f g vs) ≡ map key (filter (λ v. not (f v)) vs)
+  pub remaining-keys : {B : Type 0} (key : Request → B) → ((is : List ℕ) (v : Request) → key (withItems is v) ≡ key v) → (vs : List Request) → map key (remaining f g vs) ≡ map key (filter (λ v. not (f v)) vs)
   unfolding remaining filter trimmed
   remaining-keys key k [] = refl
   remaining-keys key k (v ∷ vs) = pick (remaining-keys key k vs) (f v)
@@ -62,7 +64,7 @@ module _ (f : Request → Bool) (g : List ℕ) where
   pub remaining-known : (vs : List Request) (q : ℕ) → member q (map (λ v. v .number) (remaining f g vs)) ≡ true → member q (map (λ v. v .number) vs) ≡ true
   unfolding withItems
   remaining-known vs q t =
-      keys-kept (λ v. v .number) (λ v. not (f v)) vs q (ap (member q) (sym (remaining-keys (λ v. v .number) (λ is v. refl) vs)) ∙ t)
+      picked-sub (λ v. v .number) (λ v. not (f v)) vs q (ap (member q) (sym (remaining-keys (λ v. v .number) (λ is v. refl) vs)) ∙ t)
 
   -- a request that does not close is found trimmed
   pub request-after : (vs : List Request) → rises (λ v. v .number) vs ≡ true → (q : ℕ) → member q (map (λ v. v .number) vs) ≡ true → f (requestOf vs q) ≡ false
@@ -127,11 +129,7 @@ returned-place f vs r s h = rw (oldest-all f (r .number) (λ v. some (v .number)
 
 pub nothing-returned : (f : Request → Bool) (vs : List Request) → returned f vs noRow ≡ noRow
 unfolding noRow listedIn lists some
-nothing-returned f vs = returned-same f vs noRow (any-none (λ w. f w && lists 0 w) (λ w. none (f w)) vs)
-  where
-    none : (a : Bool) → a && false ≡ false
-    none true = refl
-    none false = refl
+nothing-returned f vs = returned-same f vs noRow (any-none (λ w. f w && lists 0 w) (λ w. and-rf (f w) false refl) vs)
 
 -- ---- the rows that are left
 module _ (g : List ℕ) (f : Request → Bool) (st : State) where
@@ -139,17 +137,17 @@ module _ (g : List ℕ) (f : Request → Bool) (st : State) where
   unfolding placedIn
   number-kept r = returned-keeps (λ r. r .number) (λ p r. refl) f (st .requests) r
 
-  pub left-keys : (n : ℕ) → member n (map (λ r. r .number) (settled g f st .rows)) ≡ member n (map (λ r. r .number) (st .rows)) && not (member n g)
-  unfolding settled
+  pub left-keys : (n : ℕ) → member n (numbers (settled g f st .rows)) ≡ member n (numbers (st .rows)) && not (member n g)
+  unfolding settled numbers
   left-keys n =
       ap (member n) (keys-map (λ r. r .number) (returned f (st .requests)) number-kept (filter (λ r. not (member (r .number) g)) (st .rows)))
       ∙ keys-filter (λ r. r .number) (λ m. not (member m g)) (st .rows) n
 
   pub left-stood : (n : ℕ) → Stands (settled g f st) n → Stands st n
-  left-stood n t = and-l (member n (map (λ r. r .number) (st .rows))) (not (member n g)) (sym (left-keys n) ∙ t)
+  left-stood n t = and-l (member n (numbers (st .rows))) (not (member n g)) (sym (left-keys n) ∙ t)
 
   left-not-gone : (n : ℕ) → Stands (settled g f st) n → member n g ≡ false
-  left-not-gone n t = not-t (member n g) (and-r (member n (map (λ r. r .number) (st .rows))) (not (member n g)) (sym (left-keys n) ∙ t))
+  left-not-gone n t = not-t (member n g) (and-r (member n (numbers (st .rows))) (not (member n g)) (sym (left-keys n) ∙ t))
 
   pub row-after : (n : ℕ) → member n g ≡ false → rowOf (settled g f st .rows) n ≡ returned f (st .requests) (rowOf (st .rows) n)
   unfolding settled rowOf
@@ -167,8 +165,8 @@ module _ (g : List ℕ) (f : Request → Bool) (st : State) where
   pub all-left : (P Q : Row → Bool) → rowsRise st ≡ true
       → ((n : ℕ) → Stands st n → member n g ≡ false → P (rowOf (st .rows) n) ≡ true → Q (returned f (st .requests) (rowOf (st .rows) n)) ≡ true)
       → all P (st .rows) ≡ true → all Q (settled g f st .rows) ≡ true
-  unfolding rowsRise rowOf
-  all-left P Q e h a = all-of-first (λ r. r .number) noRow Q (settled g f st .rows) (rows-rise-kept e) at-row
+  unfolding rowsRise rowOf numbers
+  all-left P Q e h a = all-found (λ r. r .number) noRow Q (settled g f st .rows) (rows-rise-kept e) at-row
     where
       at-row : (n : ℕ) → Stands (settled g f st) n → Q (rowOf (settled g f st .rows) n) ≡ true
       at-row n t =
@@ -179,7 +177,7 @@ module _ (g : List ℕ) (f : Request → Bool) (st : State) where
       → ((n : ℕ) → Stands st n → member n g ≡ false → F (rowOf (st .rows) n) (olderOf (λ r. r .number) (st .rows) n) ≡ true
       → H (returned f (st .requests) (rowOf (st .rows) n)) (olderOf (λ r. r .number) (settled g f st .rows) n) ≡ true)
       → each F (st .rows) ≡ true → each H (settled g f st .rows) ≡ true
-  unfolding rowsRise rowOf
+  unfolding rowsRise rowOf numbers
   each-left F H e h a = each-of-first (λ r. r .number) noRow H (settled g f st .rows) (rows-rise-kept e) at-row
     where
       at-row : (n : ℕ) → Stands (settled g f st) n → H (rowOf (settled g f st .rows) n) (olderOf (λ r. r .number) (settled g f st .rows) n) ≡ true
@@ -189,11 +187,11 @@ module _ (g : List ℕ) (f : Request → Bool) (st : State) where
 
   -- a row older than n is found among the older ones as in the whole table, before and after
   pub older-before : rowsRise st ≡ true → (n m : ℕ) → Stands st n → m < n → rowOf (olderOf (λ r. r .number) (st .rows) n) m ≡ rowOf (st .rows) m
-  unfolding rowsRise rowOf
+  unfolding rowsRise rowOf numbers
   older-before e n m t lt = older-first (λ r. r .number) noRow (st .rows) e n t m lt
 
   pub older-after : rowsRise st ≡ true → (n m : ℕ) → Stands st n → member n g ≡ false → m < n → member m g ≡ false
       → rowOf (olderOf (λ r. r .number) (settled g f st .rows) n) m ≡ returned f (st .requests) (rowOf (st .rows) m)
-  unfolding rowsRise rowOf
+  unfolding rowsRise rowOf numbers
   older-after e n m t h lt k =
       older-first (λ r. r .number) noRow (settled g f st .rows) (rows-rise-kept e) n (left-keys n ∙ and-i _ _ t (ap not h)) m lt ∙ row-after m k

@@ -1,30 +1,32 @@
 -- Places: only ends are moved by a return, to a listed process; the system holds what awaits a fetch; each process is where it may be.
-use Prim.Native.Nat.{ℕ, _+_, _-_}
+use Prim.Native.Nat.{ℕ, _-_}
 use mathlib.Core.Bool.{Bool, true, false, not, cond, _&&_, _||_}
 use mathlib.Core.List.{List, [], _∷_, map}
 use mathlib.Core.Path.{_≡_, refl, sym, ap, _∙_, subst}
 use mathlib.Core.Logic.{⊎-elim}
-use lib.Dec.{leb, ltb, eqb}
-use lib.ListN.{length}
-use borrow.Author.Tests.{eqb-true, ne-eqb, le-leb, lt-leb}
-use native.Mathlib.Omega.{arith}
+use lib.Dec.{ltb, eqb}
+use borrow.Author.Tests.{eqb-true}
 use Rattle.rows.specs.declared.Row.{Row}
 use Rattle.rows.specs.declared.Request.{Request}
 use Rattle.rows.specs.declared.Process.{Process}
-use Rattle.rows.specs.Lists.{any, all, each, firstWith, member, some, between}
-use Rattle.rows.specs.Limits.{processes, nodes}
-use Rattle.rows.specs.Codes.{isEnd, isClient, isServer, isSubdirectory, clientEnd, serverEnd, subdirectory, isNode, isClist, isSystem, inClist, ownerOf, withSystem}
-use Rattle.rows.specs.Tables.{State, noRow, noRequest, rowOf, requestOf, isListed, lists}
-use Rattle.rows.specs.Sound.{requestsRise, recordsFit, placeInRange, placesInRange, mayBeListed, isFetched, olderFetchedBy, olderFetched, awaitsFetch, same, systemHolds, processesPlaced, requestersListed}
-use Rattle.rows.proofs.Bools.{false-of, clash, and-l, and-r, and-i, not-t, or-cases, or-r, or-fl, or-fr, or-map, all-mono, pos-some, true-or-false}
-use Rattle.rows.proofs.Keyed.{first-key, first-none, rises-range}
+use Rattle.rows.specs.Lists.{any, all, each, member, some}
+use Rattle.rows.specs.Limits.{processes}
+use Rattle.rows.specs.Codes.{isEnd, isClient, isServer, isSubdirectory, clientEnd, serverEnd, subdirectory, isNode, isClist, isSystem, inClist, ownerOf}
+use Rattle.rows.specs.Tables.{State, noRow, noRequest, rowOf, requestOf, isListed, lists, numbers}
+use Rattle.rows.specs.Sound.{requestsRise, placeInRange, placesInRange, mayBeListed, isFetched, olderFetchedBy, olderFetched, awaitsFetch, same, systemHolds, processesPlaced, requestersListed}
+use Rattle.rows.proofs.Bools.{false-of, clash, and-l, and-r, not-t, or-cases, or-r, or-fl, or-fr, or-map, all-mono, true-or-false, and-rf, and-true}
+use Rattle.rows.proofs.Keyed.{first-none}
 use Rattle.rows.proofs.Sound.{Sound}
+use Rattle.rows.proofs.Lists.{any-at}
+use Rattle.rows.proofs.SoundFacts.{row-number, clist-not-system, clist-owned, requests-between}
+use Rattle.rows.proofs.RowSources.{kind-there}
+use Rattle.rows.proofs.Places.{clist-not-node}
 use Rattle.closing.specs.Closing.{oldestListing, placedIn, returned, listedIn, leaves, homed, withItems, trimmed, remaining, settled}
-use Rattle.closing.proofs.KeptLists.{all-of-first, any-first, any-of-member}
-use Rattle.closing.proofs.KeptFacts.{Stands, IsOpen, row-number, end-at, kind-stands, request-number, listed-right}
+use Rattle.closing.proofs.KeptLists.{any-first}
+use Rattle.closing.proofs.KeptFacts.{Stands, IsOpen, end-at, request-number, listed-right}
 use Rattle.closing.proofs.KeptMarks.{Closed}
 use Rattle.closing.proofs.KeptLookups.{trimmed-lists, all-remaining, returned-keeps, returned-same, oldest-all, returned-place, nothing-returned, row-after, all-left}
-use Rattle.closing.proofs.KeptProcesses.{listed-kept, listed-range, placed-kept}
+use Rattle.closing.proofs.KeptProcesses.{listed-kept, placed-kept}
 
 -- ---- whose newest request is not fetched
 module _ (f : Request → Bool) (g : List ℕ) (n : ℕ) where
@@ -35,12 +37,8 @@ module _ (f : Request → Bool) (g : List ℕ) (n : ℕ) where
   awaits-same k (v ∷ vs) h = pick (awaits-same k vs (or-fr (f v && lists n v) (listedIn f vs n) h)) (f v) refl (or-fl (f v && lists n v) (listedIn f vs n) h)
     where
       listed : lists n (trimmed f g vs v) ≡ lists n v
-      listed = trimmed-lists f g vs v n ∙ ap (λ b. lists n v && not b) stays ∙ right (lists n v)
+      listed = trimmed-lists f g vs v n ∙ ap (λ b. lists n v && not b) stays ∙ and-true (lists n v)
         where
-          right : (b : Bool) → b && true ≡ b
-          right true = refl
-          right false = refl
-
           stays : leaves f g vs n ≡ false
           stays = ap (λ b. b || listedIn f vs n) k ∙ or-fr (f v && lists n v) (listedIn f vs n) h
 
@@ -69,10 +67,6 @@ module _ (f : Request → Bool) (g : List ℕ) (n : ℕ) where
   awaits-returned [] o h = clash h refl
   awaits-returned (v ∷ vs) o h = pick (awaits-returned vs (and-r (olderFetchedBy v vs) (each olderFetchedBy vs) o)) (f v) (listedIn f vs n) refl h
     where
-      none : (a : Bool) → a && false ≡ false
-      none true = refl
-      none false = refl
-
       fewer : (ws : List Request) (w : Request) → f w ≡ false → isFetched w || not (lists n w) ≡ true → isFetched (trimmed f g ws w) || not (lists n (trimmed f g ws w)) ≡ true
       fewer ws w q e =
           let fetched : isFetched (trimmed f g ws w) ≡ isFetched w = unfold isFetched trimmed withItems in refl in
@@ -87,13 +81,13 @@ module _ (f : Request → Bool) (g : List ℕ) (n : ℕ) where
           (unfold olderFetchedBy in and-l (olderFetchedBy v vs) (each olderFetchedBy vs) o)
         where
           contra : (w : Request) → not (any (λ e. lists e w) (v .items)) ≡ true → not (lists n w) ≡ true
-          contra w e = ap not (false-of (lists n w) (λ m. clash (any-of-member (λ e. lists e w) (v .items) n (unfold lists in and-r (some n) (member n (v .items)) l) m) (not-t _ e)))
+          contra w e = ap not (false-of (lists n w) (λ m. clash (any-at (λ e. lists e w) (v .items) n (unfold lists in and-r (some n) (member n (v .items)) l) m) (not-t _ e)))
 
       pick : (listedIn f vs n ≡ true → awaitsFetch (remaining f g vs) n ≡ false) → (a b : Bool) → listedIn f vs n ≡ b → (a && lists n v) || b ≡ true
           → awaitsFetch (cond a (remaining f g vs) (trimmed f g vs v ∷ remaining f g vs)) n ≡ false
       pick ih true true q h = ih q
       pick ih true false q h = awaits-none (remaining f g vs) (all-remaining f g (λ w. isFetched w || not (lists n w)) (λ w. isFetched w || not (lists n w)) fewer vs (others-fetched (⊎-elim (λ l. l) (λ z. clash z refl) (or-cases (lists n v) false h))))
-      pick ih false true q h = skips (trimmed f g vs v) (remaining f g vs) (trimmed-lists f g vs v n ∙ ap (λ b. lists n v && not b) (or-r (member n g) (listedIn f vs n) q) ∙ none (lists n v)) ∙ ih q
+      pick ih false true q h = skips (trimmed f g vs v) (remaining f g vs) (trimmed-lists f g vs v n ∙ ap (λ b. lists n v && not b) (or-r (member n g) (listedIn f vs n) q) ∙ and-rf (lists n v) false refl) ∙ ih q
       pick ih false false q h = clash h refl
 
 -- ---- the c-list of a listed process
@@ -103,24 +97,12 @@ record Clist (ps : List Process) (place : ℕ) : Type 0 where
   pub no-system : isSystem place ≡ false
   pub owned : isClist place && isListed ps (ownerOf place) ≡ true
 
-clist : (ps : List Process) → length ps ≡ 64 → (p : ℕ) → isListed ps p ≡ true → Clist ps (inClist p)
-unfolding isNode isSystem isClist inClist ownerOf withSystem between processes nodes
-clist ps l p h =
-    let (lo, hi) = listed-range ps p h in
-    let owner : 100 + p - 100 ≡ p = omega arith in
-    record {
-      no-node = false-of _ (λ t. clash (and-r (leb 1 (100 + p)) (leb (100 + p) 32) t) (lt-leb (100 + p) 32 (omega arith)));
-      no-system = ne-eqb (100 + p) 200 (λ z. omega arith);
-      owned = and-i _ _ (and-i _ _ (le-leb 101 (100 + p) (omega arith)) (le-leb (100 + p) 164 (omega arith))) (ap (isListed ps) owner ∙ h);
-    }
+clist : (st : State) → Sound st → (p : ℕ) → isListed (st .processes) p ≡ true → Clist (st .processes) (inClist p)
+clist st s p l = record { no-node = clist-not-node p; no-system = clist-not-system st s p l; owned = clist-owned st s p l }
 
 module _ (g : List ℕ) (f : Request → Bool) (st : State) (s : Sound st) (c : Closed g f st) where
   requests-positive : all (λ v. some (v .number)) (st .requests) ≡ true
-  unfolding requestsRise
-  requests-positive = all-of-first (λ v. v .number) noRequest (λ v. some (v .number)) (st .requests) (s .requests-rise) at-request
-    where
-      at-request : (q : ℕ) → IsOpen st q → some (firstWith (λ v. v .number) noRequest (st .requests) q .number) ≡ true
-      at-request q t = ap some (first-key (λ v. v .number) noRequest (st .requests) q t) ∙ pos-some q (rises-range (λ v. v .number) (st .requests) (s .requests-rise) q t .0)
+  requests-positive = all-mono (λ v. some (v .number) && ltb (v .number) (st .next)) (λ v. some (v .number)) (λ v e. and-l (some (v .number)) (ltb (v .number) (st .next)) e) (st .requests) (requests-between st s)
 
   -- ---- only ends are returned
   pub listed-end : (n : ℕ) → Stands st n → member n g ≡ false → listedIn f (st .requests) n ≡ true → isEnd (rowOf (st .rows) n .kind) ≡ true
@@ -145,27 +127,27 @@ module _ (g : List ℕ) (f : Request → Bool) (st : State) (s : Sound st) (c : 
 
   -- what no closing request lists is as it was
   unlisted-same : (n : ℕ) → Stands st n → listedIn f (st .requests) n ≡ false → returned f (st .requests) (rowOf (st .rows) n) ≡ rowOf (st .rows) n
-  unlisted-same n t h = returned-same f (st .requests) (rowOf (st .rows) n) (ap (listedIn f (st .requests)) (row-number st n t) ∙ h)
+  unlisted-same n t h = returned-same f (st .requests) (rowOf (st .rows) n) (ap (listedIn f (st .requests)) (row-number (st .rows) n t) ∙ h)
 
   pub no-end-same : (n : ℕ) → Stands st n → member n g ≡ false → isEnd (rowOf (st .rows) n .kind) ≡ false → returned f (st .requests) (rowOf (st .rows) n) ≡ rowOf (st .rows) n
   no-end-same n t k e = unlisted-same n t (false-of _ (λ h. clash (listed-end n t k h) e))
 
   -- what one lists is in the c-list of a listed process
   listed-clist : (n : ℕ) → Stands st n → listedIn f (st .requests) n ≡ true → Clist (st .processes) (returned f (st .requests) (rowOf (st .rows) n) .place)
-  unfolding requestersListed recordsFit processes
+  unfolding requestersListed
   listed-clist n t h =
-      let l : listedIn f (st .requests) (rowOf (st .rows) n .number) ≡ true = ap (listedIn f (st .requests)) (row-number st n t) ∙ h in
+      let l : listedIn f (st .requests) (rowOf (st .rows) n .number) ≡ true = ap (listedIn f (st .requests)) (row-number (st .rows) n t) ∙ h in
       let asker : isListed (st .processes) (oldestListing f (rowOf (st .rows) n .number) (st .requests) .asker) ≡ true =
       oldest-all f (rowOf (st .rows) n .number) (λ v. isListed (st .processes) (v .asker)) (st .requests) requests-positive (s .requesters-listed) l in
       subst (Clist (st .processes)) (sym (returned-place f (st .requests) (rowOf (st .rows) n) requests-positive l))
-      (clist (st .processes) (eqb-true (length (st .processes)) 64 (s .records-fit)) (oldestListing f (rowOf (st .rows) n .number) (st .requests) .asker) asker)
+      (clist st s (oldestListing f (rowOf (st .rows) n .number) (st .requests) .asker) asker)
 
   -- a row is in a node if it was
   pub node-kept : (n : ℕ) → member n g ≡ false → isNode (returned f (st .requests) (rowOf (st .rows) n) .place) ≡ isNode (rowOf (st .rows) n .place)
-  unfolding rowOf
-  node-kept n k = ⊎-elim stands (λ e. ap (λ r. isNode (r .place)) (absent e)) (true-or-false (member n (map (λ r. r .number) (st .rows))))
+  unfolding rowOf numbers
+  node-kept n k = ⊎-elim stands (λ e. ap (λ r. isNode (r .place)) (absent e)) (true-or-false (member n (numbers (st .rows))))
     where
-      absent : member n (map (λ r. r .number) (st .rows)) ≡ false → returned f (st .requests) (rowOf (st .rows) n) ≡ rowOf (st .rows) n
+      absent : member n (numbers (st .rows)) ≡ false → returned f (st .requests) (rowOf (st .rows) n) ≡ rowOf (st .rows) n
       absent e =
           let z : rowOf (st .rows) n ≡ noRow = first-none (λ r. r .number) noRow (st .rows) n e in
           ap (returned f (st .requests)) z ∙ nothing-returned f (st .requests) ∙ sym z
@@ -199,7 +181,7 @@ module _ (g : List ℕ) (f : Request → Bool) (st : State) (s : Sound st) (c : 
       R n = returned f (st .requests) (rowOf (st .rows) n)
 
       number : (n : ℕ) → Stands st n → R n .number ≡ n
-      number n t = returned-keeps (λ r. r .number) (unfold placedIn in λ p r. refl) f (st .requests) (rowOf (st .rows) n) ∙ row-number st n t
+      number n t = returned-keeps (λ r. r .number) (unfold placedIn in λ p r. refl) f (st .requests) (rowOf (st .rows) n) ∙ row-number (st .rows) n t
 
       at-row : (n : ℕ) → Stands st n → member n g ≡ false → same (isSystem (rowOf (st .rows) n .place)) (awaitsFetch (st .requests) (rowOf (st .rows) n .number)) ≡ true
           → same (isSystem (R n .place)) (awaitsFetch (remaining f g (st .requests)) (R n .number)) ≡ true
@@ -210,7 +192,7 @@ module _ (g : List ℕ) (f : Request → Bool) (st : State) (s : Sound st) (c : 
           ap (λ x. same x (awaitsFetch (remaining f g (st .requests)) (R n .number))) a ∙ ap (same false) b ∙ (unfold same in refl))
           (λ h. let a : R n ≡ rowOf (st .rows) n = unlisted-same n t h in
           let b : awaitsFetch (remaining f g (st .requests)) (R n .number) ≡ awaitsFetch (st .requests) (rowOf (st .rows) n .number) =
-          ap (awaitsFetch (remaining f g (st .requests))) (number n t) ∙ awaits-same f g n k (st .requests) h ∙ ap (awaitsFetch (st .requests)) (sym (row-number st n t)) in
+          ap (awaitsFetch (remaining f g (st .requests))) (number n t) ∙ awaits-same f g n k (st .requests) h ∙ ap (awaitsFetch (st .requests)) (sym (row-number (st .rows) n t)) in
           ap (same (isSystem (R n .place))) b ∙ ap (λ r. same (isSystem (r .place)) (awaitsFetch (st .requests) (rowOf (st .rows) n .number))) a ∙ e)
           (true-or-false (listedIn f (st .requests) n))
 
@@ -223,4 +205,4 @@ module _ (g : List ℕ) (f : Request → Bool) (st : State) (s : Sound st) (c : 
 
       unmoved : (n : ℕ) → member n g ≡ false → isSubdirectory (rowOf (st .rows) n .kind) ≡ true → rowOf (settled g f st .rows) n ≡ rowOf (st .rows) n
       unmoved n k e =
-          row-after g f st n k ∙ no-end-same n (kind-stands st isSubdirectory (unfold isSubdirectory subdirectory in refl) n e) k (no-end (rowOf (st .rows) n .kind) e)
+          row-after g f st n k ∙ no-end-same n (kind-there isSubdirectory (unfold isSubdirectory subdirectory in refl) (st .rows) n e) k (no-end (rowOf (st .rows) n .kind) e)

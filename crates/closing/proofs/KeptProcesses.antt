@@ -1,14 +1,12 @@
 -- The process records that closing leaves: the same processes are listed, and each is where it may be.
-use Prim.Native.Nat.{ℕ, zero, suc, _<_, _≤_}
+use Prim.Native.Nat.{ℕ, zero, suc}
 use mathlib.Core.Bool.{Bool, true, false, cond, _&&_}
 use mathlib.Core.List.{List, [], _∷_, map}
 use mathlib.Core.Path.{_≡_, refl, sym, ap, _∙_}
 use mathlib.Core.Logic.{⊎-elim}
 use lib.Dec.{eqb}
-use lib.ListN.{length, getD, length-map, List·getD-map, List·getD-eq-default}
+use lib.ListN.{length-map, List·getD-map}
 use borrow.Author.Tests.{eqb-true}
-use native.Mathlib.Omega.{arith}
-use native.Mathlib.Decide.{decLt}
 use Rattle.rows.specs.declared.Row.{Row}
 use Rattle.rows.specs.declared.Request.{Request}
 use Rattle.rows.specs.declared.Process.{Process}
@@ -17,13 +15,13 @@ use Rattle.rows.specs.Limits.{processes, nodes}
 use Rattle.rows.specs.Codes.{isSubdirectory, inClist}
 use Rattle.rows.specs.Tables.{State, noProcess, rowOf, processAt, isListed}
 use Rattle.rows.specs.Sound.{recordsFit, recordUnused, recordInRange, recordsInRange, processPlaced, placedFrom}
-use Rattle.rows.proofs.Bools.{clash, and-l, and-r, and-i, or-cases, or-l, or-r, eqb-self}
+use Rattle.rows.proofs.Bools.{clash, and-l, and-r, and-i, or-cases, or-l, or-r, eqb-self, all-mono}
+use Rattle.rows.proofs.Lists.{all-map}
 use Rattle.closing.specs.Closing.{homed, settled}
-use Rattle.closing.proofs.KeptLists.{all-map}
 
 -- ---- who is listed
 module _ (g : List ℕ) where
-  homed-prime : (x : Process) → homed g x .prime ≡ x .prime
+  pub homed-prime : (x : Process) → homed g x .prime ≡ x .prime
   unfolding homed
   homed-prime x = pick (some (x .through) && member (x .through) g)
     where
@@ -31,24 +29,14 @@ module _ (g : List ℕ) where
       pick true = refl
       pick false = refl
 
-  nobody-homed : homed g noProcess ≡ noProcess
-  unfolding homed noProcess some
-  nobody-homed = refl
+  pub homed-at : (ps : List Process) (p : ℕ) → processAt (map (homed g) ps) p ≡ homed g (processAt ps p)
+  unfolding processAt homed noProcess some
+  homed-at ps zero = refl
+  homed-at ps (suc i) = List·getD-map (homed g) ps i noProcess
 
   pub listed-kept : (ps : List Process) (p : ℕ) → isListed (map (homed g) ps) p ≡ isListed ps p
-  unfolding isListed processAt
-  listed-kept ps zero = refl
-  listed-kept ps (suc i) = ap some (ap (λ d. getD (map (homed g) ps) i d .prime) (sym nobody-homed) ∙ ap (λ x. x .prime) (List·getD-map (homed g) ps i noProcess) ∙ homed-prime (getD ps i noProcess))
-
--- a listed process is 1 or more, and has a record
-pub listed-range : (ps : List Process) (p : ℕ) → isListed ps p ≡ true → (0 < p) × (p ≤ length ps)
-unfolding isListed processAt
-listed-range ps zero h = clash h (unfold noProcess some in refl)
-listed-range ps (suc i) h = (omega arith, pick (decLt i (length ps)))
-  where
-    pick : Dec (i < length ps) → suc i ≤ length ps
-    pick (yes lt) = lt
-    pick (no ge) = let le : length ps ≤ i = omega arith in clash h (ap (λ x. some (x .prime)) (List·getD-eq-default ps noProcess le) ∙ (unfold noProcess some in refl))
+  unfolding isListed
+  listed-kept ps p = ap (λ x. some (x .prime)) (homed-at ps p) ∙ ap some (homed-prime (processAt ps p))
 
 -- ---- the records' clauses
 module _ (g : List ℕ) (f : Request → Bool) (st : State) where
@@ -58,7 +46,7 @@ module _ (g : List ℕ) (f : Request → Bool) (st : State) where
 
   pub records-in-range-kept : recordsInRange st ≡ true → recordsInRange (settled g f st) ≡ true
   unfolding recordsInRange settled homed
-  records-in-range-kept e = all-map (homed g) recordInRange recordInRange (λ x h. pick x h (some (x .through) && member (x .through) g) refl) (st .processes) e
+  records-in-range-kept e = all-map recordInRange (homed g) (st .processes) ∙ all-mono recordInRange (λ x. recordInRange (homed g x)) (λ x h. pick x h (some (x .through) && member (x .through) g) refl) (st .processes) e
     where
       used : (x : Process) → some (x .through) && member (x .through) g ≡ true → recordUnused x ≡ true → ⊥
       used x q u =

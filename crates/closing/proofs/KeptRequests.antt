@@ -15,8 +15,9 @@ use Rattle.rows.specs.Tables.{State, rowOf, numbers, isListed, lists}
 use Rattle.rows.specs.Sound.{requestsRise, numbersApart, requestsFit, fetchedInRange, portStands, portsStand, requestersListed, itemsFew, itemsApart, mayBeListed, itemsLent, onePerPort, isFetched, olderFetchedBy, olderFetched}
 use Rattle.rows.proofs.Bools.{clash, and-l, and-r, and-i, not-t, or-fl, or-map, any-mono, all-at}
 use Rattle.rows.proofs.Sound.{Sound}
+use Rattle.rows.proofs.Lists.{distinct-filter, all-of-member, member-nonzero}
 use Rattle.closing.specs.Closing.{placedIn, listedIn, leaves, homed, withItems, trimmed, remaining, settled}
-use Rattle.closing.proofs.KeptLists.{distinct-filter, length-filter, all-of-member, trim, member-trim, any-trim, member-nonzero, distinct-trim}
+use Rattle.closing.proofs.KeptLists.{length-filter, trim, member-trim, any-trim, distinct-trim}
 use Rattle.closing.proofs.KeptMarks.{Closed}
 use Rattle.closing.proofs.KeptLookups.{trimmed-lists, remaining-keys, all-remaining, remaining-rises, left-keys, row-after, returned-keeps}
 use Rattle.closing.proofs.KeptProcesses.{listed-kept}
@@ -77,13 +78,13 @@ module _ (g : List ℕ) (f : Request → Bool) (st : State) (s : Sound st) where
       le-leb (length (remaining f g (st .requests))) requestSlots (omega arith)
 
   pub numbers-apart-kept : numbersApart (settled g f st) ≡ true
-  unfolding numbersApart numbers
-  numbers-apart-kept = unfold settled in all-remaining f g (λ v. not (member (v .number) (map (λ r. r .number) (st .rows)))) (λ v. not (member (v .number) (map (λ r. r .number) (settled g f st .rows)))) at-request (st .requests) (s .numbers-apart)
+  unfolding numbersApart
+  numbers-apart-kept = unfold settled in all-remaining f g (λ v. not (member (v .number) (numbers (st .rows)))) (λ v. not (member (v .number) (numbers (settled g f st .rows)))) at-request (st .requests) (s .numbers-apart)
     where
-      apart : (n : ℕ) → not (member n (map (λ r. r .number) (st .rows))) ≡ true → not (member n (map (λ r. r .number) (settled g f st .rows))) ≡ true
-      apart n e = ap not (left-keys g f st n ∙ ap (λ b. b && not (member n g)) (not-t (member n (map (λ r. r .number) (st .rows))) e))
+      apart : (n : ℕ) → not (member n (numbers (st .rows))) ≡ true → not (member n (numbers (settled g f st .rows))) ≡ true
+      apart n e = ap not (left-keys g f st n ∙ ap (λ b. b && not (member n g)) (not-t (member n (numbers (st .rows))) e))
 
-      at-request : (vs : List Request) (v : Request) → f v ≡ false → not (member (v .number) (map (λ r. r .number) (st .rows))) ≡ true → not (member (trimmed f g vs v .number) (map (λ r. r .number) (settled g f st .rows))) ≡ true
+      at-request : (vs : List Request) (v : Request) → f v ≡ false → not (member (v .number) (numbers (st .rows))) ≡ true → not (member (trimmed f g vs v .number) (numbers (settled g f st .rows))) ≡ true
       at-request vs v q e = unfold trimmed withItems in apart (v .number) e
 
   pub fetched-in-range-kept : fetchedInRange (settled g f st) ≡ true

@@ -13,14 +13,16 @@ use Rattle.rows.specs.declared.Request.{Request}
 use Rattle.rows.specs.Lists.{filter, member, topOf, rises, some}
 use Rattle.rows.specs.Limits.{rowSlots}
 use Rattle.rows.specs.Codes.{isEnd, isOperation, isNode}
-use Rattle.rows.specs.Tables.{State, noRequest, rowOf, requestOf, depthOver, lists}
+use Rattle.rows.specs.Tables.{State, noRequest, rowOf, requestOf, depthOver, lists, numbers}
 use Rattle.rows.specs.Sound.{rowsRise, requestsRise, belowNext, rowsFit, objectInRange, objectsInRange, rightInRange, rightsInRange, isOpening, isRegistered, isHeld, isPortEnd, isLentCopy, sourceRight, sourcesRight, depthRight, depthsRight, copyMatches, copiesMatch, isPairedWith, otherEnd, endPaired, endsPaired, copyListed, copiesListed}
 use Rattle.rows.proofs.Bools.{false-of, clash, and-l, and-r, and-i, or-l, or-r, pos-some, true-or-false}
 use Rattle.rows.proofs.Keyed.{first-none, rises-range, olderOf}
 use Rattle.rows.proofs.Sound.{Sound}
+use Rattle.rows.proofs.SoundFacts.{row-number}
+use Rattle.rows.proofs.Standing.{source-lower, via-lower}
 use Rattle.closing.specs.Closing.{placedIn, returned, listedIn, leaves, homed, withItems, trimmed, remaining, settled}
 use Rattle.closing.proofs.KeptLists.{any-older, top-member, length-filter}
-use Rattle.closing.proofs.KeptFacts.{Stands, IsOpen, row-number, end-right, source-below, via-below, copy-at, copy-listed, lists-open}
+use Rattle.closing.proofs.KeptFacts.{Stands, IsOpen, end-right, copy-at, copy-listed, lists-open}
 use Rattle.closing.proofs.KeptMarks.{Closed}
 use Rattle.closing.proofs.KeptLookups.{trimmed-lists, remaining-known, remaining-rises, request-after, returned-keeps, row-after, left-stood, all-left, each-left, older-before, older-after}
 use Rattle.closing.proofs.KeptProcesses.{listed-kept}
@@ -52,7 +54,7 @@ module _ (g : List ℕ) (f : Request → Bool) (st : State) (s : Sound st) where
       le-leb (length (map (returned f (st .requests)) left)) rowSlots (omega arith)
 
   pub below-next-kept : belowNext (settled g f st) ≡ true
-  unfolding belowNext rowsRise requestsRise
+  unfolding belowNext rowsRise requestsRise numbers
   below-next-kept =
       unfold settled in and-i _ _ (lt-ltb (topOf (λ r. r .number) (settled g f st .rows)) (st .next) (rows (top-member (λ r. r .number) (settled g f st .rows))))
       (lt-ltb (topOf (λ v. v .number) (remaining f g (st .requests))) (st .next) (requests (top-member (λ v. v .number) (remaining f g (st .requests)))))
@@ -108,11 +110,11 @@ module _ (g : List ℕ) (f : Request → Bool) (st : State) (s : Sound st) (c : 
 
   of-source : {B : Type 0} (F : Row → B) → ((p : ℕ) (r : Row) → F (placedIn p r) ≡ F r) → (n : ℕ) → Stands st n → member n g ≡ false
       → F (rowOf (after n) (rowOf (st .rows) n .source)) ≡ F (rowOf (before n) (rowOf (st .rows) n .source))
-  of-source F h n t k = field F h n (rowOf (st .rows) n .source) t k (source-below st s n t) (c .source-stays n t k)
+  of-source F h n t k = field F h n (rowOf (st .rows) n .source) t k (source-lower st s n t) (c .source-stays n t k)
 
   of-via : {B : Type 0} (F : Row → B) → ((p : ℕ) (r : Row) → F (placedIn p r) ≡ F r) → (n : ℕ) → Stands st n → member n g ≡ false
       → F (rowOf (after n) (rowOf (st .rows) n .via)) ≡ F (rowOf (before n) (rowOf (st .rows) n .via))
-  of-via F h n t k = field F h n (rowOf (st .rows) n .via) t k (via-below st s n t) (c .via-stays n t k)
+  of-via F h n t k = field F h n (rowOf (st .rows) n .via) t k (via-lower st s n t) (c .via-stays n t k)
 
   pub depths-right-kept : depthsRight (settled g f st) ≡ true
   unfolding depthsRight depthRight placedIn before after
@@ -164,8 +166,8 @@ module _ (g : List ℕ) (f : Request → Bool) (st : State) (s : Sound st) (c : 
 
       node : isNode (rowOf (after n) m .place) ≡ isNode (rowOf (before n) m .place)
       node =
-          ap (λ r. isNode (r .place)) (older-after g f st (s .rows-rise) n m t k (source-below st s n t) (c .source-stays n t k)) ∙ node-kept g f st s c m (c .source-stays n t k)
-          ∙ ap (λ r. isNode (r .place)) (sym (older-before g f st (s .rows-rise) n m t (source-below st s n t)))
+          ap (λ r. isNode (r .place)) (older-after g f st (s .rows-rise) n m t k (source-lower st s n t) (c .source-stays n t k)) ∙ node-kept g f st s c m (c .source-stays n t k)
+          ∙ ap (λ r. isNode (r .place)) (sym (older-before g f st (s .rows-rise) n m t (source-lower st s n t)))
 
   -- of an end, which may be moved
   moved-right : (n : ℕ) → Stands st n → member n g ≡ false → isPortEnd (before n) (rowOf (st .rows) n) ≡ true → isPortEnd (after n) (returned f (st .requests) (rowOf (st .rows) n)) ≡ true
@@ -249,4 +251,4 @@ module _ (g : List ℕ) (f : Request → Bool) (st : State) (s : Sound st) (c : 
           pick false h e =
               and-i (ltb (r .request) (r .number)) (lists (r .number) (requestOf (remaining f g (st .requests)) (r .request)))
               (and-l (ltb (r .request) (r .number)) (lists (r .number) (requestOf (st .requests) (r .request))) e)
-              (ap (λ m. lists m (requestOf (remaining f g (st .requests)) (r .request))) (row-number st n t) ∙ still-listed n t k (pos-some (r .request) (not-zero-positive (r .request) (eqb-false (r .request) 0 h))))
+              (ap (λ m. lists m (requestOf (remaining f g (st .requests)) (r .request))) (row-number (st .rows) n t) ∙ still-listed n t k (pos-some (r .request) (not-zero-positive (r .request) (eqb-false (r .request) 0 h))))

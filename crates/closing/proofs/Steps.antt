@@ -4,25 +4,26 @@ use mathlib.Core.Bool.{Bool, true, false, not, _&&_, _||_}
 use mathlib.Core.List.{List, [], _∷_, map}
 use mathlib.Core.Path.{_≡_, refl, ap, sym, _∙_}
 use mathlib.Core.Logic.{⊎-elim}
-use native.Mathlib.Omega.{arith}
 use borrow.Author.Tests.{eqb-true}
 use lib.Dec.{eqb}
 use lib.ListN.{length}
 use Rattle.rows.specs.declared.Row.{Row}
 use Rattle.rows.specs.declared.Request.{Request}
 use Rattle.rows.specs.Lists.{if_then_else_, filter, any, member, some}
-use Rattle.rows.specs.Codes.{inClist, isClient}
+use Rattle.rows.specs.Codes.{inClist}
 use Rattle.rows.specs.Tables.{State, noRow, noRequest, rowOf, requestOf, numbers, marked, bears, lists}
-use Rattle.rows.specs.Sound.{rowsRise, requestsRise, isOpening, isRegistered, isHeld, isPortEnd, isLentCopy}
-use Rattle.rows.proofs.Bools.{clash, and-l, and-r, and-i, or-l, or-cases, pos-some, some-pos}
+use Rattle.rows.specs.Sound.{rowsRise, requestsRise}
+use Rattle.rows.proofs.Bools.{clash, and-l, and-r, and-i, or-l, or-cases, pos-some, and-rf}
 use Rattle.rows.proofs.Keyed.{first-key, rises-range}
 use Rattle.rows.proofs.Sound.{Sound}
 use Rattle.rows.proofs.Agree.{Agree, agree-map, filter-agree, keys-kept, agree-kept}
 use Rattle.rows.proofs.Marking.{marked-seed, marked-source, marked-wider, marked-agree}
-use Rattle.rows.proofs.RowSources.{Shape, opening, registered, held, port-end, lent-copy, client-there}
-use Rattle.rows.proofs.Standing.{standing-shape, sources-older, via-listed}
+use Rattle.rows.proofs.RowSources.{client-there}
+use Rattle.rows.proofs.Standing.{sources-older, via-listed}
+use Rattle.rows.proofs.SoundFacts.{row-number}
 use Rattle.closing.specs.Closing.{closes, oldestListing, placedIn, returned, listedIn, leaves, withItems, trimmed, remaining, homed, settled, closing, closeRequest, isEndOf, closePort}
 use Rattle.closing.specs.Steps.{Gone, falls, removeRows, closeRequests, round, rounds, untilNoMore, closingBySteps, closeRequestBySteps, closePortBySteps}
+use Rattle.closing.proofs.KeptFacts.{copy-at}
 
 -- ---- what is settled depends on the test only at the requests of the tables
 module _ (f g : Request → Bool) where
@@ -96,29 +97,6 @@ module _ (st : State) (s : Sound st) (seed : Row → Bool) (qs : List ℕ)
       twice false true = refl
       twice false false = refl
 
-  number-of : (n : ℕ) → member n (numbers (st .rows)) ≡ true → rowOf (st .rows) n .number ≡ n
-  unfolding rowOf numbers
-  number-of n t = first-key (λ r. r .number) noRow (st .rows) n t
-
-  no-request : (n : ℕ) → some (rowOf (st .rows) n .request) ≡ true → eqb (rowOf (st .rows) n .request) 0 ≡ true → ⊥
-  no-request n b e =
-      let lo = some-pos (rowOf (st .rows) n .request) b in
-      let z = eqb-true (rowOf (st .rows) n .request) 0 e in
-      omega arith
-
-  -- a row that bears a number bears that of a lent copy: its second source is the client end of the request's port
-  copy-via : (n : ℕ) → Shape (st .requests) (st .rows) (rowOf (st .rows) n) → some (rowOf (st .rows) n .request) ≡ true
-      → (isClient (rowOf (st .rows) (rowOf (st .rows) n .via) .kind) ≡ true) × (requestOf (st .requests) (rowOf (st .rows) n .request) .port ≡ rowOf (st .rows) n .via)
-  unfolding isOpening isRegistered isHeld isPortEnd isLentCopy
-  copy-via n (opening e) b = absurd (no-request n b (search (and-l, and-r)))
-  copy-via n (registered e) b = absurd (no-request n b (search (and-l, and-r)))
-  copy-via n (held e) b = absurd (no-request n b (search (and-l, and-r)))
-  copy-via n (port-end e) b = absurd (no-request n b (search (and-l, and-r)))
-  copy-via n (lent-copy e) b =
-      let c : isClient (rowOf (st .rows) (rowOf (st .rows) n .via) .kind) ≡ true = search (and-l, and-r) in
-      let p : eqb (requestOf (st .requests) (rowOf (st .rows) n .request) .port) (rowOf (st .rows) n .via) ≡ true = search (and-l, and-r) in
-      (c, eqb-true (requestOf (st .requests) (rowOf (st .rows) n .request) .port) (rowOf (st .rows) n .via) p)
-
   -- a row that bears a closed request's number is removed already
   bearer-gone : (n : ℕ) → member n (numbers (st .rows)) ≡ true → some (rowOf (st .rows) n .request) ≡ true → member (rowOf (st .rows) n .request) shut ≡ true → member n gone ≡ true
   unfolding gone shut closes rowsRise requestsRise requestOf numbers
@@ -143,10 +121,10 @@ module _ (st : State) (s : Sound st) (seed : Row → Bool) (qs : List ℕ)
 
       by-port : member (v .port) gone ≡ true → member n gone ≡ true
       by-port e =
-          let (client, port) = copy-via n (standing-shape st s n t) b in
-          let stands = client-there (st .rows) (r .via) client in
+          let copy = copy-at st s n t b in
+          let stands = client-there (st .rows) (r .via) (copy .via-client) in
           let above = rises-range (λ r. r .number) (st .rows) (s .rows-rise) (r .via) stands in
-          marked-source seed (st .rows) (s .rows-rise) (sources-older st s) n t (r .via) (via-listed r (pos-some (r .via) (above .0))) (rw port at e)
+          marked-source seed (st .rows) (s .rows-rise) (sources-older st s) n t (r .via) (via-listed r (pos-some (r .via) (above .0))) (rw (copy .through-port) at e)
 
   -- so nothing more is removed
   gone-again : marked (falls all-gone) (st .rows) ≡ gone
@@ -155,9 +133,9 @@ module _ (st : State) (s : Sound st) (seed : Row → Bool) (qs : List ℕ)
       marked-wider seed (falls all-gone) (st .rows) (s .rows-rise) (sources-older st s)
       (λ n t e.
       or-l (member (rowOf (st .rows) n .number) gone) (some (rowOf (st .rows) n .request) && member (rowOf (st .rows) n .request) shut)
-      (rw (number-of n t) (marked-seed seed (st .rows) (s .rows-rise) (sources-older st s) n t e)))
+      (rw (row-number (st .rows) n t) (marked-seed seed (st .rows) (s .rows-rise) (sources-older st s) n t e)))
       (λ n t e.
-      ⊎-elim (λ m. rw (number-of n t) at m)
+      ⊎-elim (λ m. rw (row-number (st .rows) n t) at m)
       (λ m. bearer-gone n t (and-l (some (rowOf (st .rows) n .request)) (member (rowOf (st .rows) n .request) shut) m) (and-r (some (rowOf (st .rows) n .request)) (member (rowOf (st .rows) n .request) shut) m))
       (or-cases (member (rowOf (st .rows) n .number) gone) (some (rowOf (st .rows) n .request) && member (rowOf (st .rows) n .request) shut) e))
 
@@ -192,11 +170,7 @@ one-of x q h = pick (eqb x q) refl
   where
     pick : (b : Bool) → eqb x q ≡ b → some x && (b || false) ≡ b
     pick true e = rw (eqb-true x q e, h) refl
-    pick false e = none (some x)
-      where
-        none : (a : Bool) → a && false ≡ false
-        none true = refl
-        none false = refl
+    pick false e = and-rf (some x) false refl
 
 pub close-request-steps : (st : State) → Sound st → (q : ℕ) → some q ≡ true → closeRequestBySteps q st ≡ closeRequest q st
 unfolding closeRequestBySteps closeRequest falls bears member

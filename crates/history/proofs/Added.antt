@@ -1,7 +1,7 @@
 -- One more row, in the tables and in the history.
 use Prim.Native.Nat.{ℕ, suc, _<_, _≤_}
 use mathlib.Core.Bool.{Bool, true, false, not, _&&_, _||_}
-use mathlib.Core.List.{List, [], _∷_, map}
+use mathlib.Core.List.{List, _∷_, map}
 use mathlib.Core.Path.{_≡_, refl, sym, ap, _∙_}
 use lib.Dec.{ltb, eqb}
 use native.Mathlib.Omega.{arith}
@@ -11,6 +11,7 @@ use Rattle.rows.specs.Lists.{if_then_else_, filter, all, each, topOf, member, s
 use Rattle.rows.specs.Tables.{State}
 use Rattle.rows.proofs.Bools.{false-of, and-l, and-r, and-i, or-r, all-mono, all-and, all-at, some-pos}
 use Rattle.rows.proofs.Keyed.{first-there, rises-range, rises-cons}
+use Rattle.rows.proofs.Lists.{filter-same}
 use Rattle.calls.specs.Rules.{withRows}
 use Rattle.history.specs.Notes.{Noted, Loan, History, noted, nothingNoted, notedOf, spoiled, survives, sweep, standing, stands, isClosed, openLoans, lastGo, addRow}
 use Rattle.history.specs.Chains.{IsNoted}
@@ -21,10 +22,6 @@ use Rattle.history.proofs.Gone.{stands-noted}
 
 abbrev pub newNoted : ℕ → List ℕ → ℕ → ℕ → Noted
 newNoted n ss q c = record { number = n; sources = ss; request = q; port = c }
-
-pub and-rf : (a b : Bool) → b ≡ false → a && b ≡ false
-and-rf true b e = e
-and-rf false b e = refl
 
 -- ---- numbers below n
 pub below-up : (n m : ℕ) → n ≤ m → (ks : List ℕ) → below n ks ≡ true → below m ks ≡ true
@@ -126,14 +123,9 @@ module _ (h : History) (n : ℕ) (ss : List ℕ) (q c : ℕ)
 
 -- ---- what stands below n stands after as before: then the open requests and the rows gone through are the same
 module _ (h h′ : History) (n : ℕ) (same : (k : ℕ) → k < n → stands h′ k ≡ stands h k) where
-  filter-same : (f g : Loan → Bool) (p : Loan → Bool) → ((v : Loan) → p v ≡ true → f v ≡ g v) → (vs : List Loan) → all p vs ≡ true → filter f vs ≡ filter g vs
-  unfolding filter all
-  filter-same f g p e [] t = refl
-  filter-same f g p e (v ∷ vs) t = rw (e v (and-l (p v) (all p vs) t), filter-same f g p e vs (and-r (p v) (all p vs) t)) refl
-
   pub open-same : Fit h → topOf (λ r. r .number) (h .rows) < n → h′ .closedRequests ≡ h .closedRequests → h′ .requests ≡ h .requests → openLoans h′ ≡ openLoans h
   unfolding openLoans
-  open-same f top c r = ap (filter (λ v. not (isClosed h′ v))) r ∙ filter-same (λ v. not (isClosed h′ v)) (λ v. not (isClosed h v)) (portNoted (h .rows)) loan-same (h .requests) (f .ports-noted)
+  open-same f top c r = ap (filter (λ v. not (isClosed h′ v))) r ∙ filter-same (portNoted (h .rows)) (λ v. not (isClosed h′ v)) (λ v. not (isClosed h v)) loan-same (h .requests) (f .ports-noted)
     where
       loan-same : (v : Loan) → portNoted (h .rows) v ≡ true → not (isClosed h′ v) ≡ not (isClosed h v)
       loan-same v e = unfold isClosed in rw (same (v .port) (let le = port-low (h .rows) (f .rows-rise) v e in omega arith), c) refl

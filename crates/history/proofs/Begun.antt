@@ -13,10 +13,11 @@ use Rattle.rows.specs.Codes.{isEnd, isCopied, isNode}
 use Rattle.rows.specs.Tables.{empty, numbers, sources}
 use Rattle.rows.specs.Sound.{isOpening}
 use Rattle.rows.proofs.Bools.{and-l, and-r}
+use Rattle.rows.proofs.Places.{copied-no-end}
 use Rattle.text.specs.Opening.{Form, nodeForm, processForm, opens, openingOf, withForm, openedFrom}
 use Rattle.text.specs.Entry.{stateOpened}
 use Rattle.text.proofs.OpeningForms.{opening-good}
-use Rattle.text.proofs.OpeningRows.{counted, entries-length, opened-next as next-is, opened-counted, copied-no-end}
+use Rattle.text.proofs.OpeningRows.{counted, entries-length, opened-next as next-is, opened-counted}
 use Rattle.text.proofs.Opening.{opened-opening}
 use Rattle.history.specs.Reading.{entryCount, downFrom, textRows}
 use Rattle.history.proofs.Inv.{view}

@@ -1,26 +1,27 @@
 -- Closing, in the tables and in the history: what more is dropped or closed is what is removed.
-use Prim.Native.Nat.{ℕ, zero, suc}
+use Prim.Native.Nat.{ℕ}
 use mathlib.Core.Bool.{Bool, true, false, not, cond, _&&_, _||_}
 use mathlib.Core.List.{List, [], _∷_, map}
 use mathlib.Core.Path.{_≡_, refl, sym, ap, _∙_, fun-ext}
-use lib.ListN.{List·getD-map}
 use Rattle.rows.specs.declared.Row.{Row}
 use Rattle.rows.specs.declared.Request.{Request}
 use Rattle.rows.specs.declared.Process.{Process}
 use Rattle.rows.specs.Lists.{if_then_else_, filter, all, each, member, some}
-use Rattle.rows.specs.Codes.{inClist}
-use Rattle.rows.specs.Tables.{State, noProcess, processAt, isListed, sources, marked}
+use Rattle.rows.specs.Tables.{State, processAt, isListed, sources, marked}
 use Rattle.rows.specs.Sound.{rowsRise}
 use Rattle.rows.proofs.Bools.{and-r, and-i}
 use Rattle.rows.proofs.Keyed.{keys-filter}
 use Rattle.rows.proofs.Sound.{Sound}
-use Rattle.closing.specs.Closing.{closes, oldestListing, placedIn, returned, withItems, trimmed, remaining, homed, settled, closing}
+use Rattle.rows.proofs.Lists.{filter-filter}
+use Rattle.closing.specs.Closing.{closes, placedIn, returned, withItems, remaining, homed, settled, closing}
 use Rattle.history.specs.Notes.{Noted, Loan, History, noted, spoiled, survives, sweep, standing, stands, isClosed, openLoans, lastGo}
 use Rattle.history.proofs.Fit.{Fit}
 use Rattle.history.proofs.Inv.{Inv, Open, view, ofRequest, ofLoan, throughNow, below}
 use Rattle.history.proofs.Sweep.{rising, sourced, sweep-sweep}
 use Rattle.history.proofs.Comes.{reached, reached-sweep}
 use Rattle.history.proofs.View.{filter-through, map-through, view-rises}
+use Rattle.closing.proofs.KeptLookups.{remaining-keys, returned-keeps}
+use Rattle.closing.proofs.KeptProcesses.{homed-at, homed-prime}
 
 -- ---- marks
 pub view-marked : (f : Row → Bool) (g : Noted → Bool) → ((r : Row) → f r ≡ g (view r)) → (rs : List Row) → marked f rs ≡ reached g (map view rs)
@@ -40,46 +41,12 @@ sweep-sourced f (r ∷ rs) = pick (sweep-sourced f rs) (survives f (noted (sweep
 
 -- ---- what closing leaves as it is
 home-view : (f : Request → Bool) (vs : List Request) (r : Row) → view (returned f vs r) ≡ view r
-unfolding returned
-home-view f vs r = pick (some (oldestListing f (r .number) vs .number))
-  where
-    pick : (b : Bool) → view (cond b (placedIn (inClist (oldestListing f (r .number) vs .asker)) r) r) ≡ view r
-    pick true = unfold view placedIn sources in refl
-    pick false = refl
+home-view f vs r = returned-keeps view (λ p r. unfold view placedIn sources in refl) f vs r
 
 remaining-view : (f : Request → Bool) (g : List ℕ) (p : Open → Bool) → ((v : Request) → not (f v) ≡ p (ofRequest v)) → (vs : List Request) → map ofRequest (remaining f g vs) ≡ filter p (map ofRequest vs)
-unfolding remaining filter
-remaining-view f g p h [] = refl
-remaining-view f g p h (v ∷ vs) = rw (← h v) (pick (remaining-view f g p h vs) (f v))
-  where
-    pick : map ofRequest (remaining f g vs) ≡ filter p (map ofRequest vs) → (b : Bool)
-        → map ofRequest (cond b (remaining f g vs) (trimmed f g vs v ∷ remaining f g vs)) ≡ cond (not b) (ofRequest v ∷ filter p (map ofRequest vs)) (filter p (map ofRequest vs))
-    pick ih true = ih
-    pick ih false = unfold trimmed withItems ofRequest in (ap (λ k. ofRequest v ∷ k) ih)
-
-filter-filter : {A : Type 0} (p q r : A → Bool) → ((a : A) → r a ≡ q a && p a) → (xs : List A) → filter p (filter q xs) ≡ filter r xs
-unfolding filter
-filter-filter p q r h [] = refl
-filter-filter p q r h (a ∷ xs) = rw (h a) (pick (filter-filter p q r h xs) (q a))
-  where
-    pick : filter p (filter q xs) ≡ filter r xs → (b : Bool) → filter p (cond b (a ∷ filter q xs) (filter q xs)) ≡ cond (b && p a) (a ∷ filter r xs) (filter r xs)
-    pick ih true = rw (← ih) refl
-    pick ih false = ih
+remaining-view f g p h vs = remaining-keys f g ofRequest (λ is v. unfold withItems ofRequest in refl) vs ∙ filter-through ofRequest p (λ v. not (f v)) h vs
 
 -- ---- processes
-home-of : (g : List ℕ) (ps : List Process) (p : ℕ) → processAt (map (homed g) ps) p ≡ homed g (processAt ps p)
-unfolding processAt homed noProcess some
-home-of g ps zero = refl
-home-of g ps (suc i) = List·getD-map (homed g) ps i noProcess
-
-home-prime : (g : List ℕ) (x : Process) → homed g x .prime ≡ x .prime
-unfolding homed
-home-prime g x = pick (some (x .through) && member (x .through) g)
-  where
-    pick : (b : Bool) → (cond b (record { prime = x .prime; active = x .prime; through = 0 }) x) .prime ≡ x .prime
-    pick true = refl
-    pick false = refl
-
 home-through : (g : List ℕ) (x : Process) → homed g x .through ≡ (if some (x .through) && member (x .through) g then 0 else x .through)
 unfolding homed
 home-through g x = pick (some (x .through) && member (x .through) g)
@@ -160,9 +127,9 @@ module _ (h h′ : History) (st : State) (f : Noted → Bool) (seed : Row → Bo
   homes-left : (p : ℕ) → isListed (closing seed qs st .processes) p ≡ true → processAt (closing seed qs st .processes) p .through ≡ throughNow h′ p
   unfolding closing settled isListed
   homes-left p e =
-      let at = home-of gone (st .processes) p in
+      let at = homed-at gone (st .processes) p in
       let x = processAt (st .processes) p in
-      let l : some (x .prime) ≡ true = ap some (sym (ap (λ y. y .prime) at ∙ home-prime gone x)) ∙ e in
+      let l : some (x .prime) ≡ true = ap some (sym (ap (λ y. y .prime) at ∙ homed-prime gone x)) ∙ e in
       ap (λ y. y .through) at ∙ home-through gone x
       ∙ ap (λ k. if some k && member k gone then 0 else k) (i .through p l)
       ∙ through-left p

@@ -9,8 +9,9 @@ use borrow.Author.Tests.{eqb-true, eq-eqb, ne-eqb}
 use native.Mathlib.Omega.{arith}
 use Rattle.rows.specs.Lists.{filter, any, all, member, some}
 use Rattle.rows.specs.Tables.{mark}
-use Rattle.rows.proofs.Bools.{false-of, true-of, clash, not-t, not-f, or-l, or-r, or-fl, or-fr, or-map, or-cases, pos-some, de-morgan, eqb-sym-f, all-at, all-eq-on, all-not, member-here}
+use Rattle.rows.proofs.Bools.{false-of, clash, not-f, or-l, or-r, or-fl, or-fr, or-map, or-cases, pos-some, de-morgan, eqb-sym-f, all-eq-on, all-not, member-here, or-false}
 use Rattle.rows.proofs.Keyed.{first-there, keys-filter}
+use Rattle.rows.proofs.Lists.{any-at}
 use Rattle.history.specs.Notes.{Noted, History, noted, nothingNoted, notedOf, spoiled, survives, sweep, standing, stands, noteRevoke}
 use Rattle.history.specs.Chains.{IsNoted, IsSource, ComesFrom, bears, bySource}
 use Rattle.history.proofs.Fit.{Fit}
@@ -93,12 +94,9 @@ reached-eq f rs u v n t =
     ∙ de-morgan (f (notedOf rs n)) (any (λ s. member s (reached f rs)) (notedOf rs n .sources))
     )
 
--- a number of ss that is in m, and back
+-- a number of ss that is in m
 some-in : (m ss : List ℕ) → any (λ s. member s m) ss ≡ true → Fails (λ s. not (member s m)) ss
 some-in m ss e = some-fails (λ s. not (member s m)) ss (all-not m ss ∙ ap not e)
-
-in-some : (m ss : List ℕ) (s : ℕ) → member s ss ≡ true → member s m ≡ true → any (λ s. member s m) ss ≡ true
-in-some m ss s i e = true-of _ (λ z. clash e (not-t _ (all-at (λ s. not (member s m)) ss (all-not m ss ∙ ap not z) s i)))
 
 -- ---- the theorem
 module _ (h : History) (fit : Fit h) (q : ℕ) (isNumber : 0 < q) where
@@ -130,7 +128,7 @@ module _ (h : History) (fit : Fit h) (q : ℕ) (isNumber : 0 < q) where
   came : {n : ℕ} → ComesFrom h q n → member n (reached bearing (h .rows)) ≡ true
   came (bears n p e) = reached-at n (bears-noted n e) ∙ or-l (bearing (notedOf (h .rows) n)) _ (eq-eqb _ q e)
   came (bySource n s i c) =
-      reached-at n (has-source n s i) ∙ or-r (bearing (notedOf (h .rows) n)) _ (in-some (reached bearing (h .rows)) (notedOf (h .rows) n .sources) s (unfold IsSource in i) (came c))
+      reached-at n (has-source n s i) ∙ or-r (bearing (notedOf (h .rows) n)) _ (any-at (λ s. member s (reached bearing (h .rows))) (notedOf (h .rows) n .sources) s (unfold IsSource in i) (came c))
 
 pub comes-from : (h : History) → Fit h → (q n : ℕ) → 0 < q → (member n (reached (λ r. eqb (r .request) q) (h .rows)) ≡ true) ↔ ComesFrom h q n
 unfolding IsNoted
@@ -141,6 +139,18 @@ all-eq-in : (f g : ℕ → Bool) (ss : List ℕ) → ((s : ℕ) → member s ss 
 unfolding all member
 all-eq-in f g [] e = refl
 all-eq-in f g (s ∷ ss) e = rw (e s (member-here s ss), all-eq-in f g ss (λ k t. e k (or-r (eqb k s) (member k ss) t))) refl
+
+-- what a revoke spoils more
+pub revoke-spoils : (q : ℕ) → 0 < q → (h : History) (r : Noted) → spoiled (noteRevoke q h) r ≡ spoiled h r || eqb (r .request) q
+unfolding spoiled noteRevoke member
+revoke-spoils q p h r =
+    bools (member (r .number) (h .dropped)) (some (r .request)) (eqb (r .request) q) (member (r .request) (h .closedRequests)) (some (r .port) && member (r .port) (h .closedPorts))
+    (λ e. pos-some (r .request) (rw (eqb-true (r .request) q e) p))
+  where
+    bools : (d s e m c : Bool) → (e ≡ true → s ≡ true) → d || ((s && (e || m)) || c) ≡ (d || ((s && m) || c)) || e
+    bools true s e m c w = refl
+    bools false s true m c w = rw (w refl) (sym (or-r (m || c) true refl))
+    bools false s false m c w = sym (or-false ((s && m) || c))
 
 module _ (h : History) (fit : Fit h) where
   -- of the rows that stand, those reached are taken by one more sweep
@@ -160,28 +170,10 @@ module _ (h : History) (fit : Fit h) where
           )
           ∙ de-morgan (f r) (any (λ s. member s (reached f (h .rows))) (r .sources)) ∙ ap not (sym (reached-eq f (h .rows) (fit .rows-rise) (fit .sources-older) n (unfold IsNoted in t)))
 
-  revoke-spoils : (q : ℕ) → 0 < q → (r : Noted) → spoiled (noteRevoke q h) r ≡ spoiled h r || eqb (r .request) q
-  unfolding spoiled noteRevoke member
-  revoke-spoils q p r =
-      bools (member (r .number) (h .dropped)) (some (r .request)) (eqb (r .request) q) (member (r .request) (h .closedRequests)) (some (r .port) && member (r .port) (h .closedPorts))
-      (λ e. pos-some (r .request) (rw (eqb-true (r .request) q e) p))
-    where
-      or-true : (b : Bool) → b || true ≡ true
-      or-true b = or-r b true refl
-
-      or-false : (b : Bool) → b || false ≡ b
-      or-false true = refl
-      or-false false = refl
-
-      bools : (d s e m c : Bool) → (e ≡ true → s ≡ true) → d || ((s && (e || m)) || c) ≡ (d || ((s && m) || c)) || e
-      bools true s e m c w = refl
-      bools false s true m c w = rw (w refl) (sym (or-true (m || c)))
-      bools false s false m c w = sym (or-false ((s && m) || c))
-
   pub revoke-takes : (q n : ℕ) → 0 < q → stands h n ≡ true → (stands (noteRevoke q h) n ≡ false) ↔ ComesFrom h q n
   revoke-takes q n p t = (λ e. comes-from h fit q n p .0 (not-f _ (sym same ∙ e)), λ c. same ∙ ap not (comes-from h fit q n p .1 c))
     where
       same : stands (noteRevoke q h) n ≡ not (member n (reached (λ r. eqb (r .request) q) (h .rows)))
       same =
           unfold stands standing noteRevoke in
-          ap (λ f. member n (noted (sweep f (h .rows)))) (fun-ext (revoke-spoils q p)) ∙ sweep-standing (λ r. eqb (r .request) q) n t
+          ap (λ f. member n (noted (sweep f (h .rows)))) (fun-ext (revoke-spoils q p h)) ∙ sweep-standing (λ r. eqb (r .request) q) n t

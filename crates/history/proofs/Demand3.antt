@@ -13,6 +13,7 @@ use Rattle.rows.specs.Layout.{stateOf}
 use Rattle.rows.proofs.Bools.{clash}
 use Rattle.rows.proofs.Sound.{Sound}
 use Rattle.rows.proofs.LayoutWords.{state-words}
+use Rattle.rows.proofs.Places.{between-range}
 use Rattle.closing.specs.Closing.{closeRequest}
 use Rattle.calls.specs.declared.Call.{Call}
 use Rattle.calls.specs.declared.Call.the-variants.{Go, Hold, Register, Drop, Port, Close, Ask, Fetch, Reply, Refuse, Revoke, Comes}
@@ -25,7 +26,6 @@ use Rattle.text.specs.declared.Reading.the-variants.{Asks, Crowded, Refused as 
 use Rattle.text.specs.CallLines.{readingOf, isProcess}
 use Rattle.text.specs.Answers.{printed}
 use Rattle.text.specs.Entry.{Replied, callerUnlisted, answered, refused, callOn, replyWith, callEntry, openEntry}
-use Rattle.text.proofs.OpeningForms.{between-range}
 use Rattle.text.proofs.Readings.{Good, reading-good}
 use Rattle.text.proofs.Opening.{opened-sound}
 use Rattle.text.specs.Opening.{linesOf}

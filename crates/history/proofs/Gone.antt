@@ -1,7 +1,7 @@
 -- What is dropped or closed takes with it every row whose chain uses it: none of those stands.
 use Prim.Native.Nat.{ℕ, suc, _<_}
-use mathlib.Core.Bool.{Bool, true, false, not, _&&_, _||_, false≢true}
-use mathlib.Core.List.{List, [], _∷_, map}
+use mathlib.Core.Bool.{Bool, true, false, not, _&&_, _||_}
+use mathlib.Core.List.{List, map}
 use mathlib.Core.Path.{_≡_, refl, sym, ap, _∙_, subst}
 use mathlib.Core.Logic.{inl, inr, ⊎-elim}
 use lib.Dec.{eqb}
@@ -10,6 +10,7 @@ use native.Mathlib.Omega.{arith}
 use Rattle.rows.specs.Lists.{all, member, some, sameList}
 use Rattle.rows.proofs.Bools.{false-of, clash, and-l, and-r, and-i, not-t, or-l, or-r, or-fl, or-fr, or-cases, pos-some, some-pos, all-at, eqb-self}
 use Rattle.rows.proofs.Keyed.{first-key, first-there, all-first}
+use Rattle.rows.proofs.LayoutColumns.{same-list}
 use Rattle.history.specs.Notes.{Noted, Loan, History, noted, nothingNoted, notedOf, noLoan, loanOf, spoiled, standing, stands, isClosed}
 use Rattle.history.specs.Chains.{Thing, aRow, aRequest, aPort, IsNoted, IsSource, Chain, ends, leads, RowUses, Uses, IsPort, AskedOver, Gone, rowDropped, requestClosed, portClosed, operationFell, portFell}
 use Rattle.history.proofs.Fit.{Fit, bearsWell, endsWell, portNoted}
@@ -22,13 +23,6 @@ GoneTest h (aRequest q) = (c : ℕ) → AskedOver h q c → isClosed h (loanOf (
 GoneTest h (aPort c) = IsPort h c → stands h c ≡ false
 
 -- ---- what the clauses of `Fit` say of one row
-same-list : (xs ys : List ℕ) → sameList xs ys ≡ true → xs ≡ ys
-unfolding sameList
-same-list [] [] e = refl
-same-list [] (y ∷ ys) e = absurd (false≢true e)
-same-list (x ∷ xs) [] e = absurd (false≢true e)
-same-list (x ∷ xs) (y ∷ ys) e = λ i. eqb-true x y (and-l (eqb x y) (sameList xs ys) e) i ∷ same-list xs ys (and-r (eqb x y) (sameList xs ys) e) i
-
 -- a test that comes after "is none"
 unless-none : (n : ℕ) (b : Bool) → 0 < n → not (some n) || b ≡ true → b ≡ true
 unless-none n b h e = rw (pos-some n h) at e

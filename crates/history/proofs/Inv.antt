@@ -32,6 +32,10 @@ ofRequest v = record { number = v .number; asker = v .asker; port = v .port }
 unfoldable pub ofLoan : Loan → Open
 ofLoan v = record { number = v .number; asker = v .lender; port = v .port }
 
+-- what a look-up gives where none is
+unfoldable pub noOpen : Open
+noOpen = record { number = 0; asker = 0; port = 0 }
+
 -- the row that p's last go went through, if it stands
 unfoldable pub throughNow : History → ℕ → ℕ
 throughNow h p = let e = lastGo (h .went) p in if some e && stands h e then e else 0

@@ -3,15 +3,14 @@ use Prim.Native.Nat.{ℕ}
 use mathlib.Core.Bool.{Bool, true, false, not, _&&_}
 use mathlib.Core.List.{List}
 use mathlib.Core.Path.{_≡_, refl}
-use native.Mathlib.Omega.{arith}
-use borrow.Author.Tests.{eqb-false}
 use lib.Dec.{eqb}
 use Rattle.rows.specs.Lists.{some}
 use Rattle.rows.specs.Tables.{State, rowOf, openOn, isListed}
 use Rattle.rows.specs.Sound.{isFetched}
 use Rattle.rows.specs.Limits.{processes}
-use Rattle.rows.proofs.Bools.{clash, or-fl, not-f, pos-some, all-mono}
+use Rattle.rows.proofs.Bools.{clash, or-fl, not-f, pos-some, all-mono, not-zero}
 use Rattle.rows.proofs.Sound.{Sound}
+use Rattle.rows.proofs.Places.{between-range}
 use Rattle.closing.proofs.Kept.{close-request-kept, close-port-kept, drop-kept}
 use Rattle.calls.specs.declared.Call.{Call}
 use Rattle.calls.specs.declared.Call.the-variants.{Go, Hold, Register, Drop, Port, Close, Ask, Fetch, Reply, Refuse, Revoke, Comes}
@@ -27,12 +26,7 @@ use Rattle.text.specs.declared.Reading.{Reading}
 use Rattle.text.specs.declared.Reading.the-variants.{Asks, Crowded, Refused as BadLine}
 use Rattle.text.specs.CallLines.{readingOf, isProcess, isNumber}
 use Rattle.text.specs.Entry.{callerUnlisted, answered, callOn, refused}
-use Rattle.text.proofs.OpeningForms.{between-range}
 use Rattle.text.proofs.Readings.{Good, reading-good, number-some}
-
--- a number that is not 0
-pub not-zero : (n : ℕ) → eqb n 0 ≡ false → some n ≡ true
-not-zero n e = pos-some n (let h = eqb-false n 0 e in omega arith)
 
 -- the caller, a process's number, is listed
 caller-listed : (st : State) (p : ℕ) → isProcess p ≡ true → some p && not (isListed (st .processes) p) ≡ false → isListed (st .processes) p ≡ true

@@ -4,21 +4,22 @@ use native.Mathlib.Omega.{arith}
 use mathlib.Core.Bool.{Bool, true, false, not, cond, _&&_}
 use mathlib.Core.List.{List, [], _∷_, map}
 use mathlib.Core.Path.{_≡_, refl, sym, ap, _∙_}
-use lib.Dec.{leb, eqb}
-use borrow.Author.Tests.{eqb-true, ne-eqb, leb-true}
+use lib.Dec.{eqb}
+use borrow.Author.Tests.{eqb-true, ne-eqb}
 use Rattle.rows.specs.declared.Row.{Row}
 use Rattle.rows.specs.declared.Request.{Request}
-use Rattle.rows.specs.Lists.{between, member, some}
-use Rattle.rows.specs.Limits.{nodes}
+use Rattle.rows.specs.Lists.{member, some}
 use Rattle.rows.specs.Codes.{isEnd, isNode, inClist, withSystem, within}
 use Rattle.rows.specs.Tables.{State, rowOf, openOn, numbers, marked, bears, lists}
 use Rattle.rows.specs.Sound.{isFetched, isOpening, isRegistered, isHeld, isPortEnd, isLentCopy}
-use Rattle.rows.proofs.Bools.{clash, false-of, and-l, and-r, not-t, not-f, or-fl, some-pos, member-there}
+use Rattle.rows.proofs.Bools.{clash, false-of, and-l, and-r, not-t, not-f, or-fl, some-pos, member-there, not-zero}
 use Rattle.rows.proofs.Keyed.{keys-map}
 use Rattle.rows.proofs.Sound.{Sound}
-use Rattle.rows.proofs.RowSources.{Shape, opening, registered, held, port-end, lent-copy}
+use Rattle.rows.proofs.RowSources.{Shape, opening, registered, held, port-end, lent-copy, node-there}
 use Rattle.rows.proofs.Standing.{standing-shape, nodes-stay, rights-within}
-use Rattle.closing.specs.Closing.{placedIn, settled, closing, closeRequest, closePort, dropRow, isEndOf, isRow}
+use Rattle.rows.proofs.SoundFacts.{row-number}
+use Rattle.rows.proofs.Places.{clist-not-node}
+use Rattle.closing.specs.Closing.{placedIn, closing, closeRequest, closePort, dropRow, isEndOf, isRow, closes}
 use Rattle.calls.specs.declared.Item.{Item}
 use Rattle.calls.specs.declared.Call.{Call}
 use Rattle.calls.specs.declared.Call.the-variants.{Go, Hold, Register, Drop, Port, Close, Ask, Fetch, Reply, Refuse, Revoke, Comes}
@@ -31,11 +32,10 @@ use Rattle.text.specs.declared.Reading.the-variants.{Asks, Crowded, Refused as 
 use Rattle.text.specs.CallLines.{readingOf}
 use Rattle.history.specs.Reading.{accepts}
 use Rattle.history.specs.Demand3.{lentAfter, stateIn}
-use Rattle.history.proofs.Find.{row-number, node-no-end, place-there}
-use Rattle.history.proofs.LoansClose.{numbers-left}
+use Rattle.history.proofs.Find.{node-no-end}
 use Rattle.text.proofs.Readings.{Good, reading-good, number-some}
-use Rattle.history.proofs.KeptCalls.{not-zero}
 use Rattle.history.proofs.Kept.{words-sound, kept}
+use Rattle.closing.proofs.KeptLookups.{left-keys}
 
 -- ---- rows of nodes never vanish
 -- row n is in the tables after a call
@@ -77,7 +77,7 @@ unfolding lendItems
 lending-stays st c v n [] l t = t
 lending-stays st c v n (i ∷ is) l t = lending-stays st c v n is (lendItem st c v i l) (item-stays st c v n i l t)
 
--- a row in a node bears no request, and is in no c-list
+-- a row in a node bears no request
 node-bears-none : (vs : List Request) (rs : List Row) (r : Row) → Shape vs rs r → isNode (r .place) ≡ true → r .request ≡ 0
 unfolding isOpening isRegistered isHeld isPortEnd isLentCopy
 node-bears-none vs rs r (opening h) e = eqb-true (r .request) 0 (search (and-l, and-r))
@@ -86,15 +86,11 @@ node-bears-none vs rs r (held h) e = eqb-true (r .request) 0 (search (and-l, and
 node-bears-none vs rs r (port-end h) e = clash e (not-t (isNode (r .place)) (search (and-l, and-r)))
 node-bears-none vs rs r (lent-copy h) e = clash e (not-t (isNode (r .place)) (search (and-l, and-r)))
 
-node-no-clist : (place p : ℕ) → isNode place ≡ true → place ≡ inClist p → ⊥
-unfolding isNode between nodes inClist
-node-no-clist place p e q = let h = leb-true place 32 (and-r (leb 1 place) (leb place 32) e) in omega arith
-
 module _ (st : State) (s : Sound st) (n : ℕ) (e : isNode (rowOf (st .rows) n .place) ≡ true) (t : member n (numbers (st .rows)) ≡ true) where
   -- no closing removes it, if no row in a node is a seed
   closing-stays : (seed : Row → Bool) (qs : List ℕ) → ((k : ℕ) → member k (numbers (st .rows)) ≡ true → isNode (rowOf (st .rows) k .place) ≡ true → seed (rowOf (st .rows) k) ≡ false) → member n (numbers (closing seed qs st .rows)) ≡ true
-  unfolding closing settled
-  closing-stays seed qs h = numbers-left _ (st .requests) _ (st .rows) n ∙ ap (λ b. b && not (member n (marked seed (st .rows)))) t ∙ ap not (nodes-stay st s seed h n e)
+  unfolding closing
+  closing-stays seed qs h = left-keys (marked seed (st .rows)) (closes qs (marked seed (st .rows))) st n ∙ ap (λ b. b && not (member n (marked seed (st .rows)))) t ∙ ap not (nodes-stay st s seed h n e)
 
   request-stays : (q : ℕ) → some q ≡ true → member n (numbers (closeRequest q st .rows)) ≡ true
   unfolding closeRequest bears
@@ -106,8 +102,8 @@ module _ (st : State) (s : Sound st) (n : ℕ) (e : isNode (rowOf (st .rows) n .
 
   drop-stays : (p d : ℕ) → notHeld st p d ≡ false → member n (numbers (dropRow d st .rows)) ≡ true
   unfolding dropRow isRow notHeld
-  drop-stays p d h = closing-stays (isRow d) [] (λ k u f. false-of (eqb (rowOf (st .rows) k .number) d) (λ w. node-no-clist (rowOf (st .rows) k .place) p f
-      (ap (λ x. rowOf (st .rows) x .place) (sym (row-number st s k u) ∙ eqb-true (rowOf (st .rows) k .number) d w) ∙ eqb-true (rowOf (st .rows) d .place) (inClist p) (not-f _ h))))
+  drop-stays p d h = closing-stays (isRow d) [] (λ k u f. false-of (eqb (rowOf (st .rows) k .number) d) (λ w. clash f (ap isNode
+      (ap (λ x. rowOf (st .rows) x .place) (sym (row-number (st .rows) k u) ∙ eqb-true (rowOf (st .rows) k .number) d w) ∙ eqb-true (rowOf (st .rows) d .place) (inClist p) (not-f _ h)) ∙ clist-not-node p)))
 
   go-stays : (p d : ℕ) → Stays n (doGo st p d)
   unfolding doGo done goHome goThrough withRecord
@@ -199,10 +195,7 @@ module _ (st : State) (s : Sound st) (n : ℕ) (e : isNode (rowOf (st .rows) n .
 
 -- a row in a node of sound tables is there after every call line
 pub nodes-never-vanish : (st : State) → Sound st → (n : ℕ) → isNode (rowOf (st .rows) n .place) ≡ true → (line : List ℕ) → member n (numbers (callOn st line .after .rows)) ≡ true
-unfolding isNode between nodes
-nodes-never-vanish st s n e line =
-    let h = leb-true 1 (rowOf (st .rows) n .place) (and-l (leb 1 (rowOf (st .rows) n .place)) (leb (rowOf (st .rows) n .place) 32) e) in
-    line-stays st s n e (place-there st (rowOf (st .rows) n .place) n h refl) line
+nodes-never-vanish st s n e line = line-stays st s n e (node-there (st .rows) n e) line
 
 -- ---- the rights of a copy are within those of the row it was copied from, for every row of a session
 pub rights-never-grow : (t p text : List ℕ) → accepts (openEntry t p text .reply) ≡ true → (lines : List (List ℕ)) (n : ℕ) →

@@ -7,7 +7,6 @@ pub mod Demand3
 pub mod Kept
 -- rows of nodes never vanish; the rights of a copy are within those of its row
 pub mod Laws
-
 -- ---- the history by itself
 -- what holds of every history of a session
 pub mod Fit
@@ -19,7 +18,6 @@ pub mod Gone
 pub mod Standing
 -- comes from, computed in one pass over the notes, is what the word means
 pub mod Comes
-
 -- ---- history and tables, call by call
 -- the invariants: Inv (rows, requests, gone through) and Lends (ends on loan)
 pub mod Inv
@@ -43,7 +41,6 @@ pub mod StepGo
 pub mod StepAsk
 -- every call keeps Inv
 pub mod StepsInv
-
 -- ---- ends on loan
 -- the ends that requests list against the ends on loan, request by request
 pub mod Loans
@@ -57,7 +54,6 @@ pub mod LoansAdd
 pub mod LoansAsk
 -- every call keeps Lends
 pub mod LoansSteps
-
 -- ---- the three parts of demand 3 on states
 -- an open port has exactly two ends
 pub mod TwoEnds
@@ -65,7 +61,6 @@ pub mod TwoEnds
 pub mod Vanish
 -- surviving ends go back to the lender of the oldest request closed
 pub mod Returns
-
 -- ---- text and answers
 -- every answer on sound tables: a value in range, or a refusal from 2 to 18 that leaves the state
 pub mod Spoken

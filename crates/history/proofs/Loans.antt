@@ -4,19 +4,20 @@ use mathlib.Core.Bool.{Bool, true, false, not, cond, _&&_, _||_}
 use mathlib.Core.List.{List, [], _∷_, _++_, map, map-map}
 use mathlib.Core.Path.{_≡_, refl, sym, ap, _∙_}
 use lib.Dec.{eqb}
-use borrow.Author.Tests.{eqb-true}
 use Rattle.rows.specs.declared.Row.{Row}
 use Rattle.rows.specs.declared.Request.{Request}
-use Rattle.rows.specs.Lists.{if_then_else_, filter, any, all, firstWith, member, some, nonzero}
-use Rattle.rows.specs.Codes.{isEnd, isClient, isServer, clientEnd, serverEnd}
-use Rattle.rows.specs.Tables.{State, noRow, noRequest, rowOf, requestOf, numbers, lists}
-use Rattle.rows.proofs.Bools.{and-l, and-r, not-t, eqb-sym}
+use Rattle.rows.specs.Lists.{if_then_else_, filter, any, all, firstWith, member, nonzero}
+use Rattle.rows.specs.Codes.{isEnd}
+use Rattle.rows.specs.Tables.{State, noRow, noRequest, rowOf, requestOf, lists}
+use Rattle.rows.proofs.Bools.{and-l, and-r, not-t, eqb-sym, and-rf, and-true}
 use Rattle.rows.proofs.Keyed.{first-map}
-use Rattle.rows.proofs.Picked.{all-keys, keys-picked, first-picked}
+use Rattle.rows.proofs.Picked.{all-keys, first-picked}
+use Rattle.rows.proofs.RowSources.{end-there}
+use Rattle.rows.proofs.Lists.{filter-filter, member-filter, member-nonzero}
+use Rattle.rows.proofs.Agree.{keys-kept}
 use Rattle.closing.specs.Closing.{placedIn}
-use Rattle.calls.proofs.AddRow.{row-there}
 use Rattle.history.specs.Notes.{OnLoan, History, noLoan, loanOf, stands, isClosed, openLoans, isClosedNow, staysOnLoan, loansLeft}
-use Rattle.history.proofs.Inv.{Inv, Open, ofRequest, ofLoan, endsListed, loansIn}
+use Rattle.history.proofs.Inv.{Inv, ofRequest, ofLoan, endsListed, loansIn, noOpen}
 use Rattle.history.proofs.View.{first-through}
 use Rattle.history.proofs.Find.{row-stands}
 
@@ -36,23 +37,15 @@ shut h os e = any (λ x. eqb (x .lent) e && isClosedNow h x) os
 unfoldable pub staysLent : History → List OnLoan → ℕ → Bool
 staysLent h older e = stands h e && not (shut h older e)
 
-pub and-false-r : (a : Bool) → a && false ≡ false
-and-false-r true = refl
-and-false-r false = refl
-
-pub and-true-r : (a : Bool) → a && true ≡ a
-and-true-r true = refl
-and-true-r false = refl
-
 -- ---- one block
 shut-block : (h : History) (q : ℕ) (es : List ℕ) (older : List OnLoan) (e : ℕ) → closedNumber h q ≡ false → shut h (block q es ++ older) e ≡ shut h older e
 unfolding shut any isClosedNow closedNumber
 shut-block h q [] older e c = refl
-shut-block h q (x ∷ es) older e c = rw (c, and-false-r (eqb x e)) (shut-block h q es older e c)
+shut-block h q (x ∷ es) older e c = rw (c, and-rf (eqb x e) false refl) (shut-block h q es older e c)
 
 stays-closed : (h : History) (q e : ℕ) (older : List OnLoan) → closedNumber h q ≡ true → staysOnLoan h older (record { request = q; lent = e }) ≡ false
 unfolding staysOnLoan isClosedNow closedNumber
-stays-closed h q e older c = rw c (and-false-r (stands h e))
+stays-closed h q e older c = rw c (and-rf (stands h e) false refl)
 
 stays-open : (h : History) (q e : ℕ) (older : List OnLoan) → closedNumber h q ≡ false → staysOnLoan h older (record { request = q; lent = e }) ≡ staysLent h older e
 unfolding staysOnLoan isClosedNow closedNumber staysLent shut
@@ -77,32 +70,10 @@ left-open h q (e ∷ es) older c = rw (same-stays) (pick (left-open h q es older
     pick ih true = ap (λ l. record { request = q; lent = e } ∷ l) ih
     pick ih false = ih
 
--- ---- filters
-pub filter-both : {A : Type 0} (p q p′ q′ : A → Bool) → ((a : A) → q a && p a ≡ q′ a && p′ a) → (xs : List A) → filter p (filter q xs) ≡ filter p′ (filter q′ xs)
-unfolding filter
-filter-both p q p′ q′ h [] = refl
-filter-both p q p′ q′ h (a ∷ xs) = pick (filter-both p q p′ q′ h xs) (q a) (q′ a) (h a)
-  where
-    pick : filter p (filter q xs) ≡ filter p′ (filter q′ xs) → (b b′ : Bool) → b && p a ≡ b′ && p′ a
-        → filter p (cond b (a ∷ filter q xs) (filter q xs)) ≡ filter p′ (cond b′ (a ∷ filter q′ xs) (filter q′ xs))
-    pick ih true true e = rw (e, ih) refl
-    pick ih true false e = rw (e, ih) refl
-    pick ih false true e = rw (← e, ih) refl
-    pick ih false false e = ih
-
-filter-within : {A : Type 0} (p q : A → Bool) → ((a : A) → q a ≡ true → p a ≡ true) → (xs : List A) → filter p (filter q xs) ≡ filter q xs
-unfolding filter
-filter-within p q h [] = refl
-filter-within p q h (a ∷ xs) = pick (filter-within p q h xs) (q a) refl
-  where
-    pick : filter p (filter q xs) ≡ filter q xs → (b : Bool) → q a ≡ b → filter p (cond b (a ∷ filter q xs) (filter q xs)) ≡ cond b (a ∷ filter q xs) (filter q xs)
-    pick ih true e = rw (h a e, ih) refl
-    pick ih false e = ih
-
 -- ---- a request that has e on loan is closed: of one block, or of the older ones
 pub shut-first : (h : History) (q : ℕ) (es : List ℕ) (older : List OnLoan) (e : ℕ) → shut h (block q es ++ older) e ≡ (closedNumber h q && member e es) || shut h older e
 unfolding shut any isClosedNow closedNumber member
-shut-first h q [] older e = rw (and-false-r (isClosed h (loanOf (h .requests) q))) refl
+shut-first h q [] older e = rw (and-rf (isClosed h (loanOf (h .requests) q)) false refl) refl
 shut-first h q (x ∷ es) older e =
     rw (eqb-sym x e, shut-first h q es older e) (pick (eqb e x) (isClosed h (loanOf (h .requests) q)) (member e es) (shut h older e))
   where
@@ -112,31 +83,12 @@ shut-first h q (x ∷ es) older e =
     pick false true m o = refl
     pick false false m o = refl
 
-pub member-filter : (f : ℕ → Bool) (es : List ℕ) (e : ℕ) → member e (filter f es) ≡ member e es && f e
-unfolding filter member
-member-filter f [] e = refl
-member-filter f (x ∷ es) e = pick (member-filter f es e) (f x) refl (eqb e x) refl
-  where
-    pick : member e (filter f es) ≡ member e es && f e → (a : Bool) → f x ≡ a → (b : Bool) → eqb e x ≡ b → member e (cond a (x ∷ filter f es) (filter f es)) ≡ (b || member e es) && f e
-    pick ih true u true v = rw (v, ap f (eqb-true e x v), u) refl
-    pick ih true u false v = rw v ih
-    pick ih false u true v = ih ∙ ap (λ t. member e es && t) (ap f (eqb-true e x v) ∙ u) ∙ and-false-r (member e es) ∙ sym (ap f (eqb-true e x v) ∙ u)
-    pick ih false u false v = ih
-
-pub end-there : (rs : List Row) (e : ℕ) → isEnd (rowOf rs e .kind) ≡ true → member e (numbers rs) ≡ true
-end-there rs e end = row-there (λ r. isEnd (r .kind)) (unfold noRow isEnd isClient isServer clientEnd serverEnd in refl) rs e end
-
 -- an end of the tables is on the list of a request's ends just if it is among its items
 pub end-listed : (rs : List Row) (e : ℕ) → isEnd (rowOf rs e .kind) ≡ true → (v : Request) → member e (endsListed rs v) ≡ lists e v
-unfolding endsListed lists nonzero
+unfolding endsListed lists
 end-listed rs e end v =
-    member-filter (λ e. isEnd (rowOf rs e .kind)) (filter some (v .items)) e ∙ ap (λ t. member e (filter some (v .items)) && t) end
-    ∙ and-true-r (member e (filter some (v .items))) ∙ member-filter some (v .items) e ∙ and-swap (member e (v .items)) (some e)
-  where
-    and-swap : (a b : Bool) → a && b ≡ b && a
-    and-swap true true = refl
-    and-swap true false = refl
-    and-swap false b = sym (and-false-r b)
+    member-filter (λ e. isEnd (rowOf rs e .kind)) (nonzero (v .items)) e ∙ ap (λ t. member e (nonzero (v .items)) && t) end
+    ∙ and-true (member e (nonzero (v .items))) ∙ member-nonzero (v .items) e
 
 -- ---- rows of which some are put elsewhere keep their numbers and kinds
 pub record Moves (g : Row → Row) : Type 0 where
@@ -164,9 +116,6 @@ pub moved-kind : (g : Row → Row) → Moves g → (rs : List Row) (e : ℕ) →
 moved-kind g m rs e = ap (λ r. r .kind) (moved-row g m rs e) ∙ m .kind (rowOf rs e)
 
 -- ---- the open requests, in the tables and in the history
-noOpen : Open
-noOpen = record { number = 0; asker = 0; port = 0 }
-
 module _ (h : History) (st : State) (i : Inv h st) where
   same-numbers : map (λ v. v .number) (st .requests) ≡ map (λ v. v .number) (openLoans h)
   unfolding ofRequest ofLoan
@@ -175,7 +124,7 @@ module _ (h : History) (st : State) (i : Inv h st) where
   -- those of the tables are those that were asked and are not closed
   pub open-numbers : (n : ℕ) → member n (map (λ v. v .number) (st .requests)) ≡ member n (map (λ v. v .number) (h .requests)) && not (closedNumber h n)
   unfolding openLoans closedNumber loanOf
-  open-numbers n = ap (member n) same-numbers ∙ keys-picked (λ v. v .number) noLoan (λ v. not (isClosed h v)) (h .requests) (i .fit .requests-rise) n
+  open-numbers n = ap (member n) same-numbers ∙ keys-kept (λ v. v .number) noLoan (λ v. not (isClosed h v)) (h .requests) (i .fit .requests-rise) n
 
   -- and they have the asker and the port noted
   pub request-loan : (n : ℕ) → member n (map (λ v. v .number) (st .requests)) ≡ true → ofRequest (requestOf (st .requests) n) ≡ ofLoan (loanOf (h .requests) n)
@@ -207,7 +156,11 @@ module _ (h : History) (st : State) (i : Inv h st) where
       ∙ rw (stay vs rest v, all-left vs rest) refl
     where
       stay : (vs : List Request) → all (λ v. not (closedNumber h (v .number))) vs ≡ true → (v : Request) → filter (staysLent h (loansIn (st .rows) vs)) (endsListed (st .rows) v) ≡ endsListed (st .rows) v
-      stay vs rest v = unfold endsListed staysLent in filter-within (λ e. stands h e && not (shut h (loansIn (st .rows) vs) e)) (λ e. isEnd (rowOf (st .rows) e .kind)) (λ e t. rw (end-stands e t, none-shut vs rest e) refl) (nonzero (v .items))
+      stay vs rest v = unfold endsListed staysLent in filter-filter (λ e. stands h e && not (shut h (loansIn (st .rows) vs) e)) (λ e. isEnd (rowOf (st .rows) e .kind)) (λ e. isEnd (rowOf (st .rows) e .kind)) (λ e. stays (isEnd (rowOf (st .rows) e .kind)) e refl) (nonzero (v .items))
+        where
+          stays : (b : Bool) (e : ℕ) → isEnd (rowOf (st .rows) e .kind) ≡ b → b ≡ b && (stands h e && not (shut h (loansIn (st .rows) vs) e))
+          stays true e t = rw (end-stands e t, none-shut vs rest e) refl
+          stays false e t = refl
 
   pub nothing-settles : loansLeft h (loansIn (st .rows) (st .requests)) ≡ loansIn (st .rows) (st .requests)
   nothing-settles = all-left (st .requests) (all-keys (λ v. v .number) (λ n. not (closedNumber h n)) (st .requests) (λ n t. and-r (member n (map (λ v. v .number) (h .requests))) _ (sym (open-numbers n) ∙ t)))

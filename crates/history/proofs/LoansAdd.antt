@@ -8,18 +8,22 @@ use native.Mathlib.Omega.{arith}
 use borrow.Author.Tests.{le-leb}
 use Rattle.rows.specs.declared.Row.{Row}
 use Rattle.rows.specs.declared.Request.{Request}
-use Rattle.rows.specs.Lists.{if_then_else_, filter, all, member, some, nonzero}
-use Rattle.rows.specs.Codes.{isEnd, isClient, isServer, clientEnd, serverEnd, isSubdirectory, inClist}
+use Rattle.rows.specs.Lists.{if_then_else_, all, member, some, nonzero}
+use Rattle.rows.specs.Codes.{isEnd, isSubdirectory, inClist}
 use Rattle.rows.specs.Tables.{State, noRow, rowOf, numbers, lists}
 use Rattle.rows.specs.Sound.{mayBeListed, itemsLent}
 use Rattle.rows.proofs.Bools.{and-l, and-r, and-i, all-mono}
 use Rattle.rows.proofs.Sound.{Sound}
+use Rattle.rows.proofs.RowSources.{row-there}
+use Rattle.rows.proofs.SoundFacts.{row-below}
+use Rattle.rows.proofs.Places.{no-row-listed}
+use Rattle.rows.proofs.Lists.{filter-same}
 use Rattle.calls.specs.declared.Call.the-variants.{Go, Hold, Register, Port, Fetch, Comes}
 use Rattle.calls.specs.Answers.{refusalOf, valuesOf}
 use Rattle.calls.specs.Rules.{refusedIf, notHeld, withRows, copyOf, withRecord}
 use Rattle.calls.specs.Loans.{handedTo, nowFetched, withFetched}
 use Rattle.calls.specs.Calls.{done, goHome, goThrough, doGo, withHeld, doHold, withRegistered, doRegister, portEnd, withPort, doPort, fetchedAnswer, doFetch, doComes}
-use Rattle.calls.proofs.AddRow.{row-there, row-below, row-before}
+use Rattle.calls.proofs.AddRow.{row-before}
 use Rattle.history.specs.Notes.{OnLoan, History, addRow, noteGo, noteHold, noteRegister, notePort}
 use Rattle.history.specs.Reading.{noteCall}
 use Rattle.history.proofs.Inv.{Lends, endsListed, loansIn, firstValue}
@@ -32,22 +36,13 @@ listed-there : (st : State) → Sound st → all (λ v. all (λ e. member e (num
 unfolding itemsLent
 listed-there st s =
     all-mono (λ v. all (λ e. mayBeListed v (rowOf (st .rows) e)) (nonzero (v .items))) (λ v. all (λ e. member e (numbers (st .rows))) (nonzero (v .items)))
-    (λ v t. all-mono (λ e. mayBeListed v (rowOf (st .rows) e)) (λ e. member e (numbers (st .rows))) (λ e u. row-there (mayBeListed v) (no-row v) (st .rows) e u) (nonzero (v .items)) t) (st .requests) (s .items-lent)
-  where
-    no-row : (v : Request) → mayBeListed v noRow ≡ false
-    no-row v = unfold mayBeListed noRow isEnd isClient isServer clientEnd serverEnd some in refl
+    (λ v t. all-mono (λ e. mayBeListed v (rowOf (st .rows) e)) (λ e. member e (numbers (st .rows))) (λ e u. row-there (mayBeListed v) (no-row-listed v) (st .rows) e u) (nonzero (v .items)) t) (st .requests) (s .items-lent)
 
 module _ (rs rs′ : List Row) (same : (e : ℕ) → member e (numbers rs) ≡ true → rowOf rs′ e .kind ≡ rowOf rs e .kind) where
-  ends-same : (es : List ℕ) → all (λ e. member e (numbers rs)) es ≡ true → filter (λ e. isEnd (rowOf rs′ e .kind)) es ≡ filter (λ e. isEnd (rowOf rs e .kind)) es
-  unfolding filter all
-  ends-same [] t = refl
-  ends-same (e ∷ es) t =
-      rw (same e (and-l (member e (numbers rs)) (all (λ e. member e (numbers rs)) es) t), ends-same es (and-r (member e (numbers rs)) (all (λ e. member e (numbers rs)) es) t)) refl
-
   loans-same : (vs : List Request) → all (λ v. all (λ e. member e (numbers rs)) (nonzero (v .items))) vs ≡ true → loansIn rs′ vs ≡ loansIn rs vs
   unfolding loansIn endsListed all
   loans-same [] t = refl
-  loans-same (v ∷ vs) t = rw (ends-same (nonzero (v .items)) (and-l (all (λ e. member e (numbers rs)) (nonzero (v .items))) _ t), loans-same vs (and-r (all (λ e. member e (numbers rs)) (nonzero (v .items))) _ t)) refl
+  loans-same (v ∷ vs) t = rw (filter-same (λ e. member e (numbers rs)) (λ e. isEnd (rowOf rs′ e .kind)) (λ e. isEnd (rowOf rs e .kind)) (λ e t. ap isEnd (same e t)) (nonzero (v .items)) (and-l (all (λ e. member e (numbers rs)) (nonzero (v .items))) _ t), loans-same vs (and-r (all (λ e. member e (numbers rs)) (nonzero (v .items))) _ t)) refl
 
 pub kinds-same : (st : State) → Sound st → (rs′ : List Row) → ((e : ℕ) → member e (numbers (st .rows)) ≡ true → rowOf rs′ e .kind ≡ rowOf (st .rows) e .kind) → loansIn rs′ (st .requests) ≡ loansIn (st .rows) (st .requests)
 kinds-same st s rs′ same = loans-same (st .rows) rs′ same (st .requests) (listed-there st s)

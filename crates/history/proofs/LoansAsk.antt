@@ -1,5 +1,5 @@
 -- ask: the ends that it names are the ends that the new request lists, and the older requests list what they did.
-use Prim.Native.Nat.{ℕ, zero, suc, _<_}
+use Prim.Native.Nat.{ℕ, suc, _<_}
 use mathlib.Core.Bool.{Bool, true, false, not, cond}
 use mathlib.Core.List.{List, [], _∷_, _++_, append-assoc, append-nil, map}
 use mathlib.Core.Path.{_≡_, refl, sym, ap, _∙_, fun-ext}
@@ -7,28 +7,31 @@ use lib.Dec.{ltb, eqb}
 use native.Mathlib.Omega.{arith}
 use borrow.Author.Tests.{ne-eqb, ltb-true, lt-ltb}
 use Rattle.rows.specs.declared.Row.{Row}
-use Rattle.rows.specs.Lists.{filter, any, all, member, some, nonzero, pad}
+use Rattle.rows.specs.Lists.{filter, any, all, member, some, nonzero}
 use Rattle.rows.specs.Limits.{mostItems}
 use Rattle.rows.specs.Codes.{isEnd, withSystem}
 use Rattle.rows.specs.Tables.{State, noRow, rowOf, numbers}
-use Rattle.rows.proofs.Bools.{and-l, and-r, and-i, not-t, or-fl, or-fr, all-mono, all-filter, pos-some}
+use Rattle.rows.proofs.Bools.{not-t, or-fl, or-fr, all-mono, all-filter, pos-some}
 use Rattle.rows.proofs.Picked.{first-here, first-other}
 use Rattle.rows.proofs.Sound.{Sound}
+use Rattle.rows.proofs.Lists.{all-append, filter-same, none-all}
+use Rattle.rows.proofs.SoundFacts.{row-below}
 use Rattle.calls.specs.declared.Item.{Item}
 use Rattle.calls.specs.declared.Items.{Items}
 use Rattle.calls.specs.declared.Call.the-variants.{Ask}
 use Rattle.calls.specs.Rules.{notHeld, copyOf}
 use Rattle.calls.specs.Loans.{itemsOf, itemRow, moves, copyLent, Lending, toSystem, lendEnd, lendCopy, lendItem, lendItems, lent, newRequest, withRequest}
 use Rattle.calls.specs.Calls.{doAsk}
-use Rattle.calls.proofs.AddRow.{all-append, row-below}
 use Rattle.history.specs.Notes.{History, isEndNoted, endsNamed, noteAsk}
 use Rattle.history.specs.Reading.{itemsNamed, noteCall}
-use Rattle.history.proofs.Inv.{Inv, Lends, view, endsListed, loansIn}
+use Rattle.history.proofs.Inv.{Inv, Lends, endsListed, loansIn}
 use Rattle.history.proofs.Keeps.{Keeps}
-use Rattle.history.proofs.Find.{row-stands, row-noted, held-there, end-port-low}
+use Rattle.history.proofs.Find.{end-noted}
 use Rattle.history.proofs.Loans.{moves-if, moved-kind}
 use Rattle.history.proofs.LoansKept.{LendsAfter, unless, taken-made, calm}
 use Rattle.history.proofs.LoansAdd.{kinds-same}
+use Rattle.calls.proofs.Stand.{held-there}
+use Rattle.calls.proofs.KeptAskList.{nonzero-pad}
 
 -- ---- lists
 filter-append : {A : Type 0} (f : A → Bool) (xs ys : List A) → filter f (xs ++ ys) ≡ filter f xs ++ filter f ys
@@ -47,23 +50,6 @@ filter-one f x e = rw e refl
 filter-none : {A : Type 0} (f : A → Bool) (x : A) → f x ≡ false → filter f (x ∷ []) ≡ []
 unfolding filter
 filter-none f x e = rw e refl
-
-filter-same : {A : Type 0} (p f g : A → Bool) → ((a : A) → p a ≡ true → f a ≡ g a) → (xs : List A) → all p xs ≡ true → filter f xs ≡ filter g xs
-unfolding filter all
-filter-same p f g h [] t = refl
-filter-same p f g h (x ∷ xs) t = rw (h x (and-l (p x) (all p xs) t), filter-same p f g h xs (and-r (p x) (all p xs) t)) refl
-
-none-all : {A : Type 0} (f : A → Bool) (xs : List A) → any f xs ≡ false → all (λ x. not (f x)) xs ≡ true
-unfolding any all
-none-all f [] e = refl
-none-all f (x ∷ xs) e = and-i (not (f x)) (all (λ x. not (f x)) xs) (ap not (or-fl (f x) (any f xs) e)) (none-all f xs (or-fr (f x) (any f xs) e))
-
--- the zeros after a list count for nothing
-nonzero-pad : (n : ℕ) (xs : List ℕ) → nonzero (pad 0 n xs) ≡ nonzero xs
-unfolding nonzero filter pad some
-nonzero-pad zero xs = refl
-nonzero-pad (suc n) [] = nonzero-pad n []
-nonzero-pad (suc n) (x ∷ xs) = rw (nonzero-pad n xs) refl
 
 -- ---- rows while items are lent
 system-kind : (e : ℕ) → 0 < e → (rs : List Row) (k : ℕ) → rowOf (map (toSystem e) rs) k .kind ≡ rowOf rs k .kind
@@ -148,20 +134,11 @@ lent-all st s p c v (x ∷ xs) e l es j =
 
 -- ---- the call
 module _ (h : History) (st : State) (i : Inv h st) (l : Lends h st) (s : Sound st) where
-  -- an item is an end of the tables just if it is noted as an end
-  named-end : (x : Item) → member (x .row) (numbers (st .rows)) ≡ true → moves st x ≡ isEndNoted (h .rows) x
-  unfolding isEndNoted moves itemRow view
-  named-end x t = sym (ap (λ r. some (r .port)) (row-noted h st i (x .row) (row-stands h st i (x .row) t)) ∙ pick (isEnd (rowOf (st .rows) (x .row) .kind)) refl)
-    where
-      pick : (b : Bool) → isEnd (rowOf (st .rows) (x .row) .kind) ≡ b → some (cond b (rowOf (st .rows) (x .row) .object) 0) ≡ b
-      pick true q = pos-some (rowOf (st .rows) (x .row) .object) (end-port-low st s (x .row) t q)
-      pick false q = unfold some in refl
-
   named-ends : (p : ℕ) (xs : List Item) → any (λ x. notHeld st p (x .row)) xs ≡ false → map (λ x. x .row) (filter (moves st) xs) ≡ endsNamed (h .rows) xs
   unfolding endsNamed
   named-ends p xs e =
       ap (map (λ x. x .row))
-      (filter-same (λ x. not (notHeld st p (x .row))) (moves st) (isEndNoted (h .rows)) (λ x t. named-end x (held-there st p (x .row) (not-t (notHeld st p (x .row)) t))) xs (none-all (λ x. notHeld st p (x .row)) xs e))
+      (filter-same (λ x. not (notHeld st p (x .row))) (moves st) (isEndNoted (h .rows)) (λ x t. sym (end-noted h st i s x (held-there st p (x .row) (not-t (notHeld st p (x .row)) t)))) xs (none-all (λ x. notHeld st p (x .row)) xs e))
 
   asked-loans : (p c : ℕ) (xs : List Item) → any (λ x. notHeld st p (x .row)) xs ≡ false
       → loansIn (withRequest st p c xs .rows) (withRequest st p c xs .requests) ≡ noteAsk p c xs (st .next) h .loans

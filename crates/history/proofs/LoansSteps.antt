@@ -1,6 +1,5 @@
 -- After every call on sound tables, accepted or refused, the ends that the requests list are those that the history has on loan.
-use mathlib.Core.Bool.{false}
-use mathlib.Core.Path.{_≡_, refl}
+use mathlib.Core.Path.{refl}
 use Rattle.rows.specs.Tables.{State}
 use Rattle.rows.proofs.Sound.{Sound}
 use Rattle.calls.specs.declared.Call.{Call}
@@ -11,7 +10,7 @@ use Rattle.text.specs.Entry.{callerUnlisted, answered}
 use Rattle.history.specs.Notes.{History}
 use Rattle.history.proofs.Inv.{Inv, Lends, noteAnswer}
 use Rattle.history.proofs.Keeps.{Keeps}
-use Rattle.history.proofs.StepsInv.{GoodCall, perform-inv, call-inv}
+use Rattle.history.proofs.StepsInv.{GoodCall, call-inv}
 use Rattle.history.proofs.LoansKept.{LendsAfter, unless}
 use Rattle.history.proofs.LoansClose.{drop-lends, close-lends, reply-lends, refuse-lends, revoke-lends}
 use Rattle.history.proofs.LoansAdd.{go-lends, hold-lends, register-lends, port-lends, fetch-lends, comes-lends}
@@ -31,9 +30,6 @@ performed h st i l s (Reply p e) k = reply-lends h st i l s p e k
 performed h st i l s (Refuse p e) k = refuse-lends h st i l s p e k
 performed h st i l s (Revoke p q) k = revoke-lends h st i l s p q k
 performed h st i l s (Comes e q) k = comes-lends h st l s e q k
-
-pub perform-lends : (h : History) (st : State) → Inv h st → Lends h st → Sound st → (c : Call) → GoodCall c → callerUnlisted st c ≡ false → Lends (noteAnswer h c (perform st c .answer)) (perform st c .after)
-perform-lends h st i l s c g u = performed h st i l s c (record { inv = perform-inv h st i s c g u }) .after
 
 -- a call that was read, its caller listed or not
 pub call-lends : (h : History) (st : State) → Inv h st → Lends h st → Sound st → (c : Call) → GoodCall c → Lends (noteAnswer h c (answered st (Asks c) .answer)) (answered st (Asks c) .after)

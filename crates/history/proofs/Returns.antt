@@ -13,10 +13,12 @@ use Rattle.rows.specs.Lists.{if_then_else_, any, firstWith, rises, member, some
 use Rattle.rows.specs.Codes.{isEnd, inClist}
 use Rattle.rows.specs.Tables.{State, noRequest, rowOf, requestOf, numbers, marked, bears, lists}
 use Rattle.rows.specs.Sound.{requestsRise}
-use Rattle.rows.proofs.Bools.{clash, and-l, and-r, and-i, not-t, any-append, pos-some, eqb-sym, eqb-sym-f, member-here, member-there}
+use Rattle.rows.proofs.Bools.{clash, and-l, and-r, and-i, not-t, any-append, pos-some, eqb-sym, eqb-sym-f, member-here, member-there, and-rf, or-false}
 use Rattle.rows.proofs.Keyed.{first-key, rises-rest, rises-first, rises-older, rises-fresh, rises-range}
 use Rattle.rows.proofs.Picked.{first-here, first-other, older-other}
 use Rattle.rows.proofs.Sound.{Sound}
+use Rattle.rows.proofs.SoundFacts.{row-number}
+use Rattle.rows.proofs.Lists.{member-filter}
 use Rattle.closing.specs.Closing.{closes, oldestListing, placedIn, returned, settled, closing, closeRequest}
 use Rattle.calls.specs.declared.Answer.the-variants.{Done}
 use Rattle.calls.specs.declared.Call.the-variants.{Revoke}
@@ -29,10 +31,10 @@ use Rattle.history.specs.Demand3.{ClosedWith, Returned}
 use Rattle.history.proofs.Inv.{Inv, Lends, endsListed, loansIn, ofRequest, ofLoan, noteAnswer}
 use Rattle.history.proofs.Keeps.{settled-inv}
 use Rattle.history.proofs.Standing.{stands-chains, request-closed}
-use Rattle.history.proofs.Find.{row-number}
-use Rattle.history.proofs.Loans.{and-false-r, closedNumber, member-filter, end-listed, open-numbers, request-loan}
-use Rattle.history.proofs.LoansClose.{row-left, stands-left, closed-now}
+use Rattle.history.proofs.Loans.{closedNumber, end-listed, open-numbers, request-loan}
+use Rattle.history.proofs.LoansClose.{stands-left, closed-now}
 use Rattle.history.proofs.Vanish.{revoked}
+use Rattle.closing.proofs.KeptLookups.{row-after}
 
 -- ---- the oldest of the requests that pass a test and list e
 module _ (f : Request → Bool) (e : ℕ) where
@@ -91,7 +93,7 @@ module _ (f : Request → Bool) (e : ℕ) where
 -- ---- a request of the tables has on loan the ends that it lists
 any-block : (q n e : ℕ) (es : List ℕ) → any (λ (o : OnLoan). eqb (o .request) n && eqb (o .lent) e) (map (λ e. record { request = q; lent = e }) es) ≡ eqb q n && member e es
 unfolding any member
-any-block q n e [] = sym (and-false-r (eqb q n))
+any-block q n e [] = sym (and-rf (eqb q n) false refl)
 any-block q n e (x ∷ es) = rw (any-block q n e es, eqb-sym x e) (pick (eqb q n) (eqb e x) (member e es))
   where
     pick : (a b c : Bool) → (a && b) || (a && c) ≡ a && (b || c)
@@ -111,10 +113,6 @@ on-loan rs n e (v ∷ vs) u =
 
     fresh : v .number ≡ n → m ≡ false
     fresh z = ap (λ k. member k (map (λ v. v .number) vs)) (sym z) ∙ rises-fresh (λ v. v .number) v vs u
-
-    or-false : (a : Bool) → a || false ≡ a
-    or-false true = refl
-    or-false false = refl
 
     pick : (b : Bool) → eqb (v .number) n ≡ b
         → (b && member e (endsListed rs v)) || (m && member e (endsListed rs (requestOf vs n))) ≡ (b || m) && member e (endsListed rs (cond b v (requestOf vs n)))
@@ -189,14 +187,13 @@ module _ (h h′ : History) (st : State) (g : List ℕ) (f : Request → Bool) (
   lender-is q t = ap (λ o. o .asker) (request-loan h st i q t)
 
   placed : (q : ℕ) → stands h′ e ≡ true → ClosedWith h h′ e q → ((v : ℕ) → ClosedWith h h′ e v → q ≤ v) → rowOf (settled g f st .rows) e .place ≡ inClist (loanOf (h .requests) q .lender)
-  unfolding settled
   placed q up c least =
       let both : member e (numbers (st .rows)) && not (member e g) ≡ true = sym (stands-left h h′ st g f i s i′ asked e) ∙ up in
       let t : member e (numbers (st .rows)) ≡ true = and-l (member e (numbers (st .rows))) (not (member e g)) both in
       let out : member e g ≡ false = not-t (member e g) (and-r (member e (numbers (st .rows))) (not (member e g)) both) in
       let (is, same) = oldest q c least in
-      ap (λ r. r .place) (row-left f (st .requests) g (st .rows) e out)
-      ∙ returned-place (rowOf (st .rows) e) (row-number st s e t) is
+      ap (λ r. r .place) (row-after g f st e out)
+      ∙ returned-place (rowOf (st .rows) e) (row-number (st .rows) e t) is
       ∙ ap inClist (ap (λ v. v .asker) same ∙ lender-is q (closed-in q c .there))
 
 -- ---- the theorem

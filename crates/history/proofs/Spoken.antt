@@ -8,13 +8,14 @@ use lib.ListN.{length}
 use lib.Dec.{leb, ltb, eqb}
 use borrow.Author.Tests.{ltb-true, ltb-false, leb-true, le-leb}
 use Rattle.rows.specs.declared.Request.{Request}
-use Rattle.rows.specs.Lists.{all, firstWith, topOf, rises}
+use Rattle.rows.specs.Lists.{all, firstWith}
 use Rattle.rows.specs.Limits.{greatestNumber}
 use Rattle.rows.specs.Tables.{State, noRequest, rowOf, openOn, isListed}
-use Rattle.rows.specs.Sound.{belowNext, nextInRange, requestsRise}
-use Rattle.rows.proofs.Bools.{and-l, and-r, and-i}
-use Rattle.rows.proofs.Keyed.{rises-first, rises-rest}
+use Rattle.rows.specs.Sound.{nextInRange}
+use Rattle.rows.proofs.Bools.{and-l, and-r, all-mono}
 use Rattle.rows.proofs.Sound.{Sound}
+use Rattle.rows.proofs.Places.{between-range}
+use Rattle.rows.proofs.SoundFacts.{requests-below}
 use Rattle.calls.specs.declared.Answer.the-variants.{Fetched, Told, Refused}
 use Rattle.calls.specs.declared.Item.{Item}
 use Rattle.calls.specs.declared.Call.{Call}
@@ -27,7 +28,6 @@ use Rattle.text.specs.declared.Reading.{Reading}
 use Rattle.text.specs.declared.Reading.the-variants.{Asks, Crowded, Refused as BadLine}
 use Rattle.text.specs.CallLines.{readingOf}
 use Rattle.text.specs.Entry.{callerUnlisted, answered, callOn, refused}
-use Rattle.text.proofs.OpeningForms.{between-range}
 use Rattle.text.proofs.Readings.{isRefusal, reading-refused}
 use Rattle.history.proofs.Inv.{firstValue}
 
@@ -132,19 +132,11 @@ unfolding doComes
 comes-spoken st e q = unless st _ 7 _ refl λ _. told-spoken st _ _
 
 -- ---- fetch: the request's number is one of the tables
-rises-all : (m : ℕ) (vs : List Request) → rises (λ v. v .number) vs ≡ true → topOf (λ v. v .number) vs ≤ m → all (λ v. leb (v .number) m) vs ≡ true
-unfolding all topOf
-rises-all m [] e h = refl
-rises-all m (v ∷ vs) e h =
-    let l = rises-first (λ v. v .number) v vs e in
-    and-i (leb (v .number) m) (all (λ v. leb (v .number) m) vs) (le-leb (v .number) m h) (rises-all m vs (rises-rest (λ v. v .number) v vs e) (omega arith))
-
 request-ranged : (st : State) → Sound st → all (λ v. leb (v .number) greatestNumber) (st .requests) ≡ true
-unfolding requestsRise belowNext nextInRange
+unfolding nextInRange
 request-ranged st s =
-    let below = ltb-true (topOf (λ v. v .number) (st .requests)) (st .next) (and-r (ltb (topOf (λ r. r .number) (st .rows)) (st .next)) (ltb (topOf (λ v. v .number) (st .requests)) (st .next)) (s .below-next)) in
     let (lo, hi) = between-range 1 (suc greatestNumber) (st .next) (s .next-in-range) in
-    rises-all greatestNumber (st .requests) (s .requests-rise) (omega arith)
+    all-mono (λ v. ltb (v .number) (st .next)) (λ v. leb (v .number) greatestNumber) (λ v e. let lt = ltb-true (v .number) (st .next) e in le-leb (v .number) greatestNumber (omega arith)) (st .requests) (requests-below st s)
 
 -- also where none is found
 open-ranged : (m : ℕ) (vs : List Request) (c : ℕ) → all (λ v. leb (v .number) m) vs ≡ true → leb (openOn vs c .number) m ≡ true

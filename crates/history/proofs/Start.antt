@@ -12,10 +12,12 @@ use Rattle.rows.specs.Lists.{filter, all, each, topOf, rises, member, some}
 use Rattle.rows.specs.Tables.{empty, noProcess, processAt}
 use Rattle.rows.specs.Sound.{recordInRange, recordUnused}
 use Rattle.rows.proofs.Bools.{and-l, and-r, and-i, member-here, member-there}
-use Rattle.text.specs.Opening.{Form, nodeForm, processForm, opens, openingOf, linesOf, withForm, openedFrom}
+use Rattle.rows.proofs.Lists.{all-of-member, all-getD}
+use Rattle.text.specs.Opening.{Form, opens, openingOf, linesOf, openedFrom}
 use Rattle.text.specs.Entry.{stateOpened}
 use Rattle.text.proofs.OpeningForms.{opening-good}
 use Rattle.text.proofs.OpeningRecords.{isHome, opened-home}
+use Rattle.text.proofs.Opening.{opened-requests}
 use Rattle.history.specs.Notes.{Noted, noted, spoiled, survives, sweep, standing, openLoans, lastGo, wentNowhere}
 use Rattle.history.specs.Reading.{entryCount, downFrom, textRows, begunWith, begunBy, begun}
 use Rattle.history.proofs.Fit.{Fit, rooted, isEmpty, bearsWell, endsWell}
@@ -55,12 +57,6 @@ unfolding rises textRows downFrom
 text-rises zero = refl
 text-rises (suc k) = rw (text-top k) (and-i (ltb k (suc k)) _ (lt-ltb k (suc k) (omega arith)) (text-rises k))
 
--- every number of a list is in any list that has them
-all-there : (ns ms : List ℕ) → ((n : ℕ) → member n ns ≡ true → member n ms ≡ true) → all (λ n. member n ms) ns ≡ true
-unfolding all
-all-there [] ms h = refl
-all-there (n ∷ ns) ms h = and-i (member n ms) _ (h n (member-here n ns)) (all-there ns ms (λ k t. h k (member-there k n ns t)))
-
 text-rooted : (ns ms : List ℕ) → ((n : ℕ) → member n ns ≡ true → member n ms ≡ true) → all (rooted ms) (textRows ns) ≡ true
 unfolding all textRows rooted isEmpty
 text-rooted [] ms h = refl
@@ -78,30 +74,18 @@ begun-fit k =
       rows-end = text-all (endsWell (textRows (downFrom k))) (λ n. refl) (downFrom k);
       ports-noted = refl;
       ends-kept = refl;
-      text-noted = rw (text-noted (downFrom k)) (all-there (downFrom k) (downFrom k) (λ n t. t));
+      text-noted = rw (text-noted (downFrom k)) (all-of-member (λ n. member n (downFrom k)) (downFrom k) (λ n t. t));
     }
 
 -- ---- the tables opened
-opened-requests : (fs : List Form) → openedFrom empty fs .requests ≡ []
-unfolding openedFrom withForm empty
-opened-requests [] = refl
-opened-requests (nodeForm n es ∷ fs) = refl
-opened-requests (processForm p n ∷ fs) = refl
-
 home-through : (x : Process) → isHome x ≡ true → x .through ≡ 0
 unfolding isHome
 home-through x h = eqb-true (x .through) 0 (and-l (eqb (x .through) 0) (eqb (x .active) (x .prime)) (and-r (recordInRange x) (eqb (x .through) 0 && eqb (x .active) (x .prime)) h))
 
-all-getD : (ps : List Process) (i : ℕ) → all isHome ps ≡ true → isHome (getD ps i noProcess) ≡ true
-unfolding all noProcess isHome recordInRange recordUnused
-all-getD [] i e = refl
-all-getD (x ∷ ps) zero e = and-l (isHome x) (all isHome ps) e
-all-getD (x ∷ ps) (suc i) e = all-getD ps i (and-r (isHome x) (all isHome ps) e)
-
 home-at : (ps : List Process) (p : ℕ) → all isHome ps ≡ true → processAt ps p .through ≡ 0
-unfolding processAt noProcess
+unfolding processAt noProcess isHome recordInRange recordUnused
 home-at ps zero e = refl
-home-at ps (suc i) e = home-through (getD ps i noProcess) (all-getD ps i e)
+home-at ps (suc i) e = home-through (getD ps i noProcess) (all-getD isHome ps e i noProcess refl)
 
 -- ---- both
 module _ (text : List ℕ) (fs : List Form) (rest : List (List ℕ)) (e : openingOf (linesOf text) ≡ opens fs rest) where

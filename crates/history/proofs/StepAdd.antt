@@ -3,16 +3,17 @@ use Prim.Native.Nat.{ℕ, suc, _<_}
 use mathlib.Core.Bool.{Bool, true, false, not, cond, _&&_}
 use mathlib.Core.List.{List, [], _∷_}
 use mathlib.Core.Path.{_≡_, refl, ap, _∙_}
-use lib.Dec.{leb, eqb}
+use lib.Dec.{eqb}
 use native.Mathlib.Omega.{arith}
-use borrow.Author.Tests.{eqb-true, ne-eqb, leb-true}
+use borrow.Author.Tests.{eqb-true, ne-eqb}
 use Rattle.rows.specs.declared.Row.{Row}
-use Rattle.rows.specs.Lists.{filter, all, member, some, nonzero, between, sameList}
-use Rattle.rows.specs.Limits.{nodes}
+use Rattle.rows.specs.Lists.{filter, all, member, some, nonzero, sameList}
 use Rattle.rows.specs.Codes.{clientEnd, serverEnd, isEnd, isClient, isServer, isNode, inNode, inClist}
 use Rattle.rows.specs.Tables.{State, rowOf, numbers, processAt, isListed, sources}
-use Rattle.rows.proofs.Bools.{and-l, and-r, not-f, or-r, pos-some, eqb-self}
+use Rattle.rows.proofs.Bools.{and-l, and-r, not-f, or-r, pos-some, eqb-self, and-rf}
 use Rattle.rows.proofs.Sound.{Sound}
+use Rattle.rows.proofs.RowSources.{node-there}
+use Rattle.rows.proofs.SoundFacts.{row-below, active-node}
 use Rattle.calls.specs.declared.Call.the-variants.{Hold, Register, Port}
 use Rattle.calls.specs.Rules.{withRows, copyOf}
 use Rattle.calls.specs.Calls.{withHeld, doHold, withRegistered, doRegister, portEnd, withPort, doPort}
@@ -21,9 +22,10 @@ use Rattle.history.specs.Reading.{noteCall}
 use Rattle.history.proofs.Fit.{isEmpty, bearsWell, endsWell}
 use Rattle.history.proofs.Inv.{Inv, view, throughNow}
 use Rattle.history.proofs.Keeps.{Keeps, unless, taken-made}
-use Rattle.history.proofs.Added.{newNoted, FitsNew, and-rf, not-below, add-row, stands-same}
+use Rattle.history.proofs.Added.{newNoted, FitsNew, not-below, add-row, stands-same}
 use Rattle.history.proofs.Sweep.{noted-here, noted-other}
-use Rattle.history.proofs.Find.{row-stands, row-noted, stands-low, held-there, place-there, number-low, node-no-end, held-source, active-node}
+use Rattle.history.proofs.Find.{row-stands, row-noted, stands-low, node-no-end, held-source}
+use Rattle.calls.proofs.Stand.{held-there}
 
 -- ---- what is noted of a row that bears no request and is no end
 pub view-copy : (r : Row) (n x p s v d q : ℕ) → isEnd (r .kind) ≡ false → view (copyOf r n x p s v d q) ≡ newNoted n (nonzero (s ∷ v ∷ [])) q 0
@@ -76,10 +78,6 @@ module _ (h : History) (p s : ℕ) where
       pick true = refl
       pick false = refl
 
-node-low : (n : ℕ) → isNode n ≡ true → 0 < n
-unfolding isNode between
-node-low n t = leb-true 1 n (and-l (leb 1 n) (leb n nodes) t)
-
 -- ---- port
 client-view : (n p e d : ℕ) → 0 < e → view (portEnd clientEnd n n p e d) ≡ newNoted n (e ∷ []) 0 n
 unfolding view portEnd sources isEnd isClient isServer clientEnd serverEnd
@@ -109,11 +107,11 @@ module _ (h : History) (st : State) (i : Inv h st) (s : Sound st) where
   unfolding noteHold withHeld inNode
   held-inv p e d l at-node =
       let n : isNode (processAt (st .processes) p .active) ≡ true = active-node st s p l in
-      let t : member e (numbers (st .rows)) ≡ true = place-there st (processAt (st .processes) p .active) e (node-low (processAt (st .processes) p .active) n) at-node in
+      let t : member e (numbers (st .rows)) ≡ true = node-there (st .rows) e (ap isNode at-node ∙ n) in
       let end : isEnd (rowOf (st .rows) e .kind) ≡ false = node-no-end st s e t (ap isNode at-node ∙ n) in
       add-plain h st _ (heldSources h p e) i
       (view-copy (rowOf (st .rows) e) (st .next) _ _ e (processAt (st .processes) p .through) d 0 end
-      ∙ ap (λ k. newNoted (st .next) k 0 0) (ap (λ k. nonzero (e ∷ k ∷ [])) (i .through p l) ∙ held-sources h p e (number-low st s e t)))
+      ∙ ap (λ k. newNoted (st .next) k 0 0) (ap (λ k. nonzero (e ∷ k ∷ [])) (i .through p l) ∙ held-sources h p e (row-below st s e t .0)))
       (sources-some h p e) (sources-stand h p e (row-stands h st i e t))
 
   pub hold-keeps : (p e : ℕ) → isListed (st .processes) p ≡ true → Keeps h (Hold p e) (doHold st p e)
@@ -136,7 +134,7 @@ module _ (h : History) (st : State) (i : Inv h st) (s : Sound st) where
   unfolding noteRegister withRegistered
   registered-inv p e d t end up =
       let a = rowOf (st .rows) e .source in
-      let lo : 0 < a = number-low st s a up in
+      let lo : 0 < a = row-below st s a up .0 in
       let ss : firstOnly (notedOf (h .rows) e .sources) ≡ a ∷ [] = first-source e t lo in
       rw ss (add-plain h st _ (a ∷ []) i (view-copy (rowOf (st .rows) e) (st .next) _ _ a 0 d 0 end ∙ ap (λ k. newNoted (st .next) k 0 0) (one-source a lo))
       (unfold isEmpty in refl) (one-stands h a (row-stands h st i a up)))
@@ -158,7 +156,7 @@ module _ (h : History) (st : State) (i : Inv h st) (s : Sound st) where
   unfolding notePort withPort withRows addRow
   port-inv p e d t =
       let n = st .next in
-      let lo : 0 < e = number-low st s e t in
+      let lo : 0 < e = row-below st s e t .0 in
       let up : stands h e ≡ true = row-stands h st i e t in
       let cn : some n && member n (h .closedPorts) ≡ false = and-rf (some n) (member n (h .closedPorts)) (not-below n (h .closedPorts) (i .ports-below)) in
       let client = portEnd clientEnd n n (inClist p) e d in

@@ -10,9 +10,10 @@ use Rattle.rows.specs.declared.Row.{Row}
 use Rattle.rows.specs.Lists.{filter, any, all, firstWith, topOf, rises, member, some, nonzero}
 use Rattle.rows.specs.Codes.{isClient, isEnd, withSystem}
 use Rattle.rows.specs.Tables.{State, rowOf, numbers, sources}
-use Rattle.rows.proofs.Bools.{and-l, and-i, not-f, or-r, or-fl, or-fr, all-mono, pos-some, some-pos, eqb-self, member-here, member-there}
+use Rattle.rows.proofs.Bools.{and-l, and-i, not-f, or-r, or-fl, or-fr, all-mono, pos-some, some-pos, eqb-self, member-here, member-there, and-rf}
 use Rattle.rows.proofs.Keyed.{first-there, rises-range, rises-cons}
 use Rattle.rows.proofs.Sound.{Sound}
+use Rattle.rows.proofs.SoundFacts.{row-below}
 use Rattle.closing.specs.Closing.{placedIn}
 use Rattle.calls.specs.declared.Item.{Item}
 use Rattle.calls.specs.declared.Items.{Items}
@@ -20,15 +21,16 @@ use Rattle.calls.specs.declared.Call.the-variants.{Ask}
 use Rattle.calls.specs.Rules.{notHeld, withRows}
 use Rattle.calls.specs.Loans.{itemsOf, itemRow, moves, copyDepth, copyLent, Lending, toSystem, lendEnd, lendCopy, lendItem, lendItems, lent, newRequest, withRequest}
 use Rattle.calls.specs.Calls.{doAsk}
-use Rattle.history.specs.Notes.{Noted, Loan, OnLoan, History, noted, notedOf, noLoan, loanOf, spoiled, standing, stands, isClosed, openLoans, addRow, isEndNoted, endsNamed, copiesNoted, copied, noteAsk}
+use Rattle.history.specs.Notes.{Noted, Loan, OnLoan, History, noted, notedOf, noLoan, loanOf, spoiled, standing, stands, isClosed, openLoans, addRow, endsNamed, copiesNoted, copied, noteAsk}
 use Rattle.history.specs.Reading.{itemsNamed, noteCall}
 use Rattle.history.proofs.Fit.{isEmpty, bearsWell, endsWell, portNoted, Fit}
 use Rattle.history.proofs.Inv.{Inv, view, ofRequest, ofLoan, throughNow}
 use Rattle.history.proofs.Keeps.{seen-inv, Keeps, unless, taken-made}
 use Rattle.history.proofs.View.{map-through}
-use Rattle.history.proofs.Added.{newNoted, FitsNew, and-rf, below-up, not-below, add-row, stands-same}
-use Rattle.history.proofs.Find.{row-stands, row-noted, stands-low, held-there, number-low, client-port, end-port-low}
+use Rattle.history.proofs.Added.{newNoted, FitsNew, below-up, not-below, add-row, stands-same}
+use Rattle.history.proofs.Find.{row-stands, row-noted, stands-low, client-port, end-noted}
 use Rattle.history.proofs.StepAdd.{view-copy}
+use Rattle.calls.proofs.Stand.{held-there}
 
 -- ---- one more request, in the history by itself
 -- h with the rows rs and the request v
@@ -178,7 +180,7 @@ module _ (h : History) (st : State) (i : Inv h st) (s : Sound st) (p c : ℕ) (e
       let a = x .row in
       let older : all (λ k. stands hl k) (a ∷ c ∷ []) ≡ true = two-stand hl a c (j .still a (row-stands h st i a t)) (j .still c (row-stands h st i c there)) in
       let qn : some (st .next) && member (st .next) (h .closedRequests) ≡ false = and-rf (some (st .next)) (member (st .next) (h .closedRequests)) (not-below (st .next) (h .closedRequests) (i .closed-below)) in
-      let v : view (copyLent st c (st .next) (l .next) x) ≡ newNoted (l .next) (a ∷ c ∷ []) (st .next) 0 = view-copy (itemRow st x) (l .next) (x .rights) withSystem a c (copyDepth st c x) (st .next) end ∙ ap (λ ss. newNoted (l .next) ss (st .next) 0) (two-sources a c (number-low st s a t) (number-low st s c there)) in
+      let v : view (copyLent st c (st .next) (l .next) x) ≡ newNoted (l .next) (a ∷ c ∷ []) (st .next) 0 = view-copy (itemRow st x) (l .next) (x .rights) withSystem a c (copyDepth st c x) (st .next) end ∙ ap (λ ss. newNoted (l .next) ss (st .next) 0) (two-sources a c (row-below st s a t .0) (row-below st s c there .0)) in
       record {
         inv = seen-inv (noting (newNoted (l .next) (a ∷ c ∷ []) (st .next) 0 ∷ rs) (loanBy st p c es) os h) (withRows (copyLent st c (st .next) (l .next) x ∷ l .rows) (suc (l .next)) (lending st p c l)) (lending st p c (lendCopy st c (st .next) x l)) refl (unfold newRequest ofRequest in refl) refl refl
             (add-row hl (lending st p c l) (copyLent st c (st .next) (l .next) x) (a ∷ c ∷ []) (st .next) 0 (j .inv) v older qn (unfold some in refl) (copy-fits hl (st .next) (l .next) a (loanBy st p c es) (h .requests) refl refl));
@@ -187,15 +189,6 @@ module _ (h : History) (st : State) (i : Inv h st) (s : Sound st) (p c : ℕ) (e
             stands-same hl (l .next) (a ∷ c ∷ []) (st .next) 0 (not-below (l .next) (h .dropped) (j .inv .dropped-below)) qn (unfold some in refl) older k (stands-low hl (lending st p c l) (j .inv) k up .1) ∙ up;
       }
 
-  -- the tests of the two sides agree
-  end-noted : (x : Item) → member (x .row) (numbers (st .rows)) ≡ true → isEndNoted (h .rows) x ≡ moves st x
-  unfolding isEndNoted moves itemRow view
-  end-noted x t = ap (λ r. some (r .port)) (row-noted h st i (x .row) (row-stands h st i (x .row) t)) ∙ pick (isEnd (rowOf (st .rows) (x .row) .kind)) refl
-    where
-      pick : (b : Bool) → isEnd (rowOf (st .rows) (x .row) .kind) ≡ b → some (cond b (rowOf (st .rows) (x .row) .object) 0) ≡ b
-      pick true q = pos-some (rowOf (st .rows) (x .row) .object) (end-port-low st s (x .row) t q)
-      pick false q = unfold some in refl
-
   -- ---- all items
   lent-all : (xs : List Item) → any (λ x. notHeld st p (x .row)) xs ≡ false → (l : Lending) (rs : List Noted) → Joint h st p c es os l rs
       → Joint h st p c es os (lendItems st c (st .next) xs l) (copiesNoted (st .next) c (l .next) (copied (h .rows) xs) rs)
@@ -203,7 +196,7 @@ module _ (h : History) (st : State) (i : Inv h st) (s : Sound st) (p c : ℕ) (e
   lent-all [] e l rs j = j
   lent-all (x ∷ xs) e l rs j =
       let t : member (x .row) (numbers (st .rows)) ≡ true = held-there st p (x .row) (or-fl (notHeld st p (x .row)) _ e) in
-      rw (end-noted x t) (pick t (lent-all xs (or-fr (notHeld st p (x .row)) _ e)) (moves st x) refl)
+      rw (end-noted h st i s x t) (pick t (lent-all xs (or-fr (notHeld st p (x .row)) _ e)) (moves st x) refl)
     where
       pick : member (x .row) (numbers (st .rows)) ≡ true
           → ((l : Lending) (rs : List Noted) → Joint h st p c es os l rs → Joint h st p c es os (lendItems st c (st .next) xs l) (copiesNoted (st .next) c (l .next) (copied (h .rows) xs) rs))
@@ -218,7 +211,7 @@ module _ (h : History) (st : State) (i : Inv h st) (s : Sound st) where
   unfolding portNoted
   port-there p c es t k =
       let n : notedOf (h .rows) c .port ≡ c = ap (λ r. r .port) (row-noted h st i c (row-stands h st i c t)) ∙ client-view (rowOf (st .rows) c) k ∙ client-port st s c t k in
-      and-i (some c) (eqb (notedOf (h .rows) c .port) c) (pos-some c (number-low st s c t)) (eq-eqb (notedOf (h .rows) c .port) c n)
+      and-i (some c) (eqb (notedOf (h .rows) c .port) c) (pos-some c (row-below st s c t .0)) (eq-eqb (notedOf (h .rows) c .port) c n)
     where
       client-view : (r : Row) → isClient (r .kind) ≡ true → view r .port ≡ r .object
       client-view r k = unfold view isEnd in rw k refl

@@ -5,27 +5,29 @@ use mathlib.Core.List.{List, [], _∷_, map}
 use mathlib.Core.Path.{_≡_, refl, sym, ap, _∙_}
 use lib.Dec.{ltb, eqb}
 use native.Mathlib.Omega.{arith}
-use borrow.Author.Tests.{eqb-true, eq-eqb, ne-eqb, ltb-true, lt-ltb}
+use borrow.Author.Tests.{eqb-true, eq-eqb, ne-eqb, ltb-true}
 use Rattle.rows.specs.declared.Row.{Row}
 use Rattle.rows.specs.declared.Request.{Request}
-use Rattle.rows.specs.Lists.{all, firstWith, topOf, rises, member, some}
+use Rattle.rows.specs.Lists.{all, firstWith, member, some}
 use Rattle.rows.specs.Codes.{isEnd, isServer}
 use Rattle.rows.specs.Tables.{State, noRequest, rowOf, numbers, requestOf, openOn, bears}
-use Rattle.rows.specs.Sound.{requestsRise, belowNext}
-use Rattle.rows.proofs.Bools.{and-l, and-r, and-i, not-f, or-fl, pos-some}
-use Rattle.rows.proofs.Keyed.{first-key, first-there, all-first, rises-rest, rises-first}
+use Rattle.rows.proofs.Bools.{and-l, and-r, and-i, not-f, or-fl, pos-some, some-pos}
+use Rattle.rows.proofs.Keyed.{first-key, first-there, all-first}
 use Rattle.rows.proofs.Sound.{Sound}
+use Rattle.rows.proofs.SoundFacts.{requests-between}
 use Rattle.closing.specs.Closing.{closeRequest, isEndOf, closePort, isRow, dropRow}
 use Rattle.calls.specs.declared.Call.the-variants.{Drop, Close, Reply, Refuse, Revoke}
 use Rattle.calls.specs.Calls.{doDrop, doClose, doReply, doRefuse, doRevoke}
 use Rattle.history.specs.Notes.{Noted, History, noLoan, notedOf, spoiled, stands, openLoans, openRequest, noteDrop, noteClose, noteRevoke, noteEnd}
 use Rattle.history.specs.Reading.{noteCall}
-use Rattle.history.proofs.Inv.{Inv, Open, view, ofRequest, ofLoan}
+use Rattle.history.proofs.Inv.{Inv, view, ofRequest, ofLoan, noOpen}
 use Rattle.history.proofs.Keeps.{fit-same, Keeps, unless, taken-done}
 use Rattle.history.proofs.View.{first-through}
 use Rattle.history.proofs.Added.{below-cons}
 use Rattle.history.proofs.Closed.{closed-keeps}
-use Rattle.history.proofs.Find.{row-stands, row-noted, stands-low, held-there, server-port}
+use Rattle.history.proofs.Find.{row-stands, row-noted, stands-low, server-port}
+use Rattle.history.proofs.Comes.{revoke-spoils}
+use Rattle.calls.proofs.Stand.{held-there}
 
 -- ---- what more is spoiled
 drop-spoils : (e : ℕ) (h : History) (r : Noted) → spoiled (noteDrop e h) r ≡ spoiled h r || eqb (r .number) e
@@ -52,20 +54,6 @@ or-some false false m f = refl
 some-equal : (n k : ℕ) → 0 < k → eqb n k ≡ true → some n ≡ true
 some-equal n k lo e = let z : n ≡ k = eqb-true n k e in pos-some n (omega arith)
 
-revoke-spoils : (q : ℕ) → 0 < q → (h : History) (r : Noted) → spoiled (noteRevoke q h) r ≡ spoiled h r || eqb (r .request) q
-unfolding spoiled noteRevoke member
-revoke-spoils q lo h r =
-    rw (or-some (some (r .request)) (eqb (r .request) q) (member (r .request) (h .closedRequests)) (some-equal (r .request) q lo))
-    (pick (member (r .number) (h .dropped)) (some (r .request) && member (r .request) (h .closedRequests)) (some (r .port) && member (r .port) (h .closedPorts)) (eqb (r .request) q))
-  where
-    pick : (a b c e : Bool) → a || ((b || e) || c) ≡ (a || (b || c)) || e
-    pick true b c e = refl
-    pick false true c e = refl
-    pick false false true true = refl
-    pick false false true false = refl
-    pick false false false true = refl
-    pick false false false false = refl
-
 close-spoils : (c : ℕ) → 0 < c → (h : History) (r : Noted) → spoiled (noteClose c h) r ≡ spoiled h r || eqb (r .port) c
 unfolding spoiled noteClose member
 close-spoils c lo h r =
@@ -78,34 +66,17 @@ close-spoils c lo h r =
     pick false false c e = refl
 
 -- ---- numbers of open requests
-inRange : ℕ → Request → Bool
-inRange n v = ltb 0 (v .number) && ltb (v .number) n
-
-all-in-range : (n : ℕ) (vs : List Request) → rises (λ v. v .number) vs ≡ true → topOf (λ v. v .number) vs < n → all (inRange n) vs ≡ true
-unfolding all inRange topOf
-all-in-range n [] u hi = refl
-all-in-range n (v ∷ vs) u hi =
-    let lt = rises-first (λ v. v .number) v vs u in
-    and-i (inRange n v) (all (inRange n) vs) (and-i (ltb 0 (v .number)) (ltb (v .number) n) (lt-ltb 0 (v .number) (omega arith)) (lt-ltb (v .number) n hi))
-    (all-in-range n vs (rises-rest (λ v. v .number) v vs u) (omega arith))
-
 module _ (st : State) (s : Sound st) where
-  open-in-range : all (inRange (st .next)) (st .requests) ≡ true
-  open-in-range =
-      all-in-range (st .next) (st .requests) (unfold requestsRise in s .requests-rise)
-      (ltb-true (topOf (λ v. v .number) (st .requests)) (st .next) (unfold belowNext in and-r (ltb (topOf (λ r. r .number) (st .rows)) (st .next)) _ (s .below-next)))
-
   found-there : (key : Request → ℕ) (n : ℕ) → eqb (firstWith key noRequest (st .requests) n .number) 0 ≡ false → member n (map key (st .requests)) ≡ true
   unfolding noRequest
   found-there key n e = first-there key noRequest (λ v. not (eqb (v .number) 0)) refl (st .requests) n (ap not e)
 
   -- what is found by any key
   found-range : (key : Request → ℕ) (n : ℕ) → eqb (firstWith key noRequest (st .requests) n .number) 0 ≡ false → (0 < firstWith key noRequest (st .requests) n .number) × (firstWith key noRequest (st .requests) n .number < st .next)
-  unfolding inRange
   found-range key n e =
       let v = firstWith key noRequest (st .requests) n in
-      let r : inRange (st .next) v ≡ true = all-first key noRequest (inRange (st .next)) (st .requests) n open-in-range (found-there key n e) in
-      (ltb-true 0 (v .number) (and-l (ltb 0 (v .number)) _ r), ltb-true (v .number) (st .next) (and-r (ltb 0 (v .number)) _ r))
+      let r : some (v .number) && ltb (v .number) (st .next) ≡ true = all-first key noRequest (λ v. some (v .number) && ltb (v .number) (st .next)) (st .requests) n (requests-between st s) (found-there key n e) in
+      (some-pos (v .number) (and-l (some (v .number)) _ r), ltb-true (v .number) (st .next) (and-r (some (v .number)) _ r))
 
   request-range : (q : ℕ) → eqb (requestOf (st .requests) q .number) 0 ≡ false → (0 < q) × (q < st .next)
   unfolding requestOf
@@ -114,9 +85,6 @@ module _ (st : State) (s : Sound st) where
       let (lo, hi) = found-range (λ v. v .number) q e in (rw n at lo, rw n at hi)
 
 -- ---- the request open on a port, in the tables and in the history
-noOpen : Open
-noOpen = record { number = 0; asker = 0; port = 0 }
-
 same-open : (h : History) (st : State) → Inv h st → (c : ℕ) → openOn (st .requests) c .number ≡ openRequest h c
 unfolding openOn openRequest ofRequest ofLoan
 same-open h st i c =

@@ -1,22 +1,22 @@
 -- go, fetch and comes keep the invariant.
-use Prim.Native.Nat.{ℕ, zero, suc, _-_, _<_, _≤_}
+use Prim.Native.Nat.{ℕ, zero, suc, _-_, _<_}
 use mathlib.Core.Bool.{Bool, true, false, not, cond, _&&_}
 use mathlib.Core.List.{List, _∷_, map}
 use mathlib.Core.Path.{_≡_, refl, sym, ap, _∙_}
-use mathlib.Core.Logic.{⊎-elim}
-use lib.Dec.{ltb, eqb}
-use lib.ListN.{length, getD, set, List·getD-eq-default}
+use lib.Dec.{eqb}
+use lib.ListN.{getD, set}
 use lib.Seq.{getD-set-same, getD-set-other}
 use native.Mathlib.Numerals.{sub-one}
 use native.Mathlib.Omega.{arith}
-use borrow.Author.Tests.{eqb-true, eqb-false, ne-eqb, ltb-true, ltb-false}
+use borrow.Author.Tests.{eqb-true, eqb-false, ne-eqb}
 use Rattle.rows.specs.declared.Row.{Row}
 use Rattle.rows.specs.declared.Request.{Request}
 use Rattle.rows.specs.declared.Process.{Process}
 use Rattle.rows.specs.Lists.{if_then_else_, firstWith, some}
 use Rattle.rows.specs.Codes.{isSubdirectory, inClist}
 use Rattle.rows.specs.Tables.{State, noProcess, rowOf, openOn, processAt, isListed, sources, lists}
-use Rattle.rows.proofs.Bools.{clash, true-or-false, some-pos, pos-some}
+use Rattle.rows.proofs.Bools.{clash, some-pos, none-zero}
+use Rattle.rows.proofs.SoundFacts.{listed-has-record}
 use Rattle.closing.specs.Closing.{placedIn}
 use Rattle.calls.specs.declared.Call.the-variants.{Go, Fetch, Comes}
 use Rattle.calls.specs.Answers.{refusalOf, valuesOf}
@@ -28,16 +28,10 @@ use Rattle.history.specs.Reading.{noteCall}
 use Rattle.history.proofs.Inv.{Inv, view, ofRequest, ofLoan, throughNow, firstValue}
 use Rattle.history.proofs.Keeps.{fit-same, seen-inv, Keeps, unless, taken, taken-done}
 use Rattle.history.proofs.View.{map-through}
-use Rattle.history.proofs.Find.{row-stands, stands-low, held-there}
+use Rattle.history.proofs.Find.{row-stands, stands-low}
+use Rattle.calls.proofs.Stand.{held-there}
 
 -- ---- the records after one is replaced
-listed-low : (ps : List Process) (j : ℕ) → isListed ps (suc j) ≡ true → j < length ps
-unfolding isListed processAt
-listed-low ps j l = ⊎-elim (λ t. ltb-true j (length ps) t) (λ t. clash l (none (ltb-false j (length ps) t))) (true-or-false (ltb j (length ps)))
-  where
-    none : length ps ≤ j → some (getD ps j noProcess .prime) ≡ false
-    none le = ap (λ x. some (x .prime)) (List·getD-eq-default ps noProcess le) ∙ (unfold some noProcess in refl)
-
 record-at : (ps : List Process) (p k : ℕ) (x : Process) → isListed ps p ≡ true → processAt (set ps (p - 1) x) k ≡ cond (eqb p k) x (processAt ps k)
 unfolding processAt
 record-at ps zero k x l = clash l (unfold isListed processAt some noProcess in refl)
@@ -45,7 +39,7 @@ record-at ps (suc j) zero x l = rw (ne-eqb (suc j) 0 (λ e. omega arith)) refl
 record-at ps (suc j) (suc k) x l = rw sub-one (pick (eqb (suc j) (suc k)) refl)
   where
     pick : (b : Bool) → eqb (suc j) (suc k) ≡ b → getD (set ps j x) k noProcess ≡ cond b x (getD ps k noProcess)
-    pick true q = let e : j ≡ k = (let z = eqb-true (suc j) (suc k) q in omega arith) in ap (λ k. getD (set ps j x) k noProcess) (sym e) ∙ getD-set-same ps j x noProcess (listed-low ps j l)
+    pick true q = let e : j ≡ k = (let z = eqb-true (suc j) (suc k) q in omega arith) in ap (λ k. getD (set ps j x) k noProcess) (sym e) ∙ getD-set-same ps j x noProcess (listed-has-record ps (suc j) l .1)
     pick false q = getD-set-other ps j k x noProcess (λ e. eqb-false (suc j) (suc k) q (ap suc (sym e)))
 
 go-last : (p e : ℕ) (ws : List Went) (k : ℕ) → lastGo (record { process = p; through = e } ∷ ws) k ≡ cond (eqb p k) e (lastGo ws k)
@@ -55,10 +49,6 @@ go-last p e ws k = pick (eqb p k)
     pick : (b : Bool) → (cond b (record { process = p; through = e }) (firstWith (λ w. w .process) wentNowhere ws k)) .through ≡ cond b e (firstWith (λ w. w .process) wentNowhere ws k .through)
     pick true = refl
     pick false = refl
-
-none-zero : (n : ℕ) → some n ≡ false → n ≡ 0
-none-zero zero q = refl
-none-zero (suc n) q = clash (pos-some (suc n) (omega arith)) q
 
 module _ (h : History) (st : State) (i : Inv h st) where
   -- ---- go

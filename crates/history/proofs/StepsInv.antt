@@ -2,15 +2,12 @@
 use Prim.Native.Nat.{ℕ, _<_}
 use mathlib.Core.Bool.{Bool, true, false, not, _&&_}
 use mathlib.Core.Path.{_≡_, refl}
-use lib.Dec.{eqb}
 use Rattle.rows.specs.Lists.{some}
 use Rattle.rows.specs.Tables.{State, isListed}
 use Rattle.rows.proofs.Bools.{not-f, pos-some}
 use Rattle.rows.proofs.Sound.{Sound}
 use Rattle.calls.specs.declared.Call.{Call}
 use Rattle.calls.specs.declared.Call.the-variants.{Go, Hold, Register, Drop, Port, Close, Ask, Fetch, Reply, Refuse, Revoke, Comes}
-use Rattle.calls.specs.declared.Answer.the-variants.{Refused}
-use Rattle.calls.specs.Answers.{refusalOf}
 use Rattle.calls.specs.Calls.{perform, callerOf}
 use Rattle.text.specs.declared.Reading.the-variants.{Asks}
 use Rattle.text.specs.Entry.{callerUnlisted, answered}
@@ -42,10 +39,6 @@ pub record GoodCall (c : Call) : Type 0 where
   pub caller : hasCaller c ≡ true → 0 < callerOf c
 
 -- ---- refused
-pub refused-notes : (h : History) (c : Call) (k : ℕ) → eqb k 0 ≡ false → noteAnswer h c (Refused k) ≡ h
-unfolding noteAnswer refusalOf
-refused-notes h c k e = rw e refl
-
 -- ---- performed
 listed : (st : State) (p : ℕ) → 0 < p → some p && not (isListed (st .processes) p) ≡ false → isListed (st .processes) p ≡ true
 listed st p lo e = not-f (isListed (st .processes) p) (rw (pos-some p lo) at e)

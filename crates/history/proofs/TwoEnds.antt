@@ -1,24 +1,25 @@
 -- On sound tables a client end's port has exactly two ends, each with a process or the system.
-use Prim.Native.Nat.{ℕ, suc, pred, _<_}
+use Prim.Native.Nat.{ℕ, suc, _<_}
 use native.Mathlib.Omega.{arith}
 use mathlib.Core.Bool.{Bool, true, false, cond, _&&_, _||_}
 use mathlib.Core.List.{List, [], _∷_, map}
 use mathlib.Core.Path.{_≡_, refl, sym, ap, _∙_}
-use mathlib.Core.Logic.{_⊎_, inl, inr, ⊎-elim}
-use lib.Dec.{leb, eqb}
+use mathlib.Core.Logic.{_⊎_, ⊎-elim}
+use lib.Dec.{eqb}
 use borrow.Author.Tests.{eqb-true, eq-eqb, ne-eqb}
 use Rattle.rows.specs.declared.Row.{Row}
 use Rattle.rows.specs.declared.Process.{Process}
-use Rattle.rows.specs.Lists.{filter, firstWith, rises, member, between}
-use Rattle.rows.specs.Limits.{nodes, greatestOperation}
-use Rattle.rows.specs.Codes.{operation, subdirectory, clientEnd, serverEnd, isOperation, isSubdirectory, isClient, isServer, isEnd, isNode, isClist, isSystem, ownerOf}
+use Rattle.rows.specs.Lists.{filter, firstWith, rises, member}
+use Rattle.rows.specs.Codes.{isClient, isServer, isEnd, isNode, isClist, isSystem, ownerOf}
 use Rattle.rows.specs.Tables.{State, noRow, rowOf, numbers, isListed}
-use Rattle.rows.specs.Sound.{objectInRange, objectsInRange, placeInRange, placesInRange, isPairedWith, otherEnd, rowsRise}
+use Rattle.rows.specs.Sound.{objectInRange, placeInRange, placesInRange, isPairedWith, rowsRise}
 use Rattle.rows.proofs.Bools.{clash, bool-eq, and-l, and-r, and-i, or-cases, or-l, or-r, or-fl, or-fr, eqb-sym-f}
-use Rattle.rows.proofs.Keyed.{first-key, all-first, rises-rest, rises-older, rises-fresh}
+use Rattle.rows.proofs.Keyed.{all-first, rises-rest, rises-older, rises-fresh}
 use Rattle.rows.proofs.Agree.{agree-found, filter-agree}
 use Rattle.rows.proofs.Sound.{Sound}
-use Rattle.closing.proofs.KeptFacts.{end-stands, end-at, paired-at}
+use Rattle.rows.proofs.RowSources.{end-there}
+use Rattle.rows.proofs.SoundFacts.{row-number, row-object, client-paired, client-object, server-object}
+use Rattle.closing.proofs.KeptFacts.{end-at}
 use Rattle.history.specs.Demand3.{endsOf, TwoEnds}
 
 -- ---- what is picked by key from a list whose keys rise
@@ -73,32 +74,13 @@ data EndOf (r : Row) : Type 0 where
   server-end : isServer (r .kind) ≡ true → suc (r .object) ≡ r .number → EndOf r
 
 end-of : (ps : List Process) (r : Row) → objectInRange ps r ≡ true → isEnd (r .kind) ≡ true → EndOf r
-unfolding objectInRange
-end-of ps r o k = first (or-cases (isOperation (r .kind) && (isListed ps (r .object) && leb (r .operation) greatestOperation)) _ o)
-  where
-    not-copied : (code : ℕ) → isEnd code ≡ false → eqb (r .kind) code ≡ true → EndOf r
-    not-copied code z e = clash k (ap isEnd (eqb-true (r .kind) code e) ∙ z)
-
-    third : ((isClient (r .kind) && (eqb (r .object) (r .number) && eqb (r .operation) 0)) ≡ true) ⊎ ((isServer (r .kind) && (eqb (suc (r .object)) (r .number) && eqb (r .operation) 0)) ≡ true) → EndOf r
-    third (inl h) = client-end (search and-l) (eqb-true (r .object) (r .number) (search (and-l, and-r)))
-    third (inr h) = server-end (search and-l) (eqb-true (suc (r .object)) (r .number) (search (and-l, and-r)))
-
-    second : ((isSubdirectory (r .kind) && (between 1 nodes (r .object) && eqb (r .operation) 0)) ≡ true)
-        ⊎ ((isClient (r .kind) && (eqb (r .object) (r .number) && eqb (r .operation) 0)) || (isServer (r .kind) && (eqb (suc (r .object)) (r .number) && eqb (r .operation) 0)) ≡ true) → EndOf r
-    second (inl h) = not-copied 2 (unfold isEnd isClient isServer clientEnd serverEnd in refl) (unfold isSubdirectory subdirectory in (and-l (eqb (r .kind) 2) (between 1 nodes (r .object) && eqb (r .operation) 0) h))
-    second (inr h) = third (or-cases (isClient (r .kind) && (eqb (r .object) (r .number) && eqb (r .operation) 0)) _ h)
-
-    first : ((isOperation (r .kind) && (isListed ps (r .object) && leb (r .operation) greatestOperation)) ≡ true)
-        ⊎ ((isSubdirectory (r .kind) && (between 1 nodes (r .object) && eqb (r .operation) 0))
-        || ((isClient (r .kind) && (eqb (r .object) (r .number) && eqb (r .operation) 0)) || (isServer (r .kind) && (eqb (suc (r .object)) (r .number) && eqb (r .operation) 0))) ≡ true) → EndOf r
-    first (inl h) = not-copied 1 (unfold isEnd isClient isServer clientEnd serverEnd in refl) (unfold isOperation operation in (and-l (eqb (r .kind) 1) (isListed ps (r .object) && leb (r .operation) greatestOperation) h))
-    first (inr h) = second (or-cases (isSubdirectory (r .kind) && (between 1 nodes (r .object) && eqb (r .operation) 0)) _ h)
+unfolding isEnd
+end-of ps r o k = ⊎-elim (λ c. client-end c (client-object ps r o c)) (λ c. server-end c (server-object ps r o c)) (or-cases (isClient (r .kind)) (isServer (r .kind)) k)
 
 -- ---- both ends
 module _ (st : State) (s : Sound st) where
   end-of-row : (n : ℕ) → member n (numbers (st .rows)) ≡ true → isEnd (rowOf (st .rows) n .kind) ≡ true → EndOf (rowOf (st .rows) n)
-  unfolding rowOf numbers objectsInRange
-  end-of-row n t k = end-of (st .processes) _ (all-first (λ r. r .number) noRow (objectInRange (st .processes)) (st .rows) n (s .objects-in-range) t) k
+  end-of-row n t k = end-of (st .processes) (rowOf (st .rows) n) (row-object st s n t) k
 
   -- an end is with a process or the system
   end-held : (n : ℕ) → member n (numbers (st .rows)) ≡ true → isEnd (rowOf (st .rows) n .kind) ≡ true → isClist (rowOf (st .rows) n .place) || isSystem (rowOf (st .rows) n .place) ≡ true
@@ -113,40 +95,31 @@ module _ (st : State) (s : Sound st) where
       pick false z false c d e = e
 
   module _ (c : ℕ) (t : member c (numbers (st .rows)) ≡ true) (k : isEnd (rowOf (st .rows) c .kind) ≡ true) (o : rowOf (st .rows) c .object ≡ c) where
-    number-is : (n : ℕ) → member n (numbers (st .rows)) ≡ true → rowOf (st .rows) n .number ≡ n
-    unfolding rowOf numbers
-    number-is n u = first-key (λ r. r .number) noRow (st .rows) n u
-
     client : isClient (rowOf (st .rows) c .kind) ≡ true
     client = pick (end-of-row c t k)
       where
         pick : EndOf (rowOf (st .rows) c) → isClient (rowOf (st .rows) c .kind) ≡ true
         pick (client-end h e) = h
-        pick (server-end h e) = absurd (let n = number-is c t in omega (arith, e, o, n))
-
-    paired : isPairedWith (rowOf (st .rows) c) (rowOf (st .rows) (suc c)) ≡ true
-    unfolding otherEnd numbers
-    paired = ap (λ n. isPairedWith (rowOf (st .rows) c) (rowOf (st .rows) n)) (sym (ap (λ b. cond b (suc (rowOf (st .rows) c .number)) (pred (rowOf (st .rows) c .number))) client ∙ ap suc (number-is c t))) ∙ paired-at st s c t k
+        pick (server-end h e) = absurd (let n = row-number (st .rows) c t in omega (arith, e, o, n))
 
     server-kind : isEnd (rowOf (st .rows) (suc c) .kind) ≡ true
     unfolding isPairedWith
-    server-kind = and-l (isEnd (rowOf (st .rows) (suc c) .kind)) (eqb (rowOf (st .rows) c .object) (rowOf (st .rows) (suc c) .object) && eqb (rowOf (st .rows) c .source) (rowOf (st .rows) (suc c) .source)) paired
+    server-kind = and-l (isEnd (rowOf (st .rows) (suc c) .kind)) (eqb (rowOf (st .rows) c .object) (rowOf (st .rows) (suc c) .object) && eqb (rowOf (st .rows) c .source) (rowOf (st .rows) (suc c) .source)) (client-paired st s c client)
 
-    server-object : rowOf (st .rows) (suc c) .object ≡ c
+    server-port : rowOf (st .rows) (suc c) .object ≡ c
     unfolding isPairedWith
-    server-object =
-        let h = and-r (isEnd (rowOf (st .rows) (suc c) .kind)) (eqb (rowOf (st .rows) c .object) (rowOf (st .rows) (suc c) .object) && eqb (rowOf (st .rows) c .source) (rowOf (st .rows) (suc c) .source)) paired in
+    server-port =
+        let h = and-r (isEnd (rowOf (st .rows) (suc c) .kind)) (eqb (rowOf (st .rows) c .object) (rowOf (st .rows) (suc c) .object) && eqb (rowOf (st .rows) c .source) (rowOf (st .rows) (suc c) .source)) (client-paired st s c client) in
         sym (eqb-true (rowOf (st .rows) c .object) (rowOf (st .rows) (suc c) .object) (and-l _ (eqb (rowOf (st .rows) c .source) (rowOf (st .rows) (suc c) .source)) h)) ∙ o
 
     server-there : member (suc c) (numbers (st .rows)) ≡ true
-    unfolding numbers
-    server-there = end-stands st (suc c) server-kind
+    server-there = end-there (st .rows) (suc c) server-kind
 
     server : isServer (rowOf (st .rows) (suc c) .kind) ≡ true
     server = pick (end-of-row (suc c) server-there server-kind)
       where
         pick : EndOf (rowOf (st .rows) (suc c)) → isServer (rowOf (st .rows) (suc c) .kind) ≡ true
-        pick (client-end h e) = absurd (let n = number-is (suc c) server-there in omega (arith, e, server-object, n))
+        pick (client-end h e) = absurd (let n = row-number (st .rows) (suc c) server-there in omega (arith, e, server-port, n))
         pick (server-end h e) = h
 
     -- the ends of the port are the rows numbered c and c + 1
@@ -163,12 +136,12 @@ module _ (st : State) (s : Sound st) where
 
         at : (m : ℕ) → isEnd (rowOf (st .rows) m .kind) ≡ true → rowOf (st .rows) m .object ≡ c → rowOf (st .rows) n .number ≡ m → isEnd (rowOf (st .rows) n .kind) && eqb (rowOf (st .rows) n .object) c ≡ true
         at m h z e =
-            let q : n ≡ m = sym (number-is n u) ∙ e in
+            let q : n ≡ m = sym (row-number (st .rows) n u) ∙ e in
             and-i (isEnd (rowOf (st .rows) n .kind)) (eqb (rowOf (st .rows) n .object) c) (ap (λ x. isEnd (rowOf (st .rows) x .kind)) q ∙ h) (eq-eqb (rowOf (st .rows) n .object) c (ap (λ x. rowOf (st .rows) x .object) q ∙ z))
 
         back : eqb (rowOf (st .rows) n .number) c || eqb (rowOf (st .rows) n .number) (suc c) ≡ true → isEnd (rowOf (st .rows) n .kind) && eqb (rowOf (st .rows) n .object) c ≡ true
         back h =
-            ⊎-elim (λ e. at c k o (eqb-true (rowOf (st .rows) n .number) c e)) (λ e. at (suc c) server-kind server-object (eqb-true (rowOf (st .rows) n .number) (suc c) e))
+            ⊎-elim (λ e. at c k o (eqb-true (rowOf (st .rows) n .number) c e)) (λ e. at (suc c) server-kind server-port (eqb-true (rowOf (st .rows) n .number) (suc c) e))
             (or-cases (eqb (rowOf (st .rows) n .number) c) (eqb (rowOf (st .rows) n .number) (suc c)) h)
 
     ends-are : endsOf c (st .rows) ≡ rowOf (st .rows) (suc c) ∷ rowOf (st .rows) c ∷ []
@@ -183,10 +156,10 @@ module _ (st : State) (s : Sound st) where
           client = rowOf (st .rows) c;
           server = rowOf (st .rows) (suc c);
           exactly = ends-are;
-          clientNumber = number-is c t;
+          clientNumber = row-number (st .rows) c t;
           clientKind = client;
           clientHeld = end-held c t k;
-          serverNumber = number-is (suc c) server-there;
+          serverNumber = row-number (st .rows) (suc c) server-there;
           serverKind = server;
           serverHeld = end-held (suc c) server-there server-kind;
         }

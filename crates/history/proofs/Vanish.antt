@@ -12,20 +12,20 @@ use Rattle.rows.specs.Sound.{requestsRise}
 use Rattle.rows.proofs.Bools.{false-of, clash, and-l, or-fl}
 use Rattle.rows.proofs.Keyed.{first-there, rises-range}
 use Rattle.rows.proofs.Sound.{Sound}
-use Rattle.closing.specs.Closing.{closes, settled, closing, closeRequest}
+use Rattle.rows.proofs.SoundFacts.{requests-top}
+use Rattle.closing.specs.Closing.{closes, closing, closeRequest}
 use Rattle.calls.specs.declared.Answer.{Answer}
 use Rattle.calls.specs.declared.Answer.the-variants.{Done, Made, Fetched, Told, Refused}
 use Rattle.calls.specs.Rules.{Out, refusedIf}
 use Rattle.calls.specs.Calls.{done, doRevoke}
-use Rattle.calls.proofs.AddRow.{requests-top}
 use Rattle.history.specs.Notes.{History, stands, noteRevoke}
 use Rattle.history.specs.Chains.{ComesFrom}
 use Rattle.history.specs.Demand3.{InTables, Vanished}
 use Rattle.history.proofs.Inv.{Inv}
 use Rattle.history.proofs.Comes.{revoke-takes}
 use Rattle.history.proofs.Find.{in-tables}
-use Rattle.history.proofs.LoansClose.{numbers-left}
 use Rattle.history.proofs.StepClose.{revoked-inv}
+use Rattle.closing.proofs.KeptLookups.{left-keys}
 
 isDone : Answer → Bool
 isDone Done = true
@@ -77,4 +77,4 @@ revoke-vanished h st i s p q e = subst (λ st′. Vanished h st st′ q) (sym (r
     nothing-new : (n : ℕ) → member n (numbers (closeRequest q st .rows)) ≡ true → member n (numbers (st .rows)) ≡ true
     nothing-new n t =
         let g = marked (bears q) (st .rows) in
-        and-l (member n (numbers (st .rows))) (not (member n g)) (sym (numbers-left (closes (q ∷ []) g) (st .requests) g (st .rows) n) ∙ (unfold closeRequest closing settled in t))
+        and-l (member n (numbers (st .rows))) (not (member n g)) (sym (left-keys g (closes (q ∷ []) g) st n) ∙ (unfold closeRequest closing in t))

@@ -1,13 +1,13 @@
 -- Laws of Bool tests, member, filter, any and all.
-use Prim.Native.Nat.{ℕ, zero, suc, _<_, _≤_}
+use Prim.Native.Nat.{ℕ, _<_}
 use mathlib.Core.Bool.{Bool, true, false, not, cond, _&&_, _||_, true≢false, false≢true}
-use mathlib.Core.List.{List, [], _∷_, _++_, map}
+use mathlib.Core.List.{List, [], _∷_, _++_}
 use mathlib.Core.Path.{_≡_, refl, sym, ap, _∙_}
 use mathlib.Core.Logic.{_⊎_, inl, inr}
-use lib.Dec.{leb, ltb, eqb}
-use borrow.Author.Tests.{eqb-true, eqb-false, eq-eqb, ne-eqb, ltb-true, ltb-false, lt-ltb, le-ltb}
+use lib.Dec.{eqb}
+use borrow.Author.Tests.{eqb-true, eqb-false, eq-eqb, ne-eqb, ltb-true, ltb-false, lt-ltb}
 use native.Mathlib.Omega.{arith}
-use Rattle.rows.specs.Lists.{filter, any, all, member, some, nonzero}
+use Rattle.rows.specs.Lists.{filter, any, all, member, some}
 
 -- ---- Bool
 pub false-of : (b : Bool) → (b ≡ true → ⊥) → b ≡ false
@@ -79,6 +79,18 @@ pub de-morgan : (a b : Bool) → not a && not b ≡ not (a || b)
 de-morgan true b = refl
 de-morgan false b = refl
 
+pub and-rf : (a b : Bool) → b ≡ false → a && b ≡ false
+and-rf true b e = e
+and-rf false b e = refl
+
+pub and-true : (a : Bool) → a && true ≡ a
+and-true true = refl
+and-true false = refl
+
+pub or-false : (a : Bool) → a || false ≡ a
+or-false true = refl
+or-false false = refl
+
 -- ---- numbers
 pub eqb-sym-f : (m n : ℕ) → eqb m n ≡ false → eqb n m ≡ false
 eqb-sym-f m n e = ne-eqb n m (λ p. eqb-false m n e (sym p))
@@ -96,6 +108,18 @@ some-pos n e = ltb-true 0 n e
 pub pos-some : (n : ℕ) → 0 < n → some n ≡ true
 unfolding some
 pos-some n h = lt-ltb 0 n h
+
+-- 0 and what is not 0, by the two tests
+pub none-zero : (n : ℕ) → some n ≡ false → n ≡ 0
+unfolding some
+none-zero n e = let h = ltb-false 0 n e in omega arith
+
+pub zero-none : (n : ℕ) → eqb n 0 ≡ true → some n ≡ false
+unfolding some
+zero-none n e = rw (eqb-true n 0 e) refl
+
+pub not-zero : (n : ℕ) → eqb n 0 ≡ false → some n ≡ true
+not-zero n e = true-of (some n) (λ h. eqb-false n 0 e (none-zero n h))
 
 -- ---- all, any, filter
 module _ {A : Type 0} where

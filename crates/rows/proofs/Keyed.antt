@@ -1,13 +1,12 @@
 -- Lists of things with a key, newest first: look-up by `firstWith`, keys that rise, the older elements. For rows, requests and notes alike.
-use Prim.Native.Nat.{ℕ, zero, suc, _<_, _≤_}
-use mathlib.Core.Bool.{Bool, true, false, not, cond, _&&_, _||_}
-use mathlib.Core.List.{List, [], _∷_, _++_, map}
-use mathlib.Core.Path.{_≡_, refl, sym, ap, _∙_, subst}
-use mathlib.Core.Logic.{_⊎_, inl, inr}
-use lib.Dec.{leb, ltb, eqb}
-use borrow.Author.Tests.{eqb-true, eqb-false, eq-eqb, ne-eqb, ltb-true, ltb-false, lt-ltb, le-ltb}
+use Prim.Native.Nat.{ℕ, _<_, _≤_}
+use mathlib.Core.Bool.{Bool, true, false, cond, _&&_, _||_}
+use mathlib.Core.List.{List, [], _∷_, map}
+use mathlib.Core.Path.{_≡_, refl, sym, ap, _∙_}
+use lib.Dec.{ltb, eqb}
+use borrow.Author.Tests.{eqb-true, ne-eqb, ltb-true, lt-ltb}
 use native.Mathlib.Omega.{arith}
-use Rattle.rows.specs.Lists.{filter, any, all, each, firstWith, topOf, rises, member}
+use Rattle.rows.specs.Lists.{filter, all, each, firstWith, topOf, rises, member}
 use Rattle.rows.proofs.Bools.{false-of, clash, and-l, and-r, and-i, or-l, or-r, or-fl, or-fr, eqb-sym-f, eqb-sym}
 
 module _ {A : Type 0} (key : A → ℕ) where

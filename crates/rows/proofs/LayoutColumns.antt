@@ -1,6 +1,6 @@
 -- Words in padded columns, laid one after the other: their lengths, and what stands where. Over any number of slots and any words.
 use Prim.Native.Nat.{ℕ, zero, suc, _+_, _*_, _<_, _≤_, zero-le}
-use mathlib.Core.Bool.{Bool, true, false≢true}
+use mathlib.Core.Bool.{true, false≢true}
 use mathlib.Core.List.{List, [], _∷_, _++_}
 use mathlib.Core.Path.{_≡_, refl, ap, sym, subst, _∙_}
 use mathlib.Core.Logic.{⊎-elim}
@@ -14,10 +14,11 @@ use Rattle.rows.specs.Lists.{all, rises, pad, laid, some, sameList}
 use Rattle.rows.specs.Layout.{leading}
 use Rattle.rows.proofs.Bools.{and-l, and-r, and-i, pos-some, eqb-self}
 use Rattle.rows.proofs.Keyed.{rises-first, rises-rest}
+use Rattle.rows.proofs.Lists.{all-append}
 
 -- ---- pad
 module _ {A : Type 0} (d : A) where
-  length-pad : (n : ℕ) (l : List A) → length l ≤ n → length (pad d n l) ≡ n
+  pub length-pad : (n : ℕ) (l : List A) → length l ≤ n → length (pad d n l) ≡ n
   unfolding pad
   length-pad zero [] h = refl
   length-pad zero (x ∷ xs) h = absurd (not-suc-le-zero h)
@@ -94,11 +95,6 @@ leading-pad zero (w ∷ ws) h e = absurd (not-suc-le-zero h)
 leading-pad (suc k) [] h e = refl
 leading-pad (suc k) (w ∷ ws) h e =
     rw (and-l (some w) (all some ws) e) (ap suc (leading-pad k ws (le-of-suc-le-suc h) (and-r (some w) (all some ws) e)))
-
-all-append : {A : Type 0} (f : A → Bool) (xs ys : List A) → all f xs ≡ true → all f ys ≡ true → all f (xs ++ ys) ≡ true
-unfolding all
-all-append f [] ys e d = d
-all-append f (x ∷ xs) ys e d = and-i (f x) (all f (xs ++ ys)) (and-l (f x) (all f xs) e) (all-append f xs ys (and-r (f x) (all f xs) e) d)
 
 -- keys that rise are above 0, so each key laid out counts as a slot in use
 keys-lead : {A : Type 0} (key : A → ℕ) (xs : List A) → rises key xs ≡ true → all some (laid (λ x older. key x) xs) ≡ true

@@ -3,6 +3,8 @@
 pub mod Bools
 -- look-up by key, keys that rise, older elements: for rows, requests and notes alike
 pub mod Keyed
+-- laws of lists of any elements: map, append, set, filter, members
+pub mod Lists
 -- soundness as a record, a field a clause
 pub mod Sound
 -- words in padded columns: lengths, and what stands where
@@ -11,6 +13,10 @@ pub mod LayoutColumns
 pub mod Searches
 -- each source of a sound row is 0 or an older row's number
 pub mod RowSources
+-- kinds and places: which exclude each other, what is in range
+pub mod Places
+-- what sound tables tell of one row that is found and of one listed process
+pub mod SoundFacts
 -- rows read back from the words in which they lie
 pub mod LayoutRows
 -- requests and process records read back
@@ -35,23 +41,7 @@ pub mod Standing
 pub mod Picked
 -- what the searches find where a state lies in the words
 pub mod Lookups
--- what the requests list, in their words
-pub mod Listed
--- the questions that go back along the sources
-pub mod Questions
--- stores in the words of a state, at any column and slot
-pub mod Put
--- a state that lies in words, with one change
-pub mod Changes
 -- process records in their words, one after the other
 pub mod ProcessRecords
 -- one right within others
 pub mod RightsWithin
--- a column compacted: the loops, and what laid words become
-pub mod Keep
--- the slots that rows move to, and source columns renumbered
-pub mod Renumber
--- columns of which one or all are lent and come back
-pub mod Parts
--- rows and requests removed
-pub mod Removed

@@ -1,16 +1,14 @@
 -- The words in which a state lies: their length, what stands where, and how many slots are in use.
-use Prim.Native.Nat.{ℕ, suc, _+_, _*_, _<_, _≤_}
-use mathlib.Core.Bool.{true, _&&_}
+use Prim.Native.Nat.{ℕ, _+_, _*_, _<_, _≤_}
+use mathlib.Core.Bool.{true}
 use mathlib.Core.List.{List, [], _∷_, _++_}
-use mathlib.Core.Path.{_≡_, refl, ap, sym, _∙_}
+use mathlib.Core.Path.{_≡_, refl, ap, _∙_}
 use native.Mathlib.Nat.{mul-le-mul-right, suc-mul}
 use native.Mathlib.Omega.{arith}
 use borrow.Author.Tests.{leb-true}
 use lib.ListN.{length, getD, length-append, List·getD-append}
 use lib.Seq.{getD-at}
-use Rattle.rows.specs.declared.Row.{Row}
-use Rattle.rows.specs.declared.Request.{Request}
-use Rattle.rows.specs.Lists.{rises, all, laid}
+use Rattle.rows.specs.Lists.{rises, laid}
 use Rattle.rows.specs.Limits.{rowSlots, requestSlots}
 use Rattle.rows.specs.Tables.{State}
 use Rattle.rows.specs.Sound.{rowsRise, requestsRise, rowsFit, requestsFit, itemsFew}
@@ -59,20 +57,20 @@ module _ (st : State) (few-rows : length (st .rows) ≤ rowSlots) (few-requests 
   long-requests : length (requestWords requestColumns (st .requests)) ≡ requestColumns * requestSlots
   long-requests = rw (request-columns requestColumns (st .requests)) (length-columns requestSlots requestWord (st .requests) few-requests requestColumns)
 
-  long-words : length (wordsOf st) ≡ tablesLength
+  pub long-words : length (wordsOf st) ≡ tablesLength
   unfolding wordsOf tablesLength nextAt
   long-words =
       length-append (rowWords rowColumns (st .rows)) (requestWords requestColumns (st .requests) ++ (st .next ∷ []))
       ∙ omega (arith, length-append (requestWords requestColumns (st .requests)) (st .next ∷ []), long-rows, long-requests)
 
-  row-at : (c i : ℕ) → c < rowColumns → i < rowSlots → getD (wordsOf st) (c * rowSlots + i) 0 ≡ getD (laid (rowWord c) (st .rows)) i 0
+  pub row-at : (c i : ℕ) → c < rowColumns → i < rowSlots → getD (wordsOf st) (c * rowSlots + i) 0 ≡ getD (laid (rowWord c) (st .rows)) i 0
   unfolding wordsOf requestsAt
   row-at c i h hi =
       List·getD-append (rowWords rowColumns (st .rows)) (requestWords requestColumns (st .requests) ++ (st .next ∷ [])) 0 (c * rowSlots + i)
       (omega (arith, long-rows, mul-le-mul-right rowSlots h, suc-mul c rowSlots))
       ∙ rw (row-columns rowColumns (st .rows)) (columns-at rowSlots rowWord (st .rows) few-rows rowColumns c i h hi)
 
-  request-at : (c i : ℕ) → c < requestColumns → i < requestSlots → getD (wordsOf st) (requestsAt + (c * requestSlots + i)) 0 ≡ getD (laid (requestWord c) (st .requests)) i 0
+  pub request-at : (c i : ℕ) → c < requestColumns → i < requestSlots → getD (wordsOf st) (requestsAt + (c * requestSlots + i)) 0 ≡ getD (laid (requestWord c) (st .requests)) i 0
   unfolding wordsOf
   request-at c i h hi =
       getD-after (rowWords rowColumns (st .rows)) (requestWords requestColumns (st .requests) ++ (st .next ∷ [])) requestsAt (c * requestSlots + i) long-rows
@@ -80,19 +78,19 @@ module _ (st : State) (few-rows : length (st .rows) ≤ rowSlots) (few-requests 
       (omega (arith, long-requests, mul-le-mul-right requestSlots h, suc-mul c requestSlots))
       ∙ rw (request-columns requestColumns (st .requests)) (columns-at requestSlots requestWord (st .requests) few-requests requestColumns c i h hi)
 
-  next-at : getD (wordsOf st) nextAt 0 ≡ st .next
+  pub next-at : getD (wordsOf st) nextAt 0 ≡ st .next
   unfolding wordsOf nextAt
   next-at =
       getD-after (rowWords rowColumns (st .rows)) (requestWords requestColumns (st .requests) ++ (st .next ∷ [])) requestsAt (requestColumns * requestSlots) long-rows
       ∙ getD-at (requestWords requestColumns (st .requests)) (st .next) [] 0 (requestColumns * requestSlots) long-requests
 
-  rows-in : rises (λ r. r .number) (st .rows) ≡ true → rowsIn (wordsOf st) ≡ length (st .rows)
+  pub rows-in : rises (λ r. r .number) (st .rows) ≡ true → rowsIn (wordsOf st) ≡ length (st .rows)
   unfolding rowsIn rowColumns rowWord tablesLength nextAt requestsAt
   rows-in up =
       slots-in-use (λ r. r .number) (st .rows) 0 rowSlots (wordsOf st) up few-rows (omega (arith, long-words))
       (λ i h. ap (λ (n : ℕ). getD (wordsOf st) n 0) (omega arith) ∙ row-at 0 i (omega arith) h)
 
-  requests-in : rises (λ v. v .number) (st .requests) ≡ true → requestsIn (wordsOf st) ≡ length (st .requests)
+  pub requests-in : rises (λ v. v .number) (st .requests) ≡ true → requestsIn (wordsOf st) ≡ length (st .requests)
   unfolding requestsIn requestColumns requestWord tablesLength nextAt
   requests-in up =
       slots-in-use (λ v. v .number) (st .requests) requestsAt requestSlots (wordsOf st) up few-requests (omega (arith, long-words))

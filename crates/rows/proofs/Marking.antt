@@ -1,6 +1,6 @@
 -- What is marked: the least set of numbers that has the rows passing a test and, with a source of a row, that row.
 use Prim.Native.Nat.{ℕ}
-use mathlib.Core.Bool.{Bool, true, false, not, _||_}
+use mathlib.Core.Bool.{Bool, true, false, _||_}
 use mathlib.Core.List.{List, [], _∷_, map}
 use mathlib.Core.Path.{_≡_, refl, ap, sym, _∙_}
 use mathlib.Core.Logic.{⊎-elim}
@@ -14,6 +14,7 @@ use Rattle.rows.specs.Lies.{sourcesOlder}
 use Rattle.rows.proofs.Bools.{clash, false-of, bool-eq, and-l, and-r, or-l, or-r, or-map, or-cases, all-mono, any-eq, any-mono, eqb-sym-f, member-here, member-there}
 use Rattle.rows.proofs.Keyed.{olderOf, each-first, older-key, rises-rest, rises-older, rises-fresh}
 use Rattle.rows.proofs.Agree.{Agree, first-here, first-older}
+use Rattle.rows.proofs.Lists.{any-at}
 
 abbrev Rises : List Row → Type 0
 Rises rs = rises (λ r. r .number) rs ≡ true
@@ -22,12 +23,6 @@ any-eq-on : {A : Type 0} (p f g : A → Bool) → ((a : A) → p a ≡ true → 
 unfolding all any
 any-eq-on p f g h [] e = refl
 any-eq-on p f g h (a ∷ xs) e = rw (h a (and-l (p a) (all p xs) e), any-eq-on p f g h xs (and-r (p a) (all p xs) e)) refl
-
-any-at : (p : ℕ → Bool) (ns : List ℕ) (n : ℕ) → member n ns ≡ true → p n ≡ true → any p ns ≡ true
-unfolding any member
-any-at p [] n m e = m
-any-at p (k ∷ ns) n m e =
-    ⊎-elim (λ q. or-l (p k) (any p ns) (ap p (sym (eqb-true n k q)) ∙ e)) (λ q. or-r (p k) (any p ns) (any-at p ns n q e)) (or-cases (eqb n k) (member n ns) m)
 
 found-sources : (rs : List Row) → Rises rs → sourcesOlder rs ≡ true → (n : ℕ) → member n (numbers rs) ≡ true → all (λ s. member s (numbers rs)) (sources (rowOf rs n)) ≡ true
 unfolding rowOf numbers sourcesOlder

@@ -1,6 +1,6 @@
 -- The words of a request's slot, found by its number or by its port.
-use Prim.Native.Nat.{ℕ, suc, _+_, _*_, _<_, _≤_}
-use mathlib.Core.Bool.{Bool, true, _&&_}
+use Prim.Native.Nat.{ℕ, suc, _+_, _*_, _<_}
+use mathlib.Core.Bool.{Bool, true}
 use mathlib.Core.List.{List, [], _∷_, _++_, map}
 use mathlib.Core.Path.{_≡_, refl, ap, sym, subst, _∙_}
 use native.Mathlib.Omega.{arith}
@@ -19,6 +19,7 @@ use Rattle.rows.proofs.Keyed.{olderOf, first-none}
 use Rattle.rows.proofs.LayoutColumns.{laid-at}
 use Rattle.rows.proofs.KeySlots.{slot-none, slot-member, slot-older, slot-found, newerOf, cut-first}
 use Rattle.rows.proofs.LiesWords.{lies-well, lies-request}
+use Rattle.rows.proofs.LayoutRequests.{four}
 
 pub record RequestWords (t : List ℕ) (j : ℕ) (v : Request) : Type 0 where
   pub number : getD t (10240 + j) 0 ≡ v .number
@@ -30,14 +31,6 @@ pub record RequestWords (t : List ℕ) (j : ℕ) (v : Request) : Type 0 where
   pub item3 : getD t (11008 + j) 0 ≡ getD (v .items) 2 0
   pub item4 : getD t (11136 + j) 0 ≡ getD (v .items) 3 0
   pub items : length (v .items) ≡ 4
-
-four : (l : List ℕ) → length l ≡ 4 → getD l 0 0 ∷ getD l 1 0 ∷ getD l 2 0 ∷ getD l 3 0 ∷ [] ≡ l
-four [] e = absurd (omega arith)
-four (a ∷ []) e = absurd (omega arith)
-four (a ∷ b ∷ []) e = absurd (omega arith)
-four (a ∷ b ∷ c ∷ []) e = absurd (omega arith)
-four (a ∷ b ∷ c ∷ d ∷ []) e = refl
-four (a ∷ b ∷ c ∷ d ∷ x ∷ l) e = absurd (omega arith)
 
 -- where the word of column c stands
 at-column : (t : List ℕ) (c j n : ℕ) → 10240 + (c * 128 + j) ≡ n → requestField t c j ≡ getD t n 0

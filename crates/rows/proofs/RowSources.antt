@@ -9,7 +9,7 @@ use borrow.Author.Tests.{eqb-true}
 use Rattle.rows.specs.declared.Row.{Row}
 use Rattle.rows.specs.declared.Request.{Request}
 use Rattle.rows.specs.Lists.{member, between}
-use Rattle.rows.specs.Codes.{operation, subdirectory, clientEnd, isOperation, isSubdirectory, isClient, isCopied, isNode}
+use Rattle.rows.specs.Codes.{operation, subdirectory, clientEnd, serverEnd, isOperation, isSubdirectory, isClient, isServer, isEnd, isCopied, isNode}
 use Rattle.rows.specs.Tables.{noRow, rowOf, numbers}
 use Rattle.rows.specs.Sound.{isOpening, isRegistered, isHeld, isPortEnd, isLentCopy, sourceRight}
 use Rattle.rows.proofs.Bools.{and-l, and-r, or-cases}
@@ -19,21 +19,29 @@ use Rattle.rows.proofs.Keyed.{first-there}
 abbrev pub Among : List Row → ℕ → Type 0
 Among rs n = (n ≡ 0) ⊎ (member n (numbers rs) ≡ true)
 
--- a row found in a node is there
-node-there : (rs : List Row) (n : ℕ) → isNode (rowOf rs n .place) ≡ true → member n (numbers rs) ≡ true
-unfolding rowOf numbers noRow isNode between
-node-there rs n e = first-there (λ r. r .number) noRow (λ r. isNode (r .place)) refl rs n e
+-- a row that passes a test that none fails is there
+pub row-there : (P : Row → Bool) → P noRow ≡ false → (rs : List Row) (n : ℕ) → P (rowOf rs n) ≡ true → member n (numbers rs) ≡ true
+unfolding rowOf numbers
+row-there P z rs n e = first-there (λ r. r .number) noRow P z rs n e
 
--- a row of a kind is there: the kind of none is 0, which fails the test
-kind-there : (P : ℕ → Bool) → P 0 ≡ false → (rs : List Row) (n : ℕ) → P (rowOf rs n .kind) ≡ true → member n (numbers rs) ≡ true
-unfolding rowOf numbers noRow
-kind-there P z rs n e = first-there (λ r. r .number) noRow (λ r. P (r .kind)) z rs n e
+pub node-there : (rs : List Row) (n : ℕ) → isNode (rowOf rs n .place) ≡ true → member n (numbers rs) ≡ true
+unfolding noRow isNode between
+node-there = row-there (λ r. isNode (r .place)) refl
+
+-- by its kind: that of none is 0
+pub kind-there : (P : ℕ → Bool) → P 0 ≡ false → (rs : List Row) (n : ℕ) → P (rowOf rs n .kind) ≡ true → member n (numbers rs) ≡ true
+unfolding noRow
+kind-there P z = row-there (λ r. P (r .kind)) z
+
+pub end-there : (rs : List Row) (n : ℕ) → isEnd (rowOf rs n .kind) ≡ true → member n (numbers rs) ≡ true
+unfolding isEnd isClient isServer clientEnd serverEnd
+end-there = kind-there isEnd refl
 
 operation-there : (rs : List Row) (n : ℕ) → isOperation (rowOf rs n .kind) ≡ true → member n (numbers rs) ≡ true
 unfolding isOperation operation
 operation-there = kind-there isOperation refl
 
-subdirectory-there : (rs : List Row) (n : ℕ) → isSubdirectory (rowOf rs n .kind) ≡ true → member n (numbers rs) ≡ true
+pub subdirectory-there : (rs : List Row) (n : ℕ) → isSubdirectory (rowOf rs n .kind) ≡ true → member n (numbers rs) ≡ true
 unfolding isSubdirectory subdirectory
 subdirectory-there = kind-there isSubdirectory refl
 

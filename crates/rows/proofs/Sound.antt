@@ -1,6 +1,6 @@
 -- Soundness as a record: a field for each clause, in the order of `clauses`.
 use mathlib.Core.Bool.{Bool, true}
-use mathlib.Core.List.{List, [], _∷_}
+use mathlib.Core.List.{List, _∷_}
 use mathlib.Core.Path.{_≡_, refl}
 use Rattle.rows.specs.Lists.{all}
 use Rattle.rows.specs.Tables.{State}

@@ -40,10 +40,10 @@ module _ (st : State) (s : Sound st) (n : ℕ) (t : member n (numbers (st .rows)
   look-older m h = older-first (λ r. r .number) noRow (st .rows) (s .rows-rise) n t m h
 
   -- the sources are 0 or older
-  source-lower : (rowOf (st .rows) n .source) < n
+  pub source-lower : (rowOf (st .rows) n .source) < n
   source-lower = lower (rowOf (st .rows) n .source) (shape-sources (st .requests) (rowOf (st .rows) n) older (shape (st .requests) (rowOf (st .rows) n) older right) .0)
 
-  via-lower : (rowOf (st .rows) n .via) < n
+  pub via-lower : (rowOf (st .rows) n .via) < n
   via-lower = lower (rowOf (st .rows) n .via) (shape-sources (st .requests) (rowOf (st .rows) n) older (shape (st .requests) (rowOf (st .rows) n) older right) .1)
 
   pub standing-shape : Shape (st .requests) (st .rows) (rowOf (st .rows) n)
@@ -56,7 +56,7 @@ module _ (st : State) (s : Sound st) (n : ℕ) (t : member n (numbers (st .rows)
   unfolding copiesMatch rowOf numbers older
   copied = each-first (λ r. r .number) noRow copyMatches (st .rows) (s .copies-match) n t
 
-  standing-copy : copyMatches (rowOf (st .rows) n) (st .rows) ≡ true
+  pub standing-copy : copyMatches (rowOf (st .rows) n) (st .rows) ≡ true
   unfolding copyMatches
   standing-copy = rw (look-older (rowOf (st .rows) n .source) source-lower) at copied
 

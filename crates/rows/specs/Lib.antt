@@ -7,7 +7,4 @@ pub mod Sound
 pub mod Layout
 pub mod Lies
 pub mod Searches
-pub mod Questions
-pub mod Changes
-pub mod Marks
 pub mod Computes

@@ -45,10 +45,7 @@ pub enum Found {
 
 // ---- functions
 pub mod capcaps;
-pub mod change;
 pub mod find;
 pub mod layout;
-pub mod question;
 pub mod read;
 pub mod records;
-pub mod remove;

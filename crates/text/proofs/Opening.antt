@@ -1,5 +1,5 @@
 -- An accepted opening text opens sound tables; so are the empty tables.
-use Prim.Native.Nat.{ℕ, _≤_}
+use Prim.Native.Nat.{ℕ}
 use native.Mathlib.Omega.{arith}
 use mathlib.Core.Path.{_≡_, refl}
 use mathlib.Core.Bool.{Bool, true, _&&_}
@@ -7,29 +7,26 @@ use mathlib.Core.List.{List, [], _∷_, map}
 use mathlib.Core.Logic.{inl, inr}
 use lib.ListN.{length}
 use lib.Dec.{leb, eqb}
-use borrow.Author.Tests.{eqb-true, eq-eqb, ne-eqb, lt-ltb, le-leb}
+use borrow.Author.Tests.{eqb-true, eq-eqb, lt-ltb, le-leb}
 use Rattle.rows.specs.declared.Row.{Row}
 use Rattle.rows.specs.Lists.{all, each, topOf, rises, member, distinct, between}
 use Rattle.rows.specs.Limits.{processes, nodes, greatestOperation, greatestNumber, rowSlots, requestSlots, greatestDepth}
-use Rattle.rows.specs.Codes.{isOperation, inNode, isNode, isSystem, withSystem}
+use Rattle.rows.specs.Codes.{isOperation, inNode, isNode, isSystem}
 use Rattle.rows.specs.Tables.{noRow, empty, rowOf, isListed, depthOver}
 use Rattle.rows.specs.Sound.{rowsRise, requestsRise, numbersApart, belowNext, nextInRange, rowsFit, requestsFit, recordsFit, objectInRange, objectsInRange, rightInRange, rightsInRange, placeInRange, placesInRange, fetchedInRange, isOpening, sourceRight, sourcesRight, depthRight, depthsRight, copyMatches, copiesMatch, recordInRange, recordsInRange, endPaired, endsPaired, portsStand, requestersListed, itemsFew, itemsApart, itemsLent, onePerPort, copyListed, copiesListed, olderFetched, awaitsFetch, same, systemHolds, processesPlaced}
 use Rattle.rows.proofs.Bools.{false-of, and-l, and-r, and-i, or-l, or-r, all-mono}
 use Rattle.rows.proofs.Keyed.{first-none, rises-range}
-use Rattle.rows.proofs.Sound.{Sound, sound-open}
+use Rattle.rows.proofs.Sound.{Sound}
+use Rattle.rows.proofs.Places.{range-between, node-not-system}
 use Rattle.text.specs.declared.Entry.{Entry}
 use Rattle.text.specs.Opening.{Form, nodeForm, processForm, opens, openingOf, entryRow, withForm, openedFrom}
 use Rattle.text.specs.Entry.{stateOpened}
-use Rattle.text.proofs.OpeningForms.{between-range, range-between, Good, opening-good}
+use Rattle.text.proofs.OpeningForms.{Good, opening-good}
 use Rattle.text.proofs.OpeningRows.{counted, opened-next, opened-counted, counted-top, counted-rises, entryFit, opened-all, fit-cases, fit-rights, fit-copied, fit-no-end}
 use Rattle.text.proofs.OpeningCount.{opened-few}
 use Rattle.text.proofs.OpeningRecords.{isHome, opened-length, opened-home, opened-listed, home-placed, home-ranged}
 
-pub empty-sound : Sound empty
-unfolding Rattle.rows.specs.Computes.computes
-empty-sound = sound-open empty refl
-
-opened-requests : (fs : List Form) → openedFrom empty fs .requests ≡ []
+pub opened-requests : (fs : List Form) → openedFrom empty fs .requests ≡ []
 unfolding openedFrom withForm empty
 opened-requests [] = refl
 opened-requests (nodeForm n es ∷ fs) = refl
@@ -64,8 +61,8 @@ unfolding endPaired entryRow
 row-no-end fs rs n m e b f = rw (fit-no-end fs e f) refl
 
 row-not-system : (n m : ℕ) (e : Entry) → between 1 nodes m ≡ true → same (isSystem (entryRow n m e .place)) (awaitsFetch [] n) ≡ true
-unfolding same isSystem withSystem entryRow inNode awaitsFetch nodes
-row-not-system n m e b = let (lo, hi) = between-range 1 nodes m b in let t : m ≤ 32 = hi in rw (ne-eqb m 200 (omega arith)) refl
+unfolding same entryRow inNode awaitsFetch isNode
+row-not-system n m e b = rw (node-not-system m b) refl
 
 -- ---- of each row with those older at hand
 all-each : {A : Type 0} (f : A → Bool) (g : A → List A → Bool) → ((a : A) (xs : List A) → f a ≡ true → g a xs ≡ true) → (xs : List A) → all f xs ≡ true → each g xs ≡ true

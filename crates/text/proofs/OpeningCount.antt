@@ -1,18 +1,20 @@
 -- At most 512 rows are opened: 16 for each node, and distinct numbers between 1 and n are at most n.
 use Prim.Native.Nat.{ℕ, zero, suc, _*_, _≤_}
 use native.Mathlib.Omega.{arith}
-use mathlib.Core.Path.{_≡_, refl}
+use mathlib.Core.Path.{_≡_, refl, sym, ap, _∙_}
 use mathlib.Core.Bool.{Bool, true, false, not, cond}
-use mathlib.Core.List.{List, [], _∷_}
+use mathlib.Core.List.{List, [], _∷_, map}
 use lib.ListN.{length}
 use lib.Dec.{eqb}
 use borrow.Author.Tests.{eqb-true, eqb-false}
 use Rattle.rows.specs.Lists.{filter, any, all, each, member, distinct, between}
 use Rattle.rows.specs.Limits.{nodes, mostEntries}
 use Rattle.rows.specs.Tables.{empty}
-use Rattle.rows.proofs.Bools.{and-l, and-r, and-i, not-t, or-fl, or-fr, eqb-sym-f, all-and, all-filter}
+use Rattle.rows.proofs.Bools.{and-l, and-r, not-t, or-fl, or-fr, eqb-sym-f, all-and, all-filter}
+use Rattle.rows.proofs.Places.{between-range, range-between}
+use Rattle.rows.proofs.Lists.{map-same, distinct-filter, filter-passes}
 use Rattle.text.specs.Opening.{Form, nodeForm, processForm, givesNode, withForm, openedFrom}
-use Rattle.text.proofs.OpeningForms.{between-range, range-between, formPassed, node-passed}
+use Rattle.text.proofs.OpeningForms.{formPassed, node-passed}
 use Rattle.text.proofs.OpeningRows.{entries-length}
 
 -- ---- distinct numbers between 1 and n
@@ -23,24 +25,6 @@ without-none : (m : ℕ) (ns : List ℕ) → member m ns ≡ false → filter (o
 unfolding filter member other
 without-none m [] e = refl
 without-none m (n ∷ ns) e = rw (or-fl (eqb m n) (member m ns) e, without-none m ns (or-fr (eqb m n) (member m ns) e)) refl
-
-member-filter : (f : ℕ → Bool) (n : ℕ) (ns : List ℕ) → member n ns ≡ false → member n (filter f ns) ≡ false
-unfolding filter member
-member-filter f n [] e = refl
-member-filter f n (m ∷ ns) e = pick (member-filter f n ns (or-fr (eqb n m) (member n ns) e)) (f m)
-  where
-    pick : member n (filter f ns) ≡ false → (b : Bool) → member n (cond b (m ∷ filter f ns) (filter f ns)) ≡ false
-    pick ih true = rw (or-fl (eqb n m) (member n ns) e) ih
-    pick ih false = ih
-
-distinct-filter : (f : ℕ → Bool) (ns : List ℕ) → distinct ns ≡ true → distinct (filter f ns) ≡ true
-unfolding filter distinct
-distinct-filter f [] e = refl
-distinct-filter f (n ∷ ns) e = pick (distinct-filter f ns (and-r (not (member n ns)) (distinct ns) e)) (f n)
-  where
-    pick : distinct (filter f ns) ≡ true → (b : Bool) → distinct (cond b (n ∷ filter f ns) (filter f ns)) ≡ true
-    pick ih true = rw (member-filter f n ns (not-t (member n ns) (and-l (not (member n ns)) (distinct ns) e))) ih
-    pick ih false = ih
 
 -- one of them at most is m
 length-without : (m : ℕ) (ns : List ℕ) → distinct ns ≡ true → length ns ≤ suc (length (filter (other m) ns))
@@ -53,15 +37,6 @@ length-without m (n ∷ ns) e = pick (length-without m ns (and-r (not (member n 
         let fresh : member m ns ≡ false = rw (eqb-true m n q) (not-t (member n ns) (and-l (not (member n ns)) (distinct ns) e)) in
         rw (without-none m ns fresh) (omega arith)
     pick ih false q = omega arith
-
-filter-passes : (f : ℕ → Bool) (ns : List ℕ) → all f (filter f ns) ≡ true
-unfolding filter all
-filter-passes f [] = refl
-filter-passes f (n ∷ ns) = pick (filter-passes f ns) (f n) refl
-  where
-    pick : all f (filter f ns) ≡ true → (b : Bool) → f n ≡ b → all f (cond b (n ∷ filter f ns) (filter f ns)) ≡ true
-    pick ih true q = and-i (f n) (all f (filter f ns)) q ih
-    pick ih false q = ih
 
 below : (n k : ℕ) → other (suc n) k ≡ true → between 1 (suc n) k ≡ true → between 1 n k ≡ true
 unfolding other
@@ -77,9 +52,12 @@ distinct-length zero (m ∷ ns) d r = let (lo, hi) = between-range 1 0 m (and-l 
 distinct-length (suc n) ns d r =
     let l = length-without (suc n) ns d in
     let h : length (filter (other (suc n)) ns) ≤ n =
-    distinct-length n (filter (other (suc n)) ns) (distinct-filter (other (suc n)) ns d)
+    distinct-length n (filter (other (suc n)) ns) (sym (same-keys (filter (other (suc n)) ns)) ∙ distinct-filter (λ k. k) (other (suc n)) ns (same-keys ns ∙ d))
     (all-and (other (suc n)) (between 1 (suc n)) (between 1 n) (below n) (filter (other (suc n)) ns) (filter-passes (other (suc n)) ns) (all-filter (other (suc n)) (between 1 (suc n)) ns r)) in
     omega arith
+  where
+    same-keys : (ks : List ℕ) → distinct (map (λ k. k) ks) ≡ distinct ks
+    same-keys ks = ap distinct (map-same (λ k. k) (λ k. refl) ks)
 
 -- ---- the nodes given
 nodesGiven : List Form → List ℕ

@@ -5,24 +5,15 @@ use mathlib.Core.Path.{_≡_, refl, subst}
 use mathlib.Core.Bool.{Bool, true, false, not, cond, _&&_, _||_}
 use mathlib.Core.List.{List, [], _∷_}
 use lib.ListN.{length}
-use lib.Dec.{leb, ltb, eqb}
-use borrow.Author.Tests.{ltb-true, ltb-false, leb-true, le-leb, eqb-true}
+use lib.Dec.{ltb, eqb}
+use borrow.Author.Tests.{ltb-true, ltb-false, eqb-true}
 use Rattle.rows.specs.Lists.{any, all, each, between}
 use Rattle.rows.specs.Limits.{processes, nodes, mostEntries, mostBytes}
 use Rattle.rows.specs.Codes.{operation, subdirectory, isOperation, isSubdirectory}
-use Rattle.rows.proofs.Bools.{and-l, and-r, and-i}
+use Rattle.rows.proofs.Bools.{and-l, and-r}
 use Rattle.text.specs.declared.Entry.{Entry}
 use Rattle.text.specs.Patterns.{form, whole, mostGroups}
 use Rattle.text.specs.Opening.{Form, nodeForm, processForm, Line, lastLine, formLine, badLine, FirstPass, readTo, stoppedBy, Opening, opens, refusedAt, operationEntry, subdirectoryEntry, addEntry, entriesFrom, nodeLine, processLine, openLine, lineOf, entryRanged, givesNode, givesProcess, formRefusal, firstPass, formListed, missingAt, secondPass, openingOf, entriesIn}
-
--- ---- ranges
-pub between-range : (lo hi n : ℕ) → between lo hi n ≡ true → (lo ≤ n) × (n ≤ hi)
-unfolding between
-between-range lo hi n e = (leb-true lo n (and-l (leb lo n) (leb n hi) e), leb-true n hi (and-r (leb lo n) (leb n hi) e))
-
-pub range-between : (lo hi n : ℕ) → lo ≤ n → n ≤ hi → between lo hi n ≡ true
-unfolding between
-range-between lo hi n a b = and-i (leb lo n) (leb n hi) (le-leb lo n a) (le-leb n hi b)
 
 -- ---- the shape of an entry: an operation, or a subdirectory with no operation
 unfoldable pub entryShaped : Entry → Bool

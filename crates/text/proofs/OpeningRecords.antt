@@ -15,8 +15,10 @@ use Rattle.rows.specs.Limits.{processes, nodes}
 use Rattle.rows.specs.Tables.{noProcess, empty, processAt, isListed}
 use Rattle.rows.specs.Sound.{recordUnused, recordInRange, processPlaced, placedFrom}
 use Rattle.rows.proofs.Bools.{clash, and-l, and-r, and-i, or-l, or-r, eqb-self, pos-some}
+use Rattle.rows.proofs.Places.{between-range}
+use Rattle.rows.proofs.Lists.{all-set}
 use Rattle.text.specs.Opening.{Form, nodeForm, processForm, givesProcess, withForm, openedFrom}
-use Rattle.text.proofs.OpeningForms.{between-range, formPassed, process-passed}
+use Rattle.text.proofs.OpeningForms.{formPassed, process-passed}
 
 -- ---- in range, and in its prime node through none
 unfoldable pub isHome : Process → Bool
@@ -29,12 +31,6 @@ home-is : (n : ℕ) → between 1 nodes n ≡ true → isHome (home n) ≡ true
 unfolding isHome home recordInRange
 home-is n h =
     and-i (recordInRange (home n)) (eqb n n) (or-r (recordUnused (home n)) (between 1 nodes n && between 1 nodes n) (and-i (between 1 nodes n) (between 1 nodes n) h h)) (eqb-self n)
-
-all-set : {A : Type 0} (f : A → Bool) (xs : List A) (i : ℕ) (a : A) → all f xs ≡ true → f a ≡ true → all f (set xs i a) ≡ true
-unfolding all
-all-set f [] i a e h = refl
-all-set f (x ∷ xs) zero a e h = and-i (f a) (all f xs) h (and-r (f x) (all f xs) e)
-all-set f (x ∷ xs) (suc i) a e h = and-i (f x) (all f (set xs i a)) (and-l (f x) (all f xs) e) (all-set f xs i a (and-r (f x) (all f xs) e) h)
 
 pub opened-length : (fs : List Form) → length (openedFrom empty fs .processes) ≡ processes
 unfolding openedFrom withForm empty processes

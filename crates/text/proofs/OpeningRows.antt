@@ -11,9 +11,10 @@ use borrow.Author.Tests.{eqb-true, eq-eqb, lt-ltb}
 use Rattle.rows.specs.declared.Row.{Row}
 use Rattle.rows.specs.Lists.{any, all, each, topOf, rises, between}
 use Rattle.rows.specs.Limits.{processes, nodes, greatestOperation, allRights}
-use Rattle.rows.specs.Codes.{operation, subdirectory, clientEnd, serverEnd, isOperation, isSubdirectory, isClient, isServer, isEnd, isCopied}
+use Rattle.rows.specs.Codes.{operation, isOperation, isSubdirectory, isEnd, isCopied}
 use Rattle.rows.specs.Tables.{empty}
-use Rattle.rows.proofs.Bools.{and-l, and-r, and-i, or-cases, or-l, or-r, all-and}
+use Rattle.rows.proofs.Bools.{and-l, and-r, and-i, or-l, or-r, all-and}
+use Rattle.rows.proofs.Places.{copied-no-end}
 use Rattle.text.specs.declared.Entry.{Entry}
 use Rattle.text.specs.Opening.{Form, nodeForm, processForm, entryRanged, givesNode, givesProcess, entryListed, formListed, entryRow, withEntries, withForm, openedFrom}
 use Rattle.text.proofs.OpeningForms.{entryShaped, formPassed, Good, NodePassed, node-passed}
@@ -138,15 +139,6 @@ fit-copied fs e h =
     elim (fit-cases fs e h) [
       | inl o ↦ or-l (isOperation (e .kind)) (isSubdirectory (e .kind)) (o .kind)
       | inr s ↦ or-r (isOperation (e .kind)) (isSubdirectory (e .kind)) (s .kind)
-    ]
-
--- an operation or a subdirectory is no end
-pub copied-no-end : (k : ℕ) → isCopied k ≡ true → isEnd k ≡ false
-unfolding isCopied isOperation isSubdirectory isEnd isClient isServer operation subdirectory clientEnd serverEnd
-copied-no-end k h =
-    elim (or-cases (eqb k 1) (eqb k 2) h) [
-      | inl o ↦ rw (eqb-true k 1 o) refl
-      | inr s ↦ rw (eqb-true k 2 s) refl
     ]
 
 pub fit-no-end : (fs : List Form) (e : Entry) → entryFit fs e ≡ true → isEnd (e .kind) ≡ false

@@ -4,7 +4,6 @@ use native.Mathlib.Omega.{arith}
 use mathlib.Core.Path.{_≡_, refl, subst}
 use mathlib.Core.Bool.{Bool, true, false, not, cond, _&&_}
 use mathlib.Core.List.{List, [], _∷_, _++_, map}
-use mathlib.Core.Logic.{_⊎_, inl, inr}
 use lib.ListN.{length}
 use lib.Dec.{leb, ltb, eqb}
 use borrow.Author.Tests.{ltb-false, leb-true, lt-ltb}
@@ -12,11 +11,9 @@ use Rattle.rows.specs.Lists.{all, distinct, between, some, filter}
 use Rattle.rows.specs.Limits.{allRights, greatestNumber, mostItems, mostBytes}
 use Rattle.rows.proofs.Bools.{and-l, and-r, all-mono}
 use Rattle.calls.specs.declared.Item.{Item}
-use Rattle.calls.specs.declared.Items.{Items}
 use Rattle.calls.specs.declared.Call.{Call}
 use Rattle.calls.specs.declared.Call.the-variants.{Go, Hold, Register, Drop, Port, Close, Ask, Fetch, Reply, Refuse, Revoke, Comes}
 use Rattle.calls.specs.Loans.{itemsOf}
-use Rattle.calls.specs.Calls.{callerOf}
 use Rattle.text.specs.declared.Reading.{Reading}
 use Rattle.text.specs.declared.Reading.the-variants.{Asks, Crowded, Refused}
 use Rattle.text.specs.Patterns.{form, whole, wordOf, mostGroups}
@@ -183,33 +180,6 @@ pub reading-good : (line : List ℕ) (c : Call) → readingOf line ≡ Asks c �
 unfolding Reads
 reading-good line c e = subst Reads e (line-reads line)
 
-pub reading-crowded : (line : List ℕ) (p : ℕ) → readingOf line ≡ Crowded p → isProcess p ≡ true
-unfolding Reads
-reading-crowded line p e = subst Reads e (line-reads line)
-
 pub reading-refused : (line : List ℕ) (k : ℕ) → readingOf line ≡ Refused k → isRefusal k ≡ true
 unfolding Reads
 reading-refused line k e = subst Reads e (line-reads line)
-
--- a call's caller is a process; comes has none
-pub good-caller : (c : Call) → Good c → (callerOf c ≡ 0) ⊎ (isProcess (callerOf c) ≡ true)
-unfolding Good callerOf
-good-caller (Go p e) g = inr (g .caller)
-good-caller (Hold p s) g = inr (g .caller)
-good-caller (Register p e) g = inr (g .caller)
-good-caller (Drop p e) g = inr (g .caller)
-good-caller (Port p e) g = inr (g .caller)
-good-caller (Close p c) g = inr (g .caller)
-good-caller (Ask p c is) g = inr (g .caller)
-good-caller (Fetch p v) g = inr (g .caller)
-good-caller (Reply p v) g = inr (g .caller)
-good-caller (Refuse p v) g = inr (g .caller)
-good-caller (Revoke p q) g = inr (g .caller)
-good-caller (Comes e q) g = inl refl
-
-pub reading-caller : (line : List ℕ) (c : Call) → readingOf line ≡ Asks c → (callerOf c ≡ 0) ⊎ (isProcess (callerOf c) ≡ true)
-reading-caller line c e = good-caller c (reading-good line c e)
-
-pub reading-ask : (line : List ℕ) (p c : ℕ) (is : Items) → readingOf line ≡ Asks (Ask p c is) → GoodAsk p c (itemsOf is)
-unfolding Good
-reading-ask line p c is e = reading-good line (Ask p c is) e

@@ -1,0 +1,133 @@
+// Removal of marked rows and of marked requests, in place: what is left moves to the front, 0 comes after it.
+use rows::layout::DEPTH;
+use rows::layout::NEXT;
+use rows::layout::Q_NUMBER;
+use rows::layout::REQUESTS;
+use rows::layout::ROWS;
+use rows::layout::SOURCE;
+use rows::layout::VIA;
+ghost use mathlib.Core.Path.{_≡_};
+ghost use mathlib.Core.Bool.{Bool, true, false, not};
+ghost use mathlib.Core.List.{List, _++_};
+ghost use Prim.Native.Nat.{ℕ, _≤_, _<_, _*_};
+ghost use lib.ListN.{length, getD, take, drop};
+ghost use Rattle.rows.specs.declared.Request.{Request};
+ghost use Rattle.rows.specs.Lists.{filter, pad, member};
+ghost use Rattle.rows.specs.Tables.{State};
+ghost use Rattle.rows.specs.Lies.{Lies, withRows, withRequests};
+ghost use Rattle.changes.specs.Marks.{tested, keep, marksOf, closedUnder, compacted, compactedParts, movedTo, remapped};
+
+// Moves what is not marked of the first words to the front, and says how many that are.
+fn gather(column: &mut [u32], marks: &[bool], count: usize) -> usize
+    requires { ⌜ (count ≤ length (now column)) × (count ≤ length (now marks)) ⌝ }
+    ensures few { λ r. ⌜ r ≤ count ⌝ }
+    ensures front { λ r. ⌜ take r (now (column .exit)) ≡ keep (now (marks .entry)) (take count (now (column .entry))) ⌝ }
+    ensures rest { λ _. ⌜ drop count (now (column .exit)) ≡ drop count (now (column .entry)) ⌝ }
+{
+    let mut i = 0;
+    let mut j = 0;
+    while i < count {
+        column[j] = column[i];
+        if !marks[i] {
+            j += 1;
+        }
+        i += 1;
+    }
+    j
+}
+
+// Sets the words from one place up to another to 0.
+fn clear(column: &mut [u32], from: usize, to: usize)
+    requires { ⌜ (from ≤ to) × (to ≤ length (now column)) ⌝ }
+    ensures { λ _. ⌜ now (column .exit) ≡ pad 0 to (take from (now (column .entry))) ++ drop to (now (column .entry)) ⌝ }
+{
+    let mut i = from;
+    while i < to {
+        column[i] = 0;
+        i += 1;
+    }
+}
+
+fn compact_column(column: &mut [u32], marks: &[bool], count: usize)
+    requires { ⌜ (count ≤ length (now column)) × (count ≤ length (now marks)) ⌝ }
+    ensures { λ _. ⌜ now (column .exit) ≡ compacted (now (marks .entry)) count (now (column .entry)) ⌝ }
+{
+    let left = gather(column, marks, count);
+    clear(column, left, count);
+}
+
+// Compacts columns of the same size that stand one after the other.
+fn compact_columns(part: &mut [u32], size: usize, columns: usize, marks: &[bool], count: usize)
+    requires { ⌜ (length (now part) ≡ columns * size) × (count ≤ size) × (count ≤ length (now marks)) ⌝ }
+    ensures { λ _. ⌜ now (part .exit) ≡ compactedParts (now (marks .entry)) count size columns (now (part .entry)) ⌝ }
+{
+    let mut c = 0;
+    while c < columns {
+        let a = c * size;
+        let e = a + size;
+        compact_column(&mut part[a..e], marks, count);
+        c += 1;
+    }
+}
+
+// Writes what each slot plus 1 of the first slots becomes; 0 stays 0.
+fn ranks(to: &mut [u32], marks: &[bool], count: usize)
+    requires { ⌜ (count ≤ 1024) × (count < length (now to)) × (count ≤ length (now marks)) ⌝ }
+    ensures { λ _. ⌜ ((s : ℕ) → s ≤ count → getD (now (to .exit)) s 0 ≡ movedTo (now (marks .entry)) s) ⌝ }
+{
+    to[0] = 0;
+    let mut i = 0;
+    let mut j = 1;
+    while i < count {
+        to[i + 1] = j;
+        if !marks[i] {
+            j += 1;
+        }
+        i += 1;
+    }
+}
+
+// The word of a table, 0 past its end.
+fn to_at(to: &[u32], s: u32) -> u32
+    ensures { λ r. ⌜ r ≡ getD (now (to .entry)) s 0 ⌝ }
+{
+    let j = s as usize;
+    if j < to.len() {
+        return to[j];
+    }
+    0
+}
+
+fn remap(column: &mut [u32], to: &[u32], count: usize)
+    requires { ⌜ count ≤ length (now column) ⌝ }
+    ensures { λ _. ⌜ now (column .exit) ≡ remapped (now (to .entry)) count (now (column .entry)) ⌝ }
+{
+    let mut i = 0;
+    while i < count {
+        let s = column[i];
+        column[i] = to_at(to, s);
+        i += 1;
+    }
+}
+
+// Removes the marked rows; the marks are closed, and the sources of the rows that are left are renumbered.
+// Ruled out: a row that is left with the slot that its source had before; a column of which one word stays where a row went.
+pub fn remove_rows(t: &mut [u32], count: usize, marks: &[bool; 1024])
+    requires { ⌜ (length (now t) ≡ 11265) × (count ≤ 1024) ⌝ }
+    ensures { λ _. ⌜ ((st : State) (g : List ℕ) → Lies st (now (t .entry)) → count ≡ length (st .rows) → now (marks .entry) ≡ pad false 1024 (marksOf g (st .rows)) → closedUnder g (st .rows) ≡ true → Lies (withRows (filter (λ r. not (member (r .number) g)) (st .rows)) st) (now (t .exit))) ⌝ }
+{
+    let mut to = [0u32; 1025];
+    ranks(&mut to, marks, count);
+    remap(&mut t[SOURCE..VIA], &to, count);
+    remap(&mut t[VIA..DEPTH], &to, count);
+    compact_columns(&mut t[0..Q_NUMBER], ROWS, 10, marks, count);
+}
+
+// Removes the marked requests.
+// Ruled out: a request that is left with another's port; a change of a row's word.
+pub fn remove_requests(t: &mut [u32], marks: &[bool; 128])
+    requires { ⌜ length (now t) ≡ 11265 ⌝ }
+    ensures { λ _. ⌜ ((st : State) (f : Request → Bool) → Lies st (now (t .entry)) → now (marks .entry) ≡ pad false 128 (tested f (st .requests)) → Lies (withRequests (filter (λ v. not (f v)) (st .requests)) st) (now (t .exit))) ⌝ }
+{
+    compact_columns(&mut t[Q_NUMBER..NEXT], REQUESTS, 8, marks, REQUESTS);
+}

@@ -1,0 +1,5 @@
+-- Laws behind the functions of questions. One line a file:
+-- what the requests list, in their words
+pub mod Listed
+-- the questions that go back along the sources
+pub mod Questions

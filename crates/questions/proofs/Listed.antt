@@ -1,0 +1,80 @@
+-- What the requests list, in their words: the items of a slot, and whether an open request lists an end.
+use Prim.Native.Nat.{ℕ, zero, suc, _+_, _*_, _<_}
+use mathlib.Core.Bool.{Bool, true, false, _||_}
+use mathlib.Core.List.{List}
+use mathlib.Core.Path.{_≡_, refl, ap, sym, _∙_}
+use mathlib.Core.Logic.{⊎-elim}
+use native.Mathlib.Nat.{eq-or-lt-of-le, le-of-suc-le-suc}
+use native.Mathlib.Numerals.{add-one}
+use native.Mathlib.Omega.{arith}
+use lib.Dec.{eqb}
+use lib.ListN.{getD}
+use Rattle.rows.specs.declared.Request.{Request}
+use Rattle.rows.specs.Lists.{any, member, some}
+use Rattle.rows.specs.Limits.{rowSlots, requestSlots}
+use Rattle.rows.specs.Tables.{State, lists, onLoan}
+use Rattle.rows.specs.Sound.{itemsFew}
+use Rattle.rows.specs.Layout.{rowColumns, requestColumns, requestsAt, requestField, requestAt, requestsTo, requestsIn}
+use Rattle.rows.specs.Lies.{Lies}
+use Rattle.rows.proofs.Bools.{or-l, or-r, any-eq}
+use Rattle.rows.proofs.LayoutRequests.{requests-back}
+use Rattle.rows.proofs.LiesWords.{lies-well, lies-requests, lies-request}
+
+-- the requests are read back from the words in which a state lies
+pub requests-read : {st : State} {t : List ℕ} → Lies st t → requestsTo t (requestsIn t) ≡ st .requests
+unfolding itemsFew requestSlots requestsAt rowColumns rowSlots requestColumns
+requests-read {st} {t} lie = rw (lies-requests lie) (requests-back t (st .requests) (lies-well lie .requests-fit) (lies-request lie) (lies-well lie .items-few))
+
+-- the four items of a slot
+at-column : (t : List ℕ) (c j n : ℕ) → 10240 + (c * 128 + j) ≡ n → requestField t c j ≡ getD t n 0
+unfolding requestField requestsAt rowColumns rowSlots requestSlots
+at-column t c j n e = ap (λ (k : ℕ). getD t k 0) e
+
+four-tests : (a b c d : Bool) → a || b || c || d ≡ a || (b || (c || (d || false)))
+four-tests true b c d = refl
+four-tests false true c d = refl
+four-tests false false true d = refl
+four-tests false false false true = refl
+four-tests false false false false = refl
+
+pub items-tested : (t : List ℕ) (j e : ℕ)
+    → eqb e (getD t (10752 + j) 0) || eqb e (getD t (10880 + j) 0) || eqb e (getD t (11008 + j) 0) || eqb e (getD t (11136 + j) 0) ≡ member e (requestAt t j .items)
+unfolding member requestAt
+items-tested t j e =
+    rw (at-column t 4 j (10752 + j) (omega arith), at-column t 5 j (10880 + j) (omega arith), at-column t 6 j (11008 + j) (omega arith), at-column t 7 j (11136 + j) (omega arith))
+    (four-tests (eqb e (getD t (10752 + j) 0)) (eqb e (getD t (10880 + j) 0)) (eqb e (getD t (11008 + j) 0)) (eqb e (getD t (11136 + j) 0)))
+
+any-at : (P : Request → Bool) (t : List ℕ) (j k : ℕ) → j < k → P (requestAt t j) ≡ true → any P (requestsTo t k) ≡ true
+unfolding any requestsTo
+any-at P t j zero h e = absurd (omega arith)
+any-at P t j (suc k) h e =
+    ⊎-elim (λ d. or-l (P (requestAt t k)) (any P (requestsTo t k)) (ap (λ (i : ℕ). P (requestAt t i)) (sym d) ∙ e))
+    (λ lt. or-r (P (requestAt t k)) (any P (requestsTo t k)) (any-at P t j k lt e))
+    (eq-or-lt-of-le (le-of-suc-le-suc h))
+
+module _ (t : List ℕ) (e : ℕ) where
+  abbrev listed : Request → Bool
+  listed v = member e (v .items)
+
+  -- none of the first j requests lists e
+  unfoldable pub Unlisted : ℕ → Type 0
+  Unlisted j = any listed (requestsTo t j) ≡ false
+
+  pub unlisted-none : Unlisted 0
+  unfolding Unlisted any requestsTo
+  unlisted-none = refl
+
+  pub unlisted-more : (j : ℕ) → Unlisted j → member e (requestAt t j .items) ≡ false → Unlisted (j + 1)
+  unfolding Unlisted any requestsTo
+  unlisted-more j u h = rw (add-one j, h) u
+
+  on-loan : (st : State) → Lies st t → some e ≡ true → any listed (requestsTo t (requestsIn t)) ≡ onLoan (st .requests) e
+  unfolding onLoan lists
+  on-loan st lie pos = rw (requests-read lie) (any-eq listed (lists e) (λ v. rw pos refl) (st .requests))
+
+  pub loan-here : (j : ℕ) → j < requestsIn t → member e (requestAt t j .items) ≡ true → (st : State) → Lies st t → some e ≡ true → true ≡ onLoan (st .requests) e
+  loan-here j h m st lie pos = sym (any-at listed t j (requestsIn t) h m) ∙ on-loan st lie pos
+
+  pub loan-none : Unlisted (requestsIn t) → (st : State) → Lies st t → some e ≡ true → false ≡ onLoan (st .requests) e
+  unfolding Unlisted
+  loan-none u st lie pos = sym u ∙ on-loan st lie pos

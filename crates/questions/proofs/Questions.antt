@@ -1,0 +1,284 @@
+-- The questions that go back along the sources: what a row's words say of it, one step back on sound tables, and the depth that falls.
+use Prim.Native.Nat.{ℕ, zero, suc, _+_, _-_, _<_, _≤_, max, zero-le, suc-le-suc}
+use mathlib.Core.Bool.{Bool, true, false, not, _&&_, _||_}
+use mathlib.Core.List.{List, [], _∷_}
+use mathlib.Core.Path.{_≡_, refl, ap, sym, _∙_}
+use mathlib.Core.Logic.{inl, inr}
+use native.Mathlib.Numerals.{add-one}
+use native.Mathlib.Omega.{arith}
+use borrow.Author.Tests.{eqb-true, leb-true}
+use lib.Dec.{leb, eqb}
+use lib.ListN.{getD}
+use Rattle.rows.specs.declared.Row.{Row}
+use Rattle.rows.specs.Lists.{filter, any, member, some, nonzero}
+use Rattle.rows.specs.Limits.{greatestDepth}
+use Rattle.rows.specs.Codes.{operation, subdirectory, clientEnd, isOperation, isSubdirectory, isClient, isEnd, isCopied}
+use Rattle.rows.specs.Tables.{State, noRow, rowOf, numbers, sources, depthOver, reaches, marked, bears, comesFrom, onLoan, lentItself, isLent}
+use Rattle.rows.specs.Sound.{rowsRise, sound, isOpening, isRegistered, isHeld, isPortEnd, isLentCopy, sourceRight, sourcesRight, depthRight, depthsRight}
+use Rattle.rows.specs.Lies.{Lies, rowSlot}
+use Rattle.questions.specs.Questions.{touches, Touched, Reaches, PortReaches}
+use Rattle.rows.proofs.Bools.{false-of, clash, and-l, and-r, or-r, pos-some, any-eq}
+use Rattle.rows.proofs.Keyed.{olderOf, each-first, older-first, older-key, rises-range}
+use Rattle.rows.proofs.Sound.{Sound, sound-open}
+use Rattle.rows.proofs.RowSources.{Among, Shape, opening, registered, held, port-end, lent-copy, shape, shape-sources}
+use Rattle.rows.proofs.Marking.{marked-stands, marked-reaches, marked-closed}
+use Rattle.rows.proofs.Standing.{standing-shape, sources-older}
+use Rattle.rows.proofs.Slots.{slot-le, slot-there, lies-well, row-found, row-words, source-of, via-of}
+
+or-none : (b : Bool) → b || false ≡ b
+or-none true = refl
+or-none false = refl
+
+-- ---- what is asked of the row in slot i, in its words
+module _ (t : List ℕ) (i q : ℕ) where
+  pub touched-bears : (q ≡ 0 → ⊥) → Touched t i q (eqb (getD t (9216 + i) 0) q)
+  unfolding Touched touches bears
+  touched-bears h st n lie e = rw (pos-some q (omega arith), row-words lie n i e .request) refl
+
+  -- lent itself, where q is 0
+  lent-itself : (r : Bool) → q ≡ 0 → ((st : State) (n : ℕ) → Lies st t → rowSlot (st .rows) n ≡ suc i → r ≡ lentItself (st .requests) (rowOf (st .rows) n)) → Touched t i q r
+  unfolding Touched touches some
+  lent-itself r z h st n lie e = rw z (h st n lie e)
+
+  pub touched-bearing : q ≡ 0 → (getD t (9216 + i) 0 ≡ 0 → ⊥) → Touched t i q true
+  unfolding lentItself
+  touched-bearing z h =
+      lent-itself true z
+      (λ st n lie e.
+      let r = rowOf (st .rows) n in
+      let w = row-words lie n i e .request in
+      sym (or-r (isEnd (r .kind) && onLoan (st .requests) (r .number)) (some (r .request)) (pos-some (r .request) (omega arith))))
+
+  -- not bearing a request: an end on loan
+  no-request : (r : Bool) → q ≡ 0 → getD t (9216 + i) 0 ≡ 0
+      → ((st : State) (n : ℕ) → Lies st t → rowSlot (st .rows) n ≡ suc i → r ≡ isEnd (getD t (1024 + i) 0) && onLoan (st .requests) (rowOf (st .rows) n .number))
+      → Touched t i q r
+  unfolding lentItself some
+  no-request r z h d =
+      lent-itself r z
+      (λ st n lie e.
+      let w = row-words lie n i e in
+      let none : rowOf (st .rows) n .request ≡ 0 = sym (w .request) ∙ h in
+      rw (none, ← w .kind) (d st n lie e ∙ sym (or-none (isEnd (getD t (1024 + i) 0) && onLoan (st .requests) (rowOf (st .rows) n .number)))))
+
+  pub touched-loan : (r : Bool) → q ≡ 0 → getD t (9216 + i) 0 ≡ 0 → isEnd (getD t (1024 + i) 0) ≡ true
+      → ((st : State) → Lies st t → some (getD t (0 + i) 0) ≡ true → r ≡ onLoan (st .requests) (getD t (0 + i) 0))
+      → Touched t i q r
+  unfolding numbers
+  touched-loan r z h k d =
+      no-request r z h
+      (λ st n lie e.
+      let (there, own, lt) = row-found (st .rows) n i e in
+      let pos = rises-range (λ r. r .number) (st .rows) (lies-well lie .rows-rise) n there .0 in
+      let number : getD t (0 + i) 0 ≡ rowOf (st .rows) n .number = ap (λ (j : ℕ). getD t j 0) (omega arith) ∙ row-words lie n i e .number in
+      rw k (d st lie (pos-some (getD t (0 + i) 0) (omega arith)) ∙ ap (onLoan (st .requests)) number))
+
+  pub touched-other : q ≡ 0 → getD t (9216 + i) 0 ≡ 0 → isEnd (getD t (1024 + i) 0) ≡ false → Touched t i q false
+  touched-other z h k = no-request false z h (λ st n lie e. rw k refl)
+
+-- ---- one step back
+zero-some : some 0 ≡ false
+unfolding some
+zero-some = refl
+
+any-nonzero : (P : ℕ → Bool) → P 0 ≡ false → (a : ℕ) (ns : List ℕ) → any P (nonzero (a ∷ ns)) ≡ P a || any P (nonzero ns)
+unfolding any nonzero filter
+any-nonzero P z zero ns = rw (zero-some, z) refl
+any-nonzero P z (suc a) ns = rw (pos-some (suc a) (suc-le-suc zero-le)) refl
+
+any-sources : (P : ℕ → Bool) → P 0 ≡ false → (r : Row) → any P (sources r) ≡ P (r .source) || P (r .via)
+unfolding sources any nonzero filter
+any-sources P z r = any-nonzero P z (r .source) (r .via ∷ []) ∙ ap (λ (b : Bool). P (r .source) || b) (any-nonzero P z (r .via) [] ∙ or-none (P (r .via)))
+
+-- an end is no copy
+no-copy : (k : ℕ) → isClient k ≡ true → isCopied k ≡ true → ⊥
+unfolding isClient isCopied isOperation isSubdirectory clientEnd operation subdirectory
+no-copy k e c = let z = eqb-true k 3 e in clash c (rw z refl)
+
+module _ (st : State) (s : Sound st) where
+  -- a row that is not there is not reached
+  pub reaches-none : (f : Row → Bool) (n : ℕ) → member n (numbers (st .rows)) ≡ false → reaches f (st .rows) n ≡ false
+  unfolding rowsRise
+  reaches-none f n h = false-of (reaches f (st .rows) n) (λ e. clash (marked-stands f (st .rows) n (marked-reaches f (st .rows) (s .rows-rise) n ∙ e)) h)
+
+  zero-none : member 0 (numbers (st .rows)) ≡ false
+  unfolding rowsRise numbers
+  zero-none = false-of (member 0 (numbers (st .rows))) (λ e. let (lo, hi) = rises-range (λ r. r .number) (st .rows) (s .rows-rise) 0 e in omega arith)
+
+  reaches-zero : (f : Row → Bool) → reaches f (st .rows) 0 ≡ false
+  reaches-zero f = reaches-none f 0 zero-none
+
+  -- a row is reached if it passes or one of its sources is reached
+  pub reaches-step : (f : Row → Bool) (n : ℕ) → member n (numbers (st .rows)) ≡ true
+      → reaches f (st .rows) n ≡ f (rowOf (st .rows) n) || (reaches f (st .rows) (rowOf (st .rows) n .source) || reaches f (st .rows) (rowOf (st .rows) n .via))
+  unfolding rowsRise
+  reaches-step f n h =
+      let rs = st .rows in
+      let r = rowOf rs n in
+      sym (marked-reaches f rs (s .rows-rise) n)
+      ∙ marked-closed f rs (s .rows-rise) (sources-older st s) n h
+      ∙ ap (λ (b : Bool). f r || b)
+      (any-eq (λ m. member m (marked f rs)) (λ m. reaches f rs m) (marked-reaches f rs (s .rows-rise)) (sources r)
+      ∙ any-sources (λ m. reaches f rs m) (reaches-zero f) r)
+
+  module _ (n : ℕ) (t : member n (numbers (st .rows)) ≡ true) where
+    -- the depths of the sources are less
+    pub depth-falls : (rowOf (st .rows) (rowOf (st .rows) n .source) .depth < rowOf (st .rows) n .depth)
+        × (rowOf (st .rows) (rowOf (st .rows) n .via) .depth < rowOf (st .rows) n .depth)
+        × (rowOf (st .rows) n .depth ≤ 12)
+    unfolding depthsRight depthRight depthOver greatestDepth rowsRise rowOf numbers sourcesRight
+    depth-falls =
+        let r = rowOf (st .rows) n in
+        let old = olderOf (λ r. r .number) (st .rows) n in
+        let over = suc (max (rowOf old (r .source) .depth) (rowOf old (r .via) .depth)) in
+        let right : eqb (r .depth) over && leb (r .depth) 12 ≡ true = each-first (λ r. r .number) noRow depthRight (st .rows) (s .depths-right) n t in
+        let (a, b) = shape-sources (st .requests) r old (shape (st .requests) r old (each-first (λ r. r .number) noRow (sourceRight (st .requests)) (st .rows) (s .sources-right) n t)) in
+        let same : r .depth ≡ suc (max (rowOf (st .rows) (r .source) .depth) (rowOf (st .rows) (r .via) .depth))
+        = eqb-true (r .depth) over (and-l (eqb (r .depth) over) (leb (r .depth) 12) right) ∙ rw (look (r .source) a, look (r .via) b) refl in
+        let most : r .depth ≤ 12 = leb-true (r .depth) 12 (and-r (eqb (r .depth) over) (leb (r .depth) 12) right) in
+        (omega arith, omega arith, most)
+      where
+        lower : (m : ℕ) → Among (olderOf (λ r. r .number) (st .rows) n) m → m < n
+        lower m (inl z) = let (lo, hi) = rises-range (λ r. r .number) (st .rows) (s .rows-rise) n t in omega arith
+        lower m (inr u) = older-key (λ r. r .number) (st .rows) (s .rows-rise) n m t u .0
+
+        look : (m : ℕ) → Among (olderOf (λ r. r .number) (st .rows) n) m → rowOf (olderOf (λ r. r .number) (st .rows) n) m ≡ rowOf (st .rows) m
+        look m a = older-first (λ r. r .number) noRow (st .rows) (s .rows-rise) n t m (lower m a)
+
+    -- a client end has one source, its operation row
+    pub client-via : isClient (rowOf (st .rows) n .kind) ≡ true → rowOf (st .rows) n .via ≡ 0
+    unfolding isOpening isRegistered isHeld isPortEnd isLentCopy
+    client-via k = pick (standing-shape st s n t)
+      where
+        r : Row
+        r = rowOf (st .rows) n
+
+        pick : Shape (st .requests) (st .rows) r → r .via ≡ 0
+        pick (opening e) = let c : isCopied (r .kind) ≡ true = search (and-l, and-r) in absurd (no-copy (r .kind) k c)
+        pick (registered e) = let c : isCopied (r .kind) ≡ true = search (and-l, and-r) in absurd (no-copy (r .kind) k c)
+        pick (held e) = let c : isCopied (r .kind) ≡ true = search (and-l, and-r) in absurd (no-copy (r .kind) k c)
+        pick (port-end e) = let z : eqb (r .via) 0 ≡ true = search (and-l, and-r) in eqb-true (r .via) 0 z
+        pick (lent-copy e) = let c : isCopied (r .kind) ≡ true = search (and-l, and-r) in absurd (no-copy (r .kind) k c)
+
+    -- what bears a request is a copy, with the port it was lent over under it
+    pub copy-port : (rowOf (st .rows) n .request ≡ 0 → ⊥) → isClient (rowOf (st .rows) (rowOf (st .rows) n .via) .kind) ≡ true
+    unfolding isOpening isRegistered isHeld isPortEnd isLentCopy
+    copy-port h = pick (standing-shape st s n t)
+      where
+        r : Row
+        r = rowOf (st .rows) n
+
+        none : eqb (r .request) 0 ≡ true → isClient (rowOf (st .rows) (r .via) .kind) ≡ true
+        none z = absurd (h (eqb-true (r .request) 0 z))
+
+        pick : Shape (st .requests) (st .rows) r → isClient (rowOf (st .rows) (r .via) .kind) ≡ true
+        pick (opening e) = let z : eqb (r .request) 0 ≡ true = search (and-l, and-r) in none z
+        pick (registered e) = let z : eqb (r .request) 0 ≡ true = search (and-l, and-r) in none z
+        pick (held e) = let z : eqb (r .request) 0 ≡ true = search (and-l, and-r) in none z
+        pick (port-end e) = let z : eqb (r .request) 0 ≡ true = search (and-l, and-r) in none z
+        pick (lent-copy e) = search (and-l, and-r)
+
+-- ---- a step of the questions over the words: the row at source word s, in slot i
+module _ (t : List ℕ) (s q d : ℕ) where
+  -- no row, or none so near
+  pub question-none : (0 < d → 0 < s → s ≤ 1024 → ⊥) → Reaches t s q d false
+  unfolding Reaches rowSlot numbers
+  question-none h st n so lie e deep =
+      sym
+      (reaches-none st (sound-open st so) (touches st q) n
+      (false-of (member n (numbers (st .rows)))
+      (λ there.
+      let (a, b, c) = depth-falls st (sound-open st so) n there in
+      let first = slot-there (λ r. r .number) (st .rows) n there in
+      let last = slot-le (λ r. r .number) (st .rows) n in
+      let fit = lies-well lie .rows-fit in
+      h (omega arith) (omega arith) (omega arith))))
+
+  pub row-port : (r : Bool) → Reaches t s q d r → PortReaches t s q d r
+  unfolding Reaches PortReaches
+  row-port r h st n so lie e deep client = h st n so lie e deep
+
+  module _ (i : ℕ) (at : s ≡ suc i) where
+    -- the row itself
+    module _ (st : State) (n : ℕ) (so : sound st ≡ true) (lie : Lies st t) (e : rowSlot (st .rows) n ≡ s) (deep : rowOf (st .rows) n .depth ≤ d) where
+      whole : Sound st
+      whole = sound-open st so
+
+      there : member n (numbers (st .rows)) ≡ true
+      there = row-found (st .rows) n i (e ∙ at) .0
+
+      step : reaches (touches st q) (st .rows) n
+          ≡ touches st q (rowOf (st .rows) n) || (reaches (touches st q) (st .rows) (rowOf (st .rows) n .source) || reaches (touches st q) (st .rows) (rowOf (st .rows) n .via))
+      step = reaches-step st whole (touches st q) n there
+
+      itself : (r : Bool) → Touched t i q r → r ≡ touches st q (rowOf (st .rows) n)
+      unfolding Touched
+      itself r h = h st n lie (e ∙ at)
+
+      source : (r : Bool) → Reaches t (getD t (6144 + i) 0) q (d - 1) r → r ≡ reaches (touches st q) (st .rows) (rowOf (st .rows) n .source)
+      unfolding Reaches
+      source r h =
+          let (a, b, c) = depth-falls st whole n there in
+          h st (rowOf (st .rows) n .source) so lie
+          (sym (row-words lie n i (e ∙ at) .source ∙ source-of st (lies-well lie) n i (e ∙ at) .0)) (omega arith)
+
+      via-slot : rowSlot (st .rows) (rowOf (st .rows) n .via) ≡ getD t (7168 + i) 0
+      via-slot = sym (row-words lie n i (e ∙ at) .via ∙ via-of st (lies-well lie) n i (e ∙ at) .0)
+
+      via : (r : Bool) → Reaches t (getD t (7168 + i) 0) q (d - 1) r → r ≡ reaches (touches st q) (st .rows) (rowOf (st .rows) n .via)
+      unfolding Reaches
+      via r h = let (a, b, c) = depth-falls st whole n there in h st (rowOf (st .rows) n .via) so lie via-slot (omega arith)
+
+      port : (getD t (9216 + i) 0 ≡ 0 → ⊥) → (r : Bool) → PortReaches t (getD t (7168 + i) 0) q (d - 1) r → r ≡ reaches (touches st q) (st .rows) (rowOf (st .rows) n .via)
+      unfolding PortReaches
+      port bears r h =
+          let (a, b, c) = depth-falls st whole n there in
+          h st (rowOf (st .rows) n .via) so lie via-slot (omega arith)
+          (copy-port st whole n there (λ z. bears (row-words lie n i (e ∙ at) .request ∙ z)))
+
+    pub question-touched : Touched t i q true → Reaches t s q d true
+    unfolding Reaches
+    question-touched h st n so lie e deep = sym (step st n so lie e deep ∙ rw (← itself st n so lie e deep true h) refl)
+
+    pub question-source : Touched t i q false → Reaches t (getD t (6144 + i) 0) q (d - 1) true → Reaches t s q d true
+    unfolding Reaches
+    question-source h g st n so lie e deep =
+        sym (step st n so lie e deep ∙ rw (← itself st n so lie e deep false h, ← source st n so lie e deep true g) refl)
+
+    pub question-via : Touched t i q false → Reaches t (getD t (6144 + i) 0) q (d - 1) false → (r : Bool) → Reaches t (getD t (7168 + i) 0) q (d - 1) r → Reaches t s q d r
+    unfolding Reaches
+    question-via h g r k st n so lie e deep =
+        sym (step st n so lie e deep ∙ rw (← itself st n so lie e deep false h, ← source st n so lie e deep false g) (sym (via st n so lie e deep r k)))
+
+    pub question-port : Touched t i q false → Reaches t (getD t (6144 + i) 0) q (d - 1) false → (getD t (9216 + i) 0 ≡ 0 → ⊥) → (r : Bool)
+        → PortReaches t (getD t (7168 + i) 0) q (d - 1) r → Reaches t s q d r
+    unfolding Reaches
+    question-port h g bears r k st n so lie e deep =
+        sym (step st n so lie e deep ∙ rw (← itself st n so lie e deep false h, ← source st n so lie e deep false g) (sym (port st n so lie e deep bears r k)))
+
+    pub port-source : Touched t i q false → (r : Bool) → Reaches t (getD t (6144 + i) 0) q (d - 1) r → PortReaches t s q d r
+    unfolding PortReaches
+    port-source h r g st n so lie e deep client =
+        let (a, b, c) = depth-falls st (whole st n so lie e deep) n (there st n so lie e deep) in
+        sym
+        (step st n so lie e deep
+        ∙ rw (← itself st n so lie e deep false h, client-via st (whole st n so lie e deep) n (there st n so lie e deep) client, reaches-zero st (whole st n so lie e deep) (touches st q))
+        (or-none (reaches (touches st q) (st .rows) (rowOf (st .rows) n .source)) ∙ sym (source st n so lie e deep r g)))
+
+-- ---- the two questions
+module _ (t : List ℕ) (e : ℕ) (r : Bool) (st : State) (n : ℕ) (so : sound st ≡ true) (lie : Lies st t) (at : rowSlot (st .rows) n ≡ suc e) where
+  -- twelve steps suffice
+  asked : (q : ℕ) → Reaches t (e + 1) q 12 r → r ≡ reaches (touches st q) (st .rows) n
+  unfolding Reaches
+  asked q h = h st n so lie (at ∙ sym (add-one e)) (depth-falls st (sound-open st so) n (row-found (st .rows) n e at .0) .2)
+
+  pub comes-answer : (q : ℕ) → Reaches t (e + 1) q 12 r → some q ≡ true → r ≡ comesFrom (st .rows) q n
+  unfolding comesFrom touches
+  comes-answer q h pos = asked q h ∙ ap (λ (f : Row → Bool). reaches f (st .rows) n) (λ i x. bears-only x i)
+    where
+      bears-only : (x : Row) → touches st q x ≡ bears q x
+      bears-only x = rw pos refl
+
+  pub lent-answer : Reaches t (e + 1) 0 12 r → r ≡ isLent st n
+  unfolding isLent touches some
+  lent-answer h = asked 0 h

@@ -1,0 +1,3 @@
+-- Definitions that the contracts of questions cite.
+pub mod Questions
+pub mod Computes

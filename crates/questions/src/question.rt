@@ -1,0 +1,151 @@
+// The questions that go back along the sources: does a row come from a request, is it lent; and is an end on loan.
+// "A copy goes when the port under it goes, and a port goes when its operation row goes": row question and port question call each other, and the depth falls.
+use rows::find::requests_in;
+use rows::layout::KIND;
+use rows::layout::NUMBER;
+use rows::layout::Q_ITEMS;
+use rows::layout::REQUEST;
+use rows::layout::ROWS;
+use rows::layout::SOURCE;
+use rows::layout::VIA;
+ghost use mathlib.Core.Path.{_≡_};
+ghost use mathlib.Core.Bool.{true};
+ghost use Prim.Native.Nat.{ℕ, suc, _<_};
+ghost use lib.ListN.{length};
+ghost use Rattle.rows.specs.Lists.{member, some};
+ghost use Rattle.rows.specs.Codes.{isEnd};
+ghost use Rattle.rows.specs.Tables.{State, onLoan, comesFrom, isLent};
+ghost use Rattle.rows.specs.Sound.{sound};
+ghost use Rattle.rows.specs.Layout.{requestAt};
+ghost use Rattle.rows.specs.Lies.{Lies, rowSlot};
+ghost use Rattle.questions.specs.Questions.{Touched, Reaches, PortReaches};
+
+// codes of kinds, and the greatest depth, as specs/Codes.antt and specs/Limits.antt define them
+const A_CLIENT_END: u32 = 3;
+
+const A_SERVER_END: u32 = 4;
+
+const GREATEST_DEPTH: u32 = 12;
+
+// Whether a kind is that of an end of a port.
+fn is_end(kind: u32) -> bool
+    ensures { λ r. ⌜ r ≡ isEnd kind ⌝ }
+{
+    (kind == A_CLIENT_END) | (kind == A_SERVER_END)
+}
+
+// Whether the request in slot j lists e.
+fn lists_item(t: &[u32], j: usize, e: u32) -> bool
+    requires { ⌜ (length (now t) ≡ 11265) × (j < 128) ⌝ }
+    ensures { λ r. ⌜ r ≡ member e (requestAt (now (t .entry)) j .items) ⌝ }
+{
+    (e == t[Q_ITEMS + j])
+        | (e == t[Q_ITEMS + 128 + j])
+        | (e == t[Q_ITEMS + 256 + j])
+        | (e == t[Q_ITEMS + 384 + j])
+}
+
+// Whether an open request lists e.
+// Ruled out: no, where the last item of the newest request is e; yes, where e is only a request's port.
+pub fn on_loan(t: &[u32], e: u32) -> bool
+    requires { ⌜ length (now t) ≡ 11265 ⌝ }
+    ensures { λ r. ⌜ ((st : State) → Lies st (now (t .entry)) → some e ≡ true → r ≡ onLoan (st .requests) e) ⌝ }
+{
+    let count = requests_in(t);
+    let mut j = 0;
+    while j < count {
+        if lists_item(t, j, e) {
+            return true;
+        }
+        j += 1;
+    }
+    false
+}
+
+// What a question asks of the row in slot i itself: for a request q whether it bears q, for 0 whether it is lent itself.
+fn touched(t: &[u32], i: usize, q: u32) -> bool
+    requires { ⌜ (length (now t) ≡ 11265) × (i < 1024) ⌝ }
+    ensures { λ r. ⌜ Touched (now (t .entry)) i q r ⌝ }
+{
+    let borne = t[REQUEST + i];
+    if q != 0 {
+        return borne == q;
+    }
+    if borne != 0 {
+        return true;
+    }
+    if is_end(t[KIND + i]) {
+        return on_loan(t, t[NUMBER + i]);
+    }
+    false
+}
+
+// Whether the row at source word s (its slot plus 1, 0 for none) or a row that it comes from is touched, d steps back at most.
+// Ruled out: no, where the second source alone is touched; yes for a word 0, where there is no row.
+fn row_question(t: &[u32], s: u32, q: u32, d: u32) -> bool
+    requires { ⌜ length (now t) ≡ 11265 ⌝ }
+    ensures { λ r. ⌜ Reaches (now (t .entry)) s q d r ⌝ }
+{
+    let at = s as usize;
+    if at == 0 {
+        return false;
+    }
+    if ROWS < at {
+        return false;
+    }
+    if d == 0 {
+        return false;
+    }
+    let i = at - 1;
+    if touched(t, i, q) {
+        return true;
+    }
+    if row_question(t, t[SOURCE + i], q, d - 1) {
+        return true;
+    }
+    if t[REQUEST + i] == 0 {
+        return row_question(t, t[VIA + i], q, d - 1);
+    }
+    port_question(t, t[VIA + i], q, d - 1)
+}
+
+// The same of the port whose client end is at source word c: the end itself, or its operation row.
+// Ruled out: no, where the end itself is on loan; no, where the operation row comes from q.
+fn port_question(t: &[u32], c: u32, q: u32, d: u32) -> bool
+    requires { ⌜ length (now t) ≡ 11265 ⌝ }
+    ensures { λ r. ⌜ PortReaches (now (t .entry)) c q d r ⌝ }
+{
+    let at = c as usize;
+    if at == 0 {
+        return false;
+    }
+    if ROWS < at {
+        return false;
+    }
+    if d == 0 {
+        return false;
+    }
+    let i = at - 1;
+    if touched(t, i, q) {
+        return true;
+    }
+    row_question(t, t[SOURCE + i], q, d - 1)
+}
+
+// Whether the row in slot e comes from request q.
+// Ruled out: no, where the port under a copy comes from q; the answer for the row in the next slot.
+pub fn comes(t: &[u32], e: usize, q: u32) -> bool
+    requires { ⌜ (length (now t) ≡ 11265) × (e < 1024) ⌝ }
+    ensures { λ r. ⌜ ((st : State) (n : ℕ) → sound st ≡ true → Lies st (now (t .entry)) → rowSlot (st .rows) n ≡ suc e → some q ≡ true → r ≡ comesFrom (st .rows) q n) ⌝ }
+{
+    row_question(t, (e + 1) as u32, q, GREATEST_DEPTH)
+}
+
+// Whether the row in slot e is lent.
+// Ruled out: no, where the oldest of twelve rows in a line is lent; yes, where a row bears no request and no end is on loan.
+pub fn lent(t: &[u32], e: usize) -> bool
+    requires { ⌜ (length (now t) ≡ 11265) × (e < 1024) ⌝ }
+    ensures { λ r. ⌜ ((st : State) (n : ℕ) → sound st ≡ true → Lies st (now (t .entry)) → rowSlot (st .rows) n ≡ suc e → r ≡ isLent st n) ⌝ }
+{
+    row_question(t, (e + 1) as u32, 0, GREATEST_DEPTH)
+}
