@@ -24,13 +24,13 @@ use Rattle.closing.proofs.KeptLookups.{remaining-keys, returned-keeps}
 use Rattle.closing.proofs.KeptProcesses.{homed-at, homed-prime}
 
 -- ---- marks
-pub view-marked : (f : Row → Bool) (g : Noted → Bool) → ((r : Row) → f r ≡ g (view r)) → (rs : List Row) → marked f rs ≡ reached g (map view rs)
+view-marked : (f : Row → Bool) (g : Noted → Bool) → ((r : Row) → f r ≡ g (view r)) → (rs : List Row) → marked f rs ≡ reached g (map view rs)
 unfolding marked reached view
 view-marked f g h [] = refl
 view-marked f g h (r ∷ rs) = rw (view-marked f g h rs, h r) refl
 
 -- the sources of what is left are left
-pub sweep-sourced : (f : Noted → Bool) (rs : List Noted) → sourced (sweep f rs) ≡ true
+sweep-sourced : (f : Noted → Bool) (rs : List Noted) → sourced (sweep f rs) ≡ true
 unfolding sweep each
 sweep-sourced f [] = refl
 sweep-sourced f (r ∷ rs) = pick (sweep-sourced f rs) (survives f (noted (sweep f rs)) r) refl

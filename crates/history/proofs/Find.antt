@@ -81,7 +81,7 @@ module _ (st : State) (s : Sound st) where
   client-port e t k = client-object (st .processes) (rowOf (st .rows) e) (row-object st s e t) k ∙ row-number (st .rows) e t
 
   -- the port of an end has a number: a client end's is its own, a server end's that of its other end
-  pub end-port-low : (e : ℕ) → member e (numbers (st .rows)) ≡ true → isEnd (rowOf (st .rows) e .kind) ≡ true → 0 < rowOf (st .rows) e .object
+  end-port-low : (e : ℕ) → member e (numbers (st .rows)) ≡ true → isEnd (rowOf (st .rows) e .kind) ≡ true → 0 < rowOf (st .rows) e .object
   end-port-low e t k = ⊎-elim client server (or-cases (isClient (rowOf (st .rows) e .kind)) (isServer (rowOf (st .rows) e .kind)) (unfold isEnd in k))
     where
       r : Row

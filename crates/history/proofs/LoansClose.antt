@@ -112,7 +112,7 @@ module _ (h h′ : History) (st : State) (g : List ℕ) (f : Request → Bool) (
       )
       ∙ Bool·not-not (f (requestOf (st .requests) n))
 
-  pub closing-lends : loansIn (settled g f st .rows) (settled g f st .requests) ≡ loansLeft h′ (loansIn (st .rows) (st .requests))
+  closing-lends : loansIn (settled g f st .rows) (settled g f st .requests) ≡ loansLeft h′ (loansIn (st .rows) (st .requests))
   closing-lends = ap (loansIn (settled g f st .rows)) still-open ∙ loans-left h′ st g f end-left (st .requests) as-closed
     where
       still-open : settled g f st .requests ≡ remaining f g (st .requests)

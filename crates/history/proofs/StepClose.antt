@@ -78,7 +78,7 @@ module _ (st : State) (s : Sound st) where
       let r : some (v .number) && ltb (v .number) (st .next) ≡ true = all-first key noRequest (λ v. some (v .number) && ltb (v .number) (st .next)) (st .requests) n (requests-between st s) (found-there key n e) in
       (some-pos (v .number) (and-l (some (v .number)) _ r), ltb-true (v .number) (st .next) (and-r (some (v .number)) _ r))
 
-  request-range : (q : ℕ) → eqb (requestOf (st .requests) q .number) 0 ≡ false → (0 < q) × (q < st .next)
+  pub request-range : (q : ℕ) → eqb (requestOf (st .requests) q .number) 0 ≡ false → (0 < q) × (q < st .next)
   unfolding requestOf
   request-range q e =
       let n : requestOf (st .requests) q .number ≡ q = first-key (λ v. v .number) noRequest (st .requests) q (found-there (λ v. v .number) q e) in
