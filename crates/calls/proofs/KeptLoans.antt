@@ -1,4 +1,4 @@
--- What sound tables say of items, of what awaits fetch, of places and of the rows gone through.
+-- A request that becomes fetched: what then awaits fetch, and what the system holds.
 use Prim.Native.Nat.{ℕ, _<_}
 use mathlib.Core.Bool.{Bool, true, false, not, cond, _||_}
 use mathlib.Core.List.{List, [], _∷_, map}

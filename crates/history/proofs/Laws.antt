@@ -20,23 +20,23 @@ use Rattle.rows.proofs.Standing.{standing-shape, nodes-stay, rights-within}
 use Rattle.rows.proofs.SoundFacts.{row-number}
 use Rattle.rows.proofs.Places.{clist-not-node}
 use Rattle.closing.specs.Closing.{placedIn, closing, closeRequest, closePort, dropRow, isEndOf, isRow, closes}
+use Rattle.closing.proofs.KeptLookups.{left-keys}
 use Rattle.calls.specs.declared.Item.{Item}
 use Rattle.calls.specs.declared.Call.{Call}
 use Rattle.calls.specs.declared.Call.the-variants.{Go, Hold, Register, Drop, Port, Close, Ask, Fetch, Reply, Refuse, Revoke, Comes}
 use Rattle.calls.specs.Rules.{Out, refusedIf, notHeld, withRows, withRecord}
 use Rattle.calls.specs.Loans.{Lending, itemsOf, moves, toSystem, lendEnd, lendCopy, lendItem, lendItems, lent, withRequest, handedTo, withFetched}
 use Rattle.calls.specs.Calls.{done, made, goHome, goThrough, doGo, withHeld, doHold, withRegistered, doRegister, doDrop, withPort, doPort, doClose, doAsk, doFetch, doReply, doRefuse, doRevoke, doComes, perform}
+use Rattle.calls.proofs.KeptMoved.{moved, moved-number}
 use Rattle.text.specs.Entry.{openEntry, callOn, answered, refused}
 use Rattle.text.specs.declared.Reading.{Reading}
 use Rattle.text.specs.declared.Reading.the-variants.{Asks, Crowded, Refused as BadLine}
 use Rattle.text.specs.CallLines.{readingOf}
+use Rattle.text.proofs.Readings.{Good, reading-good, number-some}
 use Rattle.history.specs.Reading.{accepts}
 use Rattle.history.specs.Demand3.{lentAfter, stateIn}
 use Rattle.history.proofs.Find.{node-no-end}
-use Rattle.text.proofs.Readings.{Good, reading-good, number-some}
 use Rattle.history.proofs.Kept.{words-sound, kept}
-use Rattle.closing.proofs.KeptLookups.{left-keys}
-use Rattle.calls.proofs.KeptMoved.{moved, moved-number}
 
 -- ---- rows of nodes never vanish
 -- row n is in the tables after a call

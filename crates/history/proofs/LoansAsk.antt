@@ -22,6 +22,9 @@ use Rattle.calls.specs.declared.Call.the-variants.{Ask}
 use Rattle.calls.specs.Rules.{notHeld, copyOf}
 use Rattle.calls.specs.Loans.{itemsOf, itemRow, moves, copyLent, Lending, toSystem, lendEnd, lendCopy, lendItem, lendItems, lent, newRequest, withRequest}
 use Rattle.calls.specs.Calls.{doAsk}
+use Rattle.calls.proofs.Stand.{held-there}
+use Rattle.calls.proofs.KeptAskList.{nonzero-pad}
+use Rattle.calls.proofs.KeptMoved.{moved, kind-same}
 use Rattle.history.specs.Notes.{History, isEndNoted, endsNamed, noteAsk}
 use Rattle.history.specs.Reading.{itemsNamed, noteCall}
 use Rattle.history.proofs.Inv.{Inv, Lends, endsListed, loansIn}
@@ -29,9 +32,6 @@ use Rattle.history.proofs.Keeps.{Keeps}
 use Rattle.history.proofs.Find.{end-noted}
 use Rattle.history.proofs.LoansKept.{LendsAfter, unless, taken-made, calm}
 use Rattle.history.proofs.LoansAdd.{kinds-same}
-use Rattle.calls.proofs.Stand.{held-there}
-use Rattle.calls.proofs.KeptAskList.{nonzero-pad}
-use Rattle.calls.proofs.KeptMoved.{moved, kind-same}
 
 -- ---- lists
 filter-append : {A : Type 0} (f : A → Bool) (xs ys : List A) → filter f (xs ++ ys) ≡ filter f xs ++ filter f ys

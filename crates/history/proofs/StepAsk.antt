@@ -21,6 +21,8 @@ use Rattle.calls.specs.declared.Call.the-variants.{Ask}
 use Rattle.calls.specs.Rules.{notHeld, withRows}
 use Rattle.calls.specs.Loans.{itemsOf, itemRow, moves, copyDepth, copyLent, Lending, toSystem, lendEnd, lendCopy, lendItem, lendItems, lent, newRequest, withRequest}
 use Rattle.calls.specs.Calls.{doAsk}
+use Rattle.calls.proofs.Stand.{held-there}
+use Rattle.calls.proofs.KeptMoved.{moved, moved-same}
 use Rattle.history.specs.Notes.{Noted, Loan, OnLoan, History, noted, notedOf, noLoan, loanOf, spoiled, standing, stands, isClosed, openLoans, addRow, endsNamed, copiesNoted, copied, noteAsk}
 use Rattle.history.specs.Reading.{itemsNamed, noteCall}
 use Rattle.history.proofs.Fit.{isEmpty, bearsWell, endsWell, portNoted, Fit}
@@ -30,8 +32,6 @@ use Rattle.history.proofs.View.{map-through}
 use Rattle.history.proofs.Added.{newNoted, FitsNew, below-up, not-below, add-row, stands-same}
 use Rattle.history.proofs.Find.{row-stands, row-noted, stands-low, client-port, end-noted}
 use Rattle.history.proofs.StepAdd.{view-copy}
-use Rattle.calls.proofs.Stand.{held-there}
-use Rattle.calls.proofs.KeptMoved.{moved, moved-same}
 
 -- ---- one more request, in the history by itself
 -- h with the rows rs and the request v

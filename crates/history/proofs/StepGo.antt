@@ -23,15 +23,15 @@ use Rattle.calls.specs.Answers.{refusalOf, valuesOf}
 use Rattle.calls.specs.Rules.{refusedIf, notHeld, withRecord}
 use Rattle.calls.specs.Loans.{handedTo, nowFetched, withFetched}
 use Rattle.calls.specs.Calls.{done, goHome, goThrough, doGo, fetchedAnswer, doFetch, doComes}
+use Rattle.calls.proofs.Stand.{held-there}
+use Rattle.calls.proofs.KeptMoved.{moved, moved-same}
+use Rattle.calls.proofs.KeptLoans.{now-same}
 use Rattle.history.specs.Notes.{Went, History, spoiled, standing, stands, isClosed, openLoans, wentNowhere, lastGo, noteGo}
 use Rattle.history.specs.Reading.{noteCall}
 use Rattle.history.proofs.Inv.{Inv, view, ofRequest, ofLoan, throughNow, firstValue}
 use Rattle.history.proofs.Keeps.{fit-same, seen-inv, Keeps, unless, taken, taken-done}
 use Rattle.history.proofs.View.{map-through}
 use Rattle.history.proofs.Find.{row-stands, stands-low}
-use Rattle.calls.proofs.Stand.{held-there}
-use Rattle.calls.proofs.KeptMoved.{moved, moved-same}
-use Rattle.calls.proofs.KeptLoans.{now-same}
 
 -- ---- the records after one is replaced
 record-at : (ps : List Process) (p k : ℕ) (x : Process) → isListed ps p ≡ true → processAt (set ps (p - 1) x) k ≡ cond (eqb p k) x (processAt ps k)

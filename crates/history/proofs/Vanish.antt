@@ -10,6 +10,7 @@ use Rattle.rows.specs.Tables.{State, requestOf, numbers, marked, bears}
 use Rattle.rows.proofs.Bools.{false-of, clash, and-l, or-fl}
 use Rattle.rows.proofs.Sound.{Sound}
 use Rattle.closing.specs.Closing.{closes, closing, closeRequest}
+use Rattle.closing.proofs.KeptLookups.{left-keys}
 use Rattle.calls.specs.declared.Answer.{Answer}
 use Rattle.calls.specs.declared.Answer.the-variants.{Done, Made, Fetched, Told, Refused}
 use Rattle.calls.specs.Rules.{Out, refusedIf}
@@ -21,7 +22,6 @@ use Rattle.history.proofs.Inv.{Inv}
 use Rattle.history.proofs.Comes.{revoke-takes}
 use Rattle.history.proofs.Find.{in-tables}
 use Rattle.history.proofs.StepClose.{revoked-inv, request-range}
-use Rattle.closing.proofs.KeptLookups.{left-keys}
 
 isDone : Answer → Bool
 isDone Done = true
