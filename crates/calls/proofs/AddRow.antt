@@ -1,6 +1,6 @@
 -- New rows before the old ones keep the tables sound; a refusal leaves them.
 use Prim.Native.Nat.{ℕ, suc, _+_, _<_, _≤_}
-use mathlib.Core.Bool.{Bool, true, false, not, _&&_}
+use mathlib.Core.Bool.{Bool, true, false, not, _&&_, _||_}
 use mathlib.Core.List.{List, [], _∷_, _++_}
 use mathlib.Core.Path.{_≡_, refl, sym, ap, _∙_}
 use lib.Dec.{leb, ltb, eqb}
@@ -9,19 +9,19 @@ use borrow.Author.Tests.{eq-eqb, ne-eqb, ltb-true, ltb-false, lt-ltb, leb-true, 
 use native.Mathlib.Omega.{arith}
 use Rattle.rows.specs.declared.Row.{Row}
 use Rattle.rows.specs.declared.Request.{Request}
-use Rattle.rows.specs.declared.Process.{Process}
 use Rattle.rows.specs.Lists.{all, each, topOf, rises, firstWith, member, between, some, nonzero}
 use Rattle.rows.specs.Limits.{greatestNumber, rowSlots}
-use Rattle.rows.specs.Codes.{subdirectory, clientEnd, serverEnd, isClient, isServer, isEnd, isSubdirectory, inClist, isSystem}
+use Rattle.rows.specs.Codes.{clientEnd, serverEnd, isClient, isServer, isEnd, isSystem}
 use Rattle.rows.specs.Tables.{State, noRow, rowOf, numbers, lists}
-use Rattle.rows.specs.Sound.{rowsRise, requestsRise, numbersApart, belowNext, nextInRange, rowsFit, requestsFit, recordsFit, objectInRange, objectsInRange, rightInRange, rightsInRange, placeInRange, placesInRange, fetchedInRange, sourceRight, sourcesRight, depthRight, depthsRight, copyMatches, copiesMatch, recordsInRange, isPairedWith, otherEnd, endPaired, endsPaired, portStands, portsStand, requestersListed, itemsFew, itemsApart, mayBeListed, itemsLent, onePerPort, copyListed, copiesListed, olderFetched, awaitsFetch, same, systemHolds, processPlaced, placedFrom, processesPlaced}
-use Rattle.rows.proofs.Bools.{false-of, clash, and-l, and-r, and-i, not-t, or-l, or-map, all-mono, all-and, all-at}
+use Rattle.rows.specs.Sound.{rowsRise, requestsRise, numbersApart, belowNext, nextInRange, rowsFit, requestsFit, recordsFit, objectInRange, objectsInRange, rightInRange, rightsInRange, placeInRange, placesInRange, fetchedInRange, sourceRight, sourcesRight, depthRight, depthsRight, copyMatches, copiesMatch, recordsInRange, isPairedWith, otherEnd, endPaired, endsPaired, portStands, portsStand, requestersListed, itemsFew, itemsApart, mayBeListed, itemsLent, onePerPort, copyListed, copiesListed, olderFetched, awaitsFetch, same, systemHolds, processesPlaced, isFetched}
+use Rattle.rows.proofs.Bools.{false-of, clash, and-l, and-r, and-i, not-t, or-l, or-map, all-mono, all-and, all-at, or-r}
 use Rattle.rows.proofs.Keyed.{rises-cons}
 use Rattle.rows.proofs.Sound.{Sound}
 use Rattle.rows.proofs.Lists.{all-append, member-nonzero}
-use Rattle.rows.proofs.RowSources.{row-there}
+use Rattle.rows.proofs.RowSources.{row-there, subdirectory-there}
 use Rattle.rows.proofs.Places.{no-row-listed}
-use Rattle.rows.proofs.SoundFacts.{same-eq, rows-top, row-below, requests-below, requests-top, next-some}
+use Rattle.rows.proofs.SoundFacts.{same-eq, rows-top, row-below, requests-below, requests-top, next-some, placed-still}
+use Rattle.rows.proofs.Awaits.{awaits-none}
 use Rattle.calls.specs.Rules.{Out, refusedIf, rowsFull, numbersSpent, withRows}
 
 -- a refusal leaves the tables: what is left is the case in which the test fails
@@ -45,12 +45,6 @@ none-lists st s e f =
         (all-at (λ e. mayBeListed v (rowOf (st .rows) e)) (nonzero (v .items)) a e (member-nonzero (v .items) e ∙ t)))
         f))
 
-pub not-awaited : (e : ℕ) (vs : List Request) → all (λ v. not (lists e v)) vs ≡ true → awaitsFetch vs e ≡ false
-unfolding all awaitsFetch
-not-awaited e [] a = refl
-not-awaited e (v ∷ vs) a =
-    rw (not-t (lists e v) (and-l (not (lists e v)) (all (λ v. not (lists e v)) vs) a)) (not-awaited e vs (and-r (not (lists e v)) (all (λ v. not (lists e v)) vs) a))
-
 -- ---- look-up among new and old rows: rows with numbers from b on stand before rs
 module _ (b : ℕ) (rs : List Row) where
   pub row-before : (new : List Row) → all (λ r. leb b (r .number)) new ≡ true → (n : ℕ) → n < b → rowOf (new ++ rs) n ≡ rowOf rs n
@@ -60,7 +54,7 @@ module _ (b : ℕ) (rs : List Row) where
       let le : b ≤ r .number = leb-true b (r .number) (and-l (leb b (r .number)) (all (λ r. leb b (r .number)) new) a) in
       rw (ne-eqb (r .number) n (λ q. omega arith)) (row-before new (and-r (leb b (r .number)) (all (λ r. leb b (r .number)) new) a) n h)
 
-  pub number-before : (new : List Row) → all (λ r. leb b (r .number)) new ≡ true → (n : ℕ) → n < b → member n (numbers (new ++ rs)) ≡ member n (numbers rs)
+  number-before : (new : List Row) → all (λ r. leb b (r .number)) new ≡ true → (n : ℕ) → n < b → member n (numbers (new ++ rs)) ≡ member n (numbers rs)
   unfolding numbers member all
   number-before [] a n h = refl
   number-before (r ∷ new) a n h =
@@ -68,7 +62,7 @@ module _ (b : ℕ) (rs : List Row) where
       rw (ne-eqb n (r .number) (λ q. omega arith)) (number-before new (and-r (leb b (r .number)) (all (λ r. leb b (r .number)) new) a) n h)
 
 -- a test that noRow fails and that an old row passes
-pub found-before : (st : State) → Sound st → (new : List Row) → all (λ r. leb (st .next) (r .number)) new ≡ true
+found-before : (st : State) → Sound st → (new : List Row) → all (λ r. leb (st .next) (r .number)) new ≡ true
     → (P : Row → Bool) → P noRow ≡ false → (n : ℕ) → P (rowOf (st .rows) n) ≡ true → P (rowOf (new ++ st .rows) n) ≡ true
 found-before st s new a P z n t =
     let (lo, hi) = row-below st s n (row-there P z (st .rows) n t) in
@@ -157,40 +151,25 @@ module _ (st : State) (s : Sound st) (new : List Row) (a : all (λ r. leb (st .n
       (λ v b t. rw (number-before (st .next) (st .rows) new a (v .number) (ltb-true (v .number) (st .next) b)) t)
       (st .requests) (requests-below st s) (s .numbers-apart)
 
-  pub pair-kept : (r : Row) → endPaired (st .rows) r ≡ true → endPaired (new ++ st .rows) r ≡ true
+  pair-kept : (r : Row) → endPaired (st .rows) r ≡ true → endPaired (new ++ st .rows) r ≡ true
   unfolding endPaired isPairedWith isEnd isClient isServer clientEnd serverEnd noRow
   pair-kept r t = or-map (not (isEnd (r .kind))) _ _ (λ q. found-before st s new a (isPairedWith r) refl (otherEnd r) q) t
 
-  pub port-stands-kept : (v : Request) → portStands (st .rows) v ≡ true → portStands (new ++ st .rows) v ≡ true
+  port-stands-kept : (v : Request) → portStands (st .rows) v ≡ true → portStands (new ++ st .rows) v ≡ true
   unfolding portStands isClient clientEnd noRow
   port-stands-kept v t =
       and-i (isClient (rowOf (new ++ st .rows) (v .port) .kind)) (ltb (suc (v .port)) (v .number))
       (found-before st s new a (λ r. isClient (r .kind)) refl (v .port) (and-l (isClient (rowOf (st .rows) (v .port) .kind)) (ltb (suc (v .port)) (v .number)) t))
       (and-r (isClient (rowOf (st .rows) (v .port) .kind)) (ltb (suc (v .port)) (v .number)) t)
 
-  pub items-kept : (v : Request) → all (λ e. mayBeListed v (rowOf (st .rows) e)) (nonzero (v .items)) ≡ true → all (λ e. mayBeListed v (rowOf (new ++ st .rows) e)) (nonzero (v .items)) ≡ true
+  items-kept : (v : Request) → all (λ e. mayBeListed v (rowOf (st .rows) e)) (nonzero (v .items)) ≡ true → all (λ e. mayBeListed v (rowOf (new ++ st .rows) e)) (nonzero (v .items)) ≡ true
   items-kept v t =
       all-mono (λ e. mayBeListed v (rowOf (st .rows) e)) (λ e. mayBeListed v (rowOf (new ++ st .rows) e)) (λ e q. found-before st s new a (mayBeListed v) (no-row-listed v) e q) (nonzero (v .items)) t
-
-  process-kept : (p : ℕ) (x : Process) → processPlaced (st .rows) p x ≡ true → processPlaced (new ++ st .rows) p x ≡ true
-  unfolding processPlaced isSubdirectory subdirectory noRow
-  process-kept p x t =
-      or-map (eqb (x .through) 0 && eqb (x .active) (x .prime)) _ _
-      (λ q. and-i (some (x .through)) _ (and-l (some (x .through)) _ q)
-      (found-before st s new a (λ r. isSubdirectory (r .kind) && (eqb (r .place) (inClist p) && eqb (r .object) (x .active))) refl (x .through) (and-r (some (x .through)) _ q)))
-      t
-
-  pub placed-kept : (p : ℕ) (xs : List Process) → placedFrom (st .rows) p xs ≡ true → placedFrom (new ++ st .rows) p xs ≡ true
-  unfolding placedFrom
-  placed-kept p [] t = refl
-  placed-kept p (x ∷ xs) t =
-      and-i (processPlaced (new ++ st .rows) p x) (placedFrom (new ++ st .rows) (suc p) xs) (process-kept p x (and-l (processPlaced (st .rows) p x) (placedFrom (st .rows) (suc p) xs) t))
-      (placed-kept (suc p) xs (and-r (processPlaced (st .rows) p x) (placedFrom (st .rows) (suc p) xs) t))
 
   -- no request lists a new row
   new-unlisted : (e : ℕ) → st .next ≤ e → awaitsFetch (st .requests) e ≡ false
   new-unlisted e h =
-      not-awaited e (st .requests) (none-lists st s e (false-of (member e (numbers (st .rows))) (λ t. let (lo, hi) = row-below st s e t in omega arith)))
+      awaits-none e (st .requests) (all-mono (λ v. not (lists e v)) (λ v. isFetched v || not (lists e v)) (λ v n. or-r (isFetched v) (not (lists e v)) n) (st .requests) (none-lists st s e (false-of (member e (numbers (st .rows))) (λ t. let (lo, hi) = row-below st s e t in omega arith))))
 
   new-away : all (λ r. not (isSystem (r .place))) new ≡ true → all (λ r. same (isSystem (r .place)) (awaitsFetch (st .requests) (r .number))) new ≡ true
   new-away w =
@@ -242,7 +221,7 @@ added-sound st s new n a paired =
       older-fetched = s .older-fetched;
       system-holds =
           all-append (λ r. same (isSystem (r .place)) (awaitsFetch (st .requests) (r .number))) new (st .rows) (new-away st s new (a .new-numbers) (a .away)) (s .system-holds);
-      processes-placed = placed-kept st s new (a .new-numbers) 1 (st .processes) (s .processes-placed);
+      processes-placed = placed-still st s (new ++ st .rows) (λ e p hi k at. row-before (st .next) (st .rows) new (a .new-numbers) e (row-below st s e (subdirectory-there (st .rows) e k) .1));
     }
 
 -- room for k more rows, and numbers for them

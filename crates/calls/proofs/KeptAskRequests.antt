@@ -23,12 +23,13 @@ use Rattle.rows.proofs.Picked.{all-found}
 use Rattle.rows.proofs.LayoutColumns.{length-pad}
 use Rattle.rows.proofs.Lists.{all-of-member}
 use Rattle.rows.proofs.Places.{no-row-listed}
+use Rattle.rows.proofs.Awaits.{listers-fetched}
 use Rattle.closing.specs.Closing.{placedIn}
 use Rattle.calls.specs.declared.Item.{Item}
 use Rattle.calls.specs.Rules.{notHeld, hasOpen}
 use Rattle.calls.specs.Loans.{copies, newRequest}
 use Rattle.calls.proofs.AddRow.{none-lists}
-use Rattle.calls.proofs.KeptLoans.{listers-fetched, held-so}
+use Rattle.calls.proofs.KeptLoans.{held-so}
 use Rattle.calls.proofs.KeptAskItems.{named, listed}
 use Rattle.calls.proofs.KeptAskList.{nonzero-pad, nonzero-all, named-end, listed-length, listed-some, listed-apart, listed-cases}
 use Rattle.calls.proofs.KeptAskStack.{bears-stacked}

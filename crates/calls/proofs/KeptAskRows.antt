@@ -11,15 +11,15 @@ use native.Mathlib.Omega.{arith}
 use Rattle.rows.specs.declared.Row.{Row}
 use Rattle.rows.specs.Lists.{all, each, topOf, member, some}
 use Rattle.rows.specs.Limits.{processes, rowSlots}
-use Rattle.rows.specs.Codes.{subdirectory, clientEnd, serverEnd, isSubdirectory, isOperation, isClient, isServer, isEnd, isCopied, inClist, withSystem, isNode, isSystem}
+use Rattle.rows.specs.Codes.{isSubdirectory, isEnd, inClist, withSystem, isNode, isSystem}
 use Rattle.rows.specs.Tables.{State, noRow, rowOf, numbers, lists}
-use Rattle.rows.specs.Sound.{rowsRise, rowsFit, recordsFit, objectInRange, objectsInRange, rightInRange, rightsInRange, placeInRange, placesInRange, sourceRight, sourcesRight, depthRight, depthsRight, copyMatches, copiesMatch, isPairedWith, otherEnd, endPaired, endsPaired, copyListed, copiesListed, isFetched, awaitsFetch, same, systemHolds, processesPlaced}
-use Rattle.rows.proofs.Bools.{false-of, clash, and-l, or-map, or-r, not-f, all-mono, all-eq}
+use Rattle.rows.specs.Sound.{rowsRise, rowsFit, objectInRange, objectsInRange, rightInRange, rightsInRange, placeInRange, placesInRange, sourceRight, sourcesRight, depthRight, depthsRight, copyMatches, copiesMatch, isPairedWith, otherEnd, endPaired, endsPaired, copyListed, copiesListed, isFetched, awaitsFetch, same, systemHolds, processesPlaced}
+use Rattle.rows.proofs.Bools.{false-of, clash, and-l, or-map, not-f, all-mono, all-eq}
 use Rattle.rows.proofs.Keyed.{rises-map}
 use Rattle.rows.proofs.Sound.{Sound}
-use Rattle.rows.proofs.RowSources.{row-there}
-use Rattle.rows.proofs.SoundFacts.{row-below, rows-top, row-number, same-eq}
-use Rattle.rows.proofs.Places.{copied-no-end, clist-not-node, system-no-node, system-in-range}
+use Rattle.rows.proofs.RowSources.{subdirectory-there, end-there}
+use Rattle.rows.proofs.SoundFacts.{row-below, rows-top, row-number, same-eq, placed-still}
+use Rattle.rows.proofs.Places.{clist-not-node, system-no-node, system-in-range, subdirectory-no-end}
 use Rattle.rows.proofs.Lists.{all-map}
 use Rattle.closing.specs.Closing.{placedIn}
 use Rattle.calls.specs.declared.Item.{Item}
@@ -27,7 +27,7 @@ use Rattle.calls.specs.Rules.{notHeld}
 use Rattle.calls.specs.Loans.{copies, copyLent, newRequest}
 use Rattle.calls.proofs.KeptLists.{top-map}
 use Rattle.calls.proofs.KeptMoved.{moved, mayMove, moved-same, moved-number, moved-stays, moved-goes, kind-same, depths-moved, copies-moved, objects-moved, rights-moved, paired-moved, sources-moved}
-use Rattle.calls.proofs.KeptLoans.{of-rows, held-so, placed-still}
+use Rattle.calls.proofs.KeptLoans.{of-rows, held-so}
 use Rattle.calls.proofs.KeptAskItems.{named, listed}
 use Rattle.calls.proofs.KeptAskList.{named-end}
 use Rattle.calls.proofs.KeptAskStack.{row-stacked, length-stacked, rises-stacked, top-stacked, all-stacked, each-stacked}
@@ -144,7 +144,7 @@ module _ (st : State) (s : Sound st) (p c : ℕ) (is : List Item) (a : Asked st 
       other : (r : Row) → isPairedWith r (rowOf (lentRows st is) (otherEnd r)) ≡ true → isPairedWith r (rowOf (askedRows st c is) (otherEnd r)) ≡ true
       other r e =
           let k : isEnd (rowOf (st .rows) (otherEnd r) .kind) ≡ true = sym (ap isEnd (kind-same (named st is) withSystem (none-named st s p c is a) (st .rows) (otherEnd r))) ∙ end-of r (rowOf (lentRows st is) (otherEnd r)) e in
-          let (lo, hi) = row-below st s (otherEnd r) (row-there (λ r. isEnd (r .kind)) (unfold noRow isEnd isClient isServer clientEnd serverEnd in refl) (st .rows) (otherEnd r) k) in
+          let (lo, hi) = row-below st s (otherEnd r) (end-there (st .rows) (otherEnd r) k) in
           ap (isPairedWith r) (row-stacked st c (st .next) (copies st is) (suc (st .next)) (lentRows st is) (otherEnd r) (omega arith)) ∙ e
 
       step : (r : Row) → endPaired (lentRows st is) r ≡ true → endPaired (askedRows st c is) r ≡ true
@@ -204,15 +204,11 @@ module _ (st : State) (s : Sound st) (p c : ℕ) (is : List Item) (a : Asked st 
   pub processes-placed : processesPlaced (askedState st p c is) ≡ true
   unfolding processesPlaced
   processes-placed =
-      placed-still (st .rows) (askedRows st c is) stays 1 (st .processes)
-      (let l : length (st .processes) ≡ 64 = unfold recordsFit processes in eqb-true (length (st .processes)) 64 (s .records-fit) in omega arith) (s .processes-placed)
+      placed-still st s (askedRows st c is) stays
     where
-      no-end : (k : ℕ) → isSubdirectory k ≡ true → isEnd k ≡ false
-      no-end k e = copied-no-end k (unfold isCopied in or-r (isOperation k) (isSubdirectory k) e)
-
       stays : (e k : ℕ) → k ≤ 64 → isSubdirectory (rowOf (st .rows) e .kind) ≡ true → rowOf (st .rows) e .place ≡ inClist k → rowOf (askedRows st c is) e ≡ rowOf (st .rows) e
       stays e k u sub at =
-          let m : member e (numbers (st .rows)) ≡ true = row-there (λ r. isSubdirectory (r .kind)) (unfold noRow isSubdirectory subdirectory in refl) (st .rows) e sub in
+          let m : member e (numbers (st .rows)) ≡ true = subdirectory-there (st .rows) e sub in
           let below : e < st .next = row-below st s e m .1 in
-          let g : named st is e ≡ false = false-of (named st is e) (λ g. clash (named-end st is e g) (no-end (rowOf (st .rows) e .kind) sub)) in
+          let g : named st is e ≡ false = false-of (named st is e) (λ g. clash (named-end st is e g) (subdirectory-no-end (rowOf (st .rows) e .kind) sub)) in
           old-found st s p c is a e (omega arith) ∙ moved-stays (named st is) withSystem (rowOf (st .rows) e) (ap (named st is) (row-number (st .rows) e m) ∙ g)

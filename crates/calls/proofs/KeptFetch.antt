@@ -6,27 +6,28 @@ use mathlib.Core.Path.{_≡_, refl, sym, ap, _∙_, subst}
 use lib.Dec.{leb, ltb, eqb}
 use lib.ListN.{length, length-map}
 use borrow.Author.Tests.{eqb-true}
-use native.Mathlib.Omega.{arith}
 use Rattle.rows.specs.declared.Row.{Row}
 use Rattle.rows.specs.declared.Request.{Request}
 use Rattle.rows.specs.Lists.{any, all, rises, member, distinct, some, nonzero}
 use Rattle.rows.specs.Limits.{processes, mostItems}
-use Rattle.rows.specs.Codes.{subdirectory, isSubdirectory, isEnd, inClist, withSystem, isNode, isSystem}
+use Rattle.rows.specs.Codes.{isSubdirectory, isEnd, inClist, withSystem, isNode, isSystem}
 use Rattle.rows.specs.Tables.{State, noRow, noRequest, rowOf, requestOf, openOn, isListed, numbers, lists}
 use Rattle.rows.specs.Sound.{rowsRise, requestsRise, numbersApart, belowNext, nextInRange, rowsFit, requestsFit, recordsFit, objectsInRange, rightsInRange, placeInRange, placesInRange, fetchedInRange, sourcesRight, depthsRight, copiesMatch, recordsInRange, endPaired, endsPaired, portStands, portsStand, requestersListed, itemsFew, itemsApart, itemsLent, mayBeListed, onePerPort, copyListed, copiesListed, isFetched, olderFetchedBy, olderFetched, awaitsFetch, same, systemHolds, processesPlaced}
 use Rattle.rows.proofs.Bools.{false-of, true-of, clash, and-l, or-l, or-r, or-fl, or-fr, any-eq, all-mono, all-eq, all-at, not-zero}
-use Rattle.rows.proofs.Keyed.{all-first, first-there, rises-map, rises-range, keys-map}
+use Rattle.rows.proofs.Keyed.{all-first, rises-map, rises-range, keys-map}
 use Rattle.rows.proofs.Sound.{Sound}
 use Rattle.rows.proofs.Lists.{member-nonzero, all-map}
 use Rattle.rows.proofs.Places.{clist-not-node, clist-no-system, system-no-node}
-use Rattle.rows.proofs.SoundFacts.{clist-not-system, clist-in-range, row-number, same-eq, eq-same}
+use Rattle.rows.proofs.SoundFacts.{clist-not-system, clist-in-range, row-number, same-eq, eq-same, placed-still}
+use Rattle.rows.proofs.Awaits.{listers-fetched}
+use Rattle.rows.proofs.RowSources.{subdirectory-there}
 use Rattle.closing.specs.Closing.{placedIn}
 use Rattle.calls.specs.Loans.{handedTo, nowFetched, withFetched}
 use Rattle.calls.specs.Calls.{doFetch}
 use Rattle.calls.proofs.AddRow.{unless}
 use Rattle.calls.proofs.KeptLists.{each-map, top-map, other-there, other-same}
 use Rattle.calls.proofs.KeptMoved.{moved, mayMove, moved-same, moved-stays, moved-goes, moved-number, row-moved, depths-moved, copies-moved, objects-moved, rights-moved, paired-moved, ports-moved, listed-moved, sources-moved}
-use Rattle.calls.proofs.KeptLoans.{of-rows, held-so, listers-fetched, now-same, now-number, now-lists, still-fetched, request-now, fetched-now, awaits-same, placed-still}
+use Rattle.calls.proofs.KeptLoans.{of-rows, held-so, now-same, now-number, now-lists, still-fetched, request-now, fetched-now, awaits-same}
 
 -- v is an open request of sound tables, not fetched, and p a listed process
 module _ (st : State) (s : Sound st) (p : ℕ) (v : Request) (found : requestOf (st .requests) (v .number) ≡ v) (there : member (v .number) (map (λ v. v .number) (st .requests)) ≡ true)
@@ -270,12 +271,11 @@ module _ (st : State) (s : Sound st) (p : ℕ) (v : Request) (found : requestOf 
   processes-placed : processesPlaced after ≡ true
   unfolding processesPlaced
   processes-placed =
-      placed-still (st .rows) rows′ (λ e k hi sub at. row-moved goes (inClist p) none-goes (st .rows) e ∙ stays e k hi sub at) 1 (st .processes)
-      (let l : length (st .processes) ≡ 64 = unfold recordsFit processes in eqb-true (length (st .processes)) 64 (s .records-fit) in omega arith) (s .processes-placed)
+      placed-still st s rows′ (λ e k hi sub at. row-moved goes (inClist p) none-goes (st .rows) e ∙ stays e k hi sub at)
     where
       stays : (e k : ℕ) → k ≤ 64 → isSubdirectory (rowOf (st .rows) e .kind) ≡ true → rowOf (st .rows) e .place ≡ inClist k → moved goes (inClist p) (rowOf (st .rows) e) ≡ rowOf (st .rows) e
       stays e k hi sub at =
-          let m : member e (numbers (st .rows)) ≡ true = unfold numbers rowOf in first-there (λ r. r .number) noRow (λ r. isSubdirectory (r .kind)) (unfold noRow isSubdirectory subdirectory in refl) (st .rows) e sub in
+          let m : member e (numbers (st .rows)) ≡ true = subdirectory-there (st .rows) e sub in
           let in-clist : isSystem (rowOf (st .rows) e .place) ≡ false = ap isSystem at ∙ clist-no-system k hi in
           let g : goes e ≡ false = false-of (goes e) (λ g. clash (eq-same (isSystem (rowOf (st .rows) e .place)) (awaitsFetch (st .requests) e) (held-so st s e m) ∙ awaited e g) in-clist) in
           moved-stays goes (inClist p) (rowOf (st .rows) e) (ap goes (row-number (st .rows) e m) ∙ g)

@@ -1,53 +1,28 @@
--- What sound tables say of items, of what awaits fetch, of places and of the rows gone through.
-use Prim.Native.Nat.{ℕ, suc, _+_, _<_, _≤_}
-use mathlib.Core.Bool.{Bool, true, false, not, cond, _&&_, _||_}
+-- A request that becomes fetched: what then awaits fetch, and what the system holds.
+use Prim.Native.Nat.{ℕ, _<_}
+use mathlib.Core.Bool.{Bool, true, false, not, cond, _||_}
 use mathlib.Core.List.{List, [], _∷_, map}
 use mathlib.Core.Path.{_≡_, refl, sym, ap, _∙_, subst}
 use lib.Dec.{eqb}
-use lib.ListN.{length}
 use borrow.Author.Tests.{eqb-true, ne-eqb}
 use native.Mathlib.Omega.{arith}
 use Rattle.rows.specs.declared.Row.{Row}
 use Rattle.rows.specs.declared.Request.{Request}
-use Rattle.rows.specs.declared.Process.{Process}
-use Rattle.rows.specs.Lists.{any, all, each, firstWith, rises, member, some}
-use Rattle.rows.specs.Codes.{isSubdirectory, inClist, isSystem}
+use Rattle.rows.specs.Lists.{all, each, firstWith, rises, member, some}
+use Rattle.rows.specs.Codes.{isSystem}
 use Rattle.rows.specs.Tables.{State, noRow, noRequest, rowOf, requestOf, numbers, lists}
-use Rattle.rows.specs.Sound.{isFetched, olderFetchedBy, awaitsFetch, same, systemHolds, rowsRise, processPlaced, placedFrom}
-use Rattle.rows.proofs.Bools.{false-of, clash, and-l, and-r, and-i, or-map, or-l, or-r, not-t, not-f, eqb-sym-f, all-mono, and-rf}
+use Rattle.rows.specs.Sound.{isFetched, olderFetchedBy, awaitsFetch, same, systemHolds, rowsRise}
+use Rattle.rows.proofs.Bools.{false-of, clash, and-l, and-r, eqb-sym-f, and-rf}
 use Rattle.rows.proofs.Keyed.{all-first, first-map, first-none, rises-rest, rises-fresh}
 use Rattle.rows.proofs.Sound.{Sound}
 use Rattle.rows.proofs.Picked.{all-found}
-use Rattle.rows.proofs.Lists.{any-at}
 use Rattle.rows.proofs.SoundFacts.{row-number}
+use Rattle.rows.proofs.Awaits.{older-listers}
 use Rattle.calls.specs.Loans.{nowFetched}
 
 pub no-request-lists : (e : ℕ) → lists e noRequest ≡ false
 unfolding lists noRequest member
 no-request-lists e = and-rf (some e) false refl
-
--- ---- what awaits fetch
-module _ (e : ℕ) where
-  -- of what no request awaits, every request that lists it is fetched
-  pub listers-fetched : (vs : List Request) → each olderFetchedBy vs ≡ true → awaitsFetch vs e ≡ false → all (λ w. isFetched w || not (lists e w)) vs ≡ true
-  unfolding each awaitsFetch all
-  listers-fetched [] o a = refl
-  listers-fetched (v ∷ vs) o a = pick (listers-fetched vs (and-r (olderFetchedBy v vs) (each olderFetchedBy vs) o)) (lists e v) refl a
-    where
-      older : lists e v ≡ true → (w : Request) → isFetched w || not (any (λ x. lists x w) (v .items)) ≡ true → isFetched w || not (lists e w) ≡ true
-      older q w = or-map (isFetched w) (not (any (λ x. lists x w) (v .items))) (not (lists e w)) (λ n. unlisted w (not-t (any (λ x. lists x w) (v .items)) n))
-        where
-          unlisted : (w : Request) → any (λ x. lists x w) (v .items) ≡ false → not (lists e w) ≡ true
-          unlisted w n =
-              ap not (false-of (lists e w) (λ h. clash (any-at (λ x. lists x w) (v .items) e (and-r (some e) (member e (v .items)) (unfold lists in q)) h) n))
-
-      pick : (awaitsFetch vs e ≡ false → all (λ w. isFetched w || not (lists e w)) vs ≡ true) → (b : Bool) → lists e v ≡ b
-          → cond b (not (isFetched v)) (awaitsFetch vs e) ≡ false → (isFetched v || not (lists e v)) && all (λ w. isFetched w || not (lists e w)) vs ≡ true
-      pick ih true q a =
-          and-i (isFetched v || not (lists e v)) (all (λ w. isFetched w || not (lists e w)) vs) (or-l (isFetched v) (not (lists e v)) (not-f (isFetched v) a))
-          (all-mono (λ w. isFetched w || not (any (λ x. lists x w) (v .items))) (λ w. isFetched w || not (lists e w)) (older q) vs
-          (unfold olderFetchedBy in and-l (olderFetchedBy v vs) (each olderFetchedBy vs) o))
-      pick ih false q a = and-i (isFetched v || not (lists e v)) (all (λ w. isFetched w || not (lists e w)) vs) (or-r (isFetched v) (not (lists e v)) (ap not q)) (ih a)
 
 -- ---- a request that becomes fetched
 -- a reading that does not look at whether it is fetched
@@ -94,17 +69,11 @@ module _ (q e : ℕ) where
   fetched-now [] o m f l = clash m refl
   fetched-now (w ∷ ws) o m f l = pick (fetched-now ws (and-r (olderFetchedBy w ws) (each olderFetchedBy ws) o)) (eqb (w .number) q) refl m f l
     where
-      shared : (u : Request) → isFetched u ≡ false → lists e u ≡ true → lists e w ≡ true → isFetched u || not (any (λ x. lists x u) (w .items)) ≡ false
-      shared u f l h =
-          rw (f, any-at (λ x. lists x u) (w .items) e (and-r (some e) (member e (w .items)) (unfold lists in h)) l) refl
-
       newer : member q (map (λ v. v .number) ws) ≡ true → isFetched (firstWith (λ v. v .number) noRequest ws q) ≡ false → lists e (firstWith (λ v. v .number) noRequest ws q) ≡ true → lists e w ≡ false
       newer m f l =
           false-of (lists e w) λ h.
-          clash
-          (all-first (λ v. v .number) noRequest (λ u. isFetched u || not (any (λ x. lists x u) (w .items))) ws q
-          (unfold olderFetchedBy in and-l (olderFetchedBy w ws) (each olderFetchedBy ws) o) m)
-          (shared (firstWith (λ v. v .number) noRequest ws q) f l h)
+          clash (all-first (λ v. v .number) noRequest (λ u. isFetched u || not (lists e u)) ws q (older-listers e w ws h (and-l (olderFetchedBy w ws) (each olderFetchedBy ws) o)) m)
+          (rw (f, l) refl)
 
       pick : (member q (map (λ v. v .number) ws) ≡ true → isFetched (firstWith (λ v. v .number) noRequest ws q) ≡ false → lists e (firstWith (λ v. v .number) noRequest ws q) ≡ true → awaitsFetch (map (nowFetched q) ws) e ≡ false)
           → (b : Bool) → eqb (w .number) q ≡ b → eqb q (w .number) || member q (map (λ v. v .number) ws) ≡ true
@@ -131,29 +100,6 @@ module _ (q e : ℕ) where
           → cond (lists e (nowFetched q w)) (not (isFetched (nowFetched q w))) (awaitsFetch (map (nowFetched q) ws) e) ≡ cond (lists e w) (not (isFetched w)) (awaitsFetch ws e)
       pick ih true z l = rw (now-lists q e w, l) (ih (none-after z))
       pick ih false z l = rw (now-other q w z) (rw (ih l) refl)
-
--- every process stays placed, if the subdirectory rows in c-lists stay
-pub placed-still : (rs rs′ : List Row) → ((e p : ℕ) → p ≤ 64 → isSubdirectory (rowOf rs e .kind) ≡ true → rowOf rs e .place ≡ inClist p → rowOf rs′ e ≡ rowOf rs e)
-    → (p : ℕ) (ps : List Process) → p + length ps ≤ 65 → placedFrom rs p ps ≡ true → placedFrom rs′ p ps ≡ true
-unfolding placedFrom
-placed-still rs rs′ h p [] b e = refl
-placed-still rs rs′ h p (x ∷ xs) b e =
-    and-i (processPlaced rs′ p x) (placedFrom rs′ (suc p) xs) (placed (and-l (processPlaced rs p x) (placedFrom rs (suc p) xs) e))
-    (placed-still rs rs′ h (suc p) xs (omega arith) (and-r (processPlaced rs p x) (placedFrom rs (suc p) xs) e))
-  where
-    rest : Row → Bool
-    rest r = some (x .through) && (isSubdirectory (r .kind) && (eqb (r .place) (inClist p) && eqb (r .object) (x .active)))
-
-    stays : rest (rowOf rs (x .through)) ≡ true → rest (rowOf rs′ (x .through)) ≡ true
-    stays q =
-        let k : isSubdirectory (rowOf rs (x .through) .kind) ≡ true = search (and-l, and-r) in
-        let l : eqb (rowOf rs (x .through) .place) (inClist p) ≡ true = search (and-l, and-r) in
-        rw (h (x .through) p (omega arith) k (eqb-true (rowOf rs (x .through) .place) (inClist p) l)) q
-
-    placed : processPlaced rs p x ≡ true → processPlaced rs′ p x ≡ true
-    placed q =
-        unfold processPlaced in
-        or-map (eqb (x .through) 0 && eqb (x .active) (x .prime)) (rest (rowOf rs (x .through))) (rest (rowOf rs′ (x .through))) stays q
 
 -- ---- rows of sound tables
 module _ (st : State) (s : Sound st) where

@@ -1,7 +1,7 @@
 -- The calls keep the tables sound. One line a file:
 -- refusals leave the tables, new rows before the old ones keep them sound
 pub mod AddRow
--- what sound tables say of a row that is found and of a listed process
+-- held rows, copies and depths, as the rules of the calls name them
 pub mod Stand
 -- hold and register, which copy a row
 pub mod KeptHold
@@ -13,7 +13,7 @@ pub mod KeptGo
 pub mod KeptLists
 -- rows of which some change their place and nothing else: the clauses that this keeps
 pub mod KeptMoved
--- what awaits fetch and who is where, read off sound tables
+-- a request that becomes fetched: what then awaits fetch, and what the system holds
 pub mod KeptLoans
 -- fetch keeps the tables sound
 pub mod KeptFetch

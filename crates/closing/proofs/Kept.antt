@@ -27,7 +27,7 @@ use Rattle.closing.proofs.KeptPlaces.{places-in-range-kept, system-hold
 use Rattle.closing.proofs.KeptRows.{below-next-kept, rows-fit-kept, objects-in-range-kept, rights-in-range-kept, sources-right-kept, depths-right-kept, copies-match-kept, ends-paired-kept, copies-listed-kept}
 
 -- the removal of rows and the closing of requests that go together
-pub settled-kept : (g : List ℕ) (f : Request → Bool) (st : State) → Sound st → Closed g f st → Sound (settled g f st)
+settled-kept : (g : List ℕ) (f : Request → Bool) (st : State) → Sound st → Closed g f st → Sound (settled g f st)
 settled-kept g f st s c =
     record {
       rows-rise = rows-rise-kept g f st (s .rows-rise);
@@ -59,7 +59,7 @@ settled-kept g f st s c =
       processes-placed = processes-placed-kept g f st s c;
     }
 
-pub closing-kept : (seed : Row → Bool) (qs : List ℕ) (st : State) → Sound st → Closable seed qs st → Sound (closing seed qs st)
+closing-kept : (seed : Row → Bool) (qs : List ℕ) (st : State) → Sound st → Closable seed qs st → Sound (closing seed qs st)
 unfolding closing
 closing-kept seed qs st s c = settled-kept (marked seed (st .rows)) (closes qs (marked seed (st .rows))) st s (closable-closed seed qs st s c)
 

@@ -11,16 +11,16 @@ use Rattle.rows.specs.declared.Request.{Request}
 use Rattle.rows.specs.declared.Process.{Process}
 use Rattle.rows.specs.Lists.{any, all, each, member, some}
 use Rattle.rows.specs.Limits.{processes}
-use Rattle.rows.specs.Codes.{isEnd, isClient, isServer, isSubdirectory, clientEnd, serverEnd, subdirectory, isNode, isClist, isSystem, inClist, ownerOf}
+use Rattle.rows.specs.Codes.{isEnd, isSubdirectory, isNode, isClist, isSystem, inClist, ownerOf}
 use Rattle.rows.specs.Tables.{State, noRow, noRequest, rowOf, requestOf, isListed, lists, numbers}
 use Rattle.rows.specs.Sound.{requestsRise, placeInRange, placesInRange, mayBeListed, isFetched, olderFetchedBy, olderFetched, awaitsFetch, same, systemHolds, processesPlaced, requestersListed}
-use Rattle.rows.proofs.Bools.{false-of, clash, and-l, and-r, not-t, or-cases, or-r, or-fl, or-fr, or-map, all-mono, true-or-false, and-rf, and-true}
+use Rattle.rows.proofs.Bools.{false-of, clash, and-l, and-r, or-cases, or-r, or-fl, or-fr, or-map, all-mono, true-or-false, and-rf, and-true}
 use Rattle.rows.proofs.Keyed.{first-none}
 use Rattle.rows.proofs.Sound.{Sound}
-use Rattle.rows.proofs.Lists.{any-at}
 use Rattle.rows.proofs.SoundFacts.{row-number, clist-not-system, clist-owned, requests-between}
-use Rattle.rows.proofs.RowSources.{kind-there}
-use Rattle.rows.proofs.Places.{clist-not-node}
+use Rattle.rows.proofs.RowSources.{subdirectory-there}
+use Rattle.rows.proofs.Places.{clist-not-node, subdirectory-no-end}
+use Rattle.rows.proofs.Awaits.{older-listers, awaits-none}
 use Rattle.closing.specs.Closing.{oldestListing, placedIn, returned, listedIn, leaves, homed, withItems, trimmed, remaining, settled}
 use Rattle.closing.proofs.KeptLists.{any-first}
 use Rattle.closing.proofs.KeptFacts.{Stands, IsOpen, end-at, request-number, listed-right}
@@ -47,16 +47,6 @@ module _ (f : Request → Bool) (g : List ℕ) (n : ℕ) where
       pick ih true q u = rw u ih
       pick ih false q u = rw (listed, ih) (unfold trimmed withItems in refl)
 
-  awaits-none : (vs : List Request) → all (λ w. isFetched w || not (lists n w)) vs ≡ true → awaitsFetch vs n ≡ false
-  unfolding awaitsFetch all
-  awaits-none [] a = refl
-  awaits-none (v ∷ vs) a = pick (awaits-none vs (and-r (isFetched v || not (lists n v)) (all (λ w. isFetched w || not (lists n w)) vs) a)) (lists n v) (isFetched v) (and-l (isFetched v || not (lists n v)) (all (λ w. isFetched w || not (lists n w)) vs) a)
-    where
-      pick : awaitsFetch vs n ≡ false → (b c : Bool) → c || not b ≡ true → cond b (not c) (awaitsFetch vs n) ≡ false
-      pick ih true true e = refl
-      pick ih true false e = clash e refl
-      pick ih false c e = ih
-
   skips : (v : Request) (vs : List Request) → lists n v ≡ false → awaitsFetch (v ∷ vs) n ≡ awaitsFetch vs n
   unfolding awaitsFetch
   skips v vs e = rw e refl
@@ -76,17 +66,10 @@ module _ (f : Request → Bool) (g : List ℕ) (n : ℕ) where
           weaker true b e = clash e refl
           weaker false b e = refl
 
-      others-fetched : lists n v ≡ true → all (λ w. isFetched w || not (lists n w)) vs ≡ true
-      others-fetched l = all-mono (λ w. isFetched w || not (any (λ e. lists e w) (v .items))) (λ w. isFetched w || not (lists n w)) (λ w e. or-map (isFetched w) _ _ (contra w) e) vs
-          (unfold olderFetchedBy in and-l (olderFetchedBy v vs) (each olderFetchedBy vs) o)
-        where
-          contra : (w : Request) → not (any (λ e. lists e w) (v .items)) ≡ true → not (lists n w) ≡ true
-          contra w e = ap not (false-of (lists n w) (λ m. clash (any-at (λ e. lists e w) (v .items) n (unfold lists in and-r (some n) (member n (v .items)) l) m) (not-t _ e)))
-
       pick : (listedIn f vs n ≡ true → awaitsFetch (remaining f g vs) n ≡ false) → (a b : Bool) → listedIn f vs n ≡ b → (a && lists n v) || b ≡ true
           → awaitsFetch (cond a (remaining f g vs) (trimmed f g vs v ∷ remaining f g vs)) n ≡ false
       pick ih true true q h = ih q
-      pick ih true false q h = awaits-none (remaining f g vs) (all-remaining f g (λ w. isFetched w || not (lists n w)) (λ w. isFetched w || not (lists n w)) fewer vs (others-fetched (⊎-elim (λ l. l) (λ z. clash z refl) (or-cases (lists n v) false h))))
+      pick ih true false q h = awaits-none n (remaining f g vs) (all-remaining f g (λ w. isFetched w || not (lists n w)) (λ w. isFetched w || not (lists n w)) fewer vs (older-listers n v vs (⊎-elim (λ l. l) (λ z. clash z refl) (or-cases (lists n v) false h)) (and-l (olderFetchedBy v vs) (each olderFetchedBy vs) o)))
       pick ih false true q h = skips (trimmed f g vs v) (remaining f g vs) (trimmed-lists f g vs v n ∙ ap (λ b. lists n v && not b) (or-r (member n g) (listedIn f vs n) q) ∙ and-rf (lists n v) false refl) ∙ ih q
       pick ih false false q h = clash h refl
 
@@ -200,9 +183,6 @@ module _ (g : List ℕ) (f : Request → Bool) (st : State) (s : Sound st) (c : 
   unfolding processesPlaced
   processes-placed-kept = unfold settled in placed-kept g (st .rows) (settled g f st .rows) unmoved 1 (st .processes) (s .processes-placed)
     where
-      no-end : (k : ℕ) → isSubdirectory k ≡ true → isEnd k ≡ false
-      no-end k e = let z : k ≡ 2 = eqb-true k 2 (unfold isSubdirectory subdirectory in e) in ap isEnd z ∙ (unfold isEnd isClient isServer clientEnd serverEnd in refl)
-
       unmoved : (n : ℕ) → member n g ≡ false → isSubdirectory (rowOf (st .rows) n .kind) ≡ true → rowOf (settled g f st .rows) n ≡ rowOf (st .rows) n
       unmoved n k e =
-          row-after g f st n k ∙ no-end-same n (kind-there isSubdirectory (unfold isSubdirectory subdirectory in refl) (st .rows) n e) k (no-end (rowOf (st .rows) n .kind) e)
+          row-after g f st n k ∙ no-end-same n (subdirectory-there (st .rows) n e) k (subdirectory-no-end (rowOf (st .rows) n .kind) e)

@@ -51,7 +51,7 @@ port-low rs u v e =
 -- ---- the history by itself
 module _ (rs : List Noted) (x : Noted) (u : rising rs ≡ true) (top : topOf (λ r. r .number) rs < x .number) where
   -- an older row is found as before
-  pub older-noted : (k : ℕ) → k < x .number → notedOf (x ∷ rs) k ≡ notedOf rs k
+  older-noted : (k : ℕ) → k < x .number → notedOf (x ∷ rs) k ≡ notedOf rs k
   older-noted k lt = noted-other x rs k (ne-eqb (x .number) k (λ e. omega arith))
 
   ends-more : (r : Noted) → endsWell rs r ≡ true → endsWell (x ∷ rs) r ≡ true
@@ -113,7 +113,7 @@ module _ (h : History) (n : ℕ) (ss : List ℕ) (q c : ℕ)
   unfolding survives spoiled stands
   new-survives = rw (dn, qn, cn) older
 
-  pub standing-new : standing (addRow n ss q c h) ≡ newNoted n ss q c ∷ standing h
+  standing-new : standing (addRow n ss q c h) ≡ newNoted n ss q c ∷ standing h
   unfolding standing addRow sweep spoiled
   standing-new = rw new-survives refl
 
@@ -123,7 +123,7 @@ module _ (h : History) (n : ℕ) (ss : List ℕ) (q c : ℕ)
 
 -- ---- what stands below n stands after as before: then the open requests and the rows gone through are the same
 module _ (h h′ : History) (n : ℕ) (same : (k : ℕ) → k < n → stands h′ k ≡ stands h k) where
-  pub open-same : Fit h → topOf (λ r. r .number) (h .rows) < n → h′ .closedRequests ≡ h .closedRequests → h′ .requests ≡ h .requests → openLoans h′ ≡ openLoans h
+  open-same : Fit h → topOf (λ r. r .number) (h .rows) < n → h′ .closedRequests ≡ h .closedRequests → h′ .requests ≡ h .requests → openLoans h′ ≡ openLoans h
   unfolding openLoans
   open-same f top c r = ap (filter (λ v. not (isClosed h′ v))) r ∙ filter-same (portNoted (h .rows)) (λ v. not (isClosed h′ v)) (λ v. not (isClosed h v)) loan-same (h .requests) (f .ports-noted)
     where

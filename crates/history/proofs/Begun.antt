@@ -35,7 +35,7 @@ counted-down [] e = refl
 counted-down (r ∷ rs) e =
     rw (eqb-true (r .number) (suc (length rs)) (and-l (counted r rs) (each counted rs) e), counted-down rs (and-r (counted r rs) (each counted rs) e)) refl
 
-pub opened-numbers : (fs : List Form) → numbers (stateOpened fs .rows) ≡ downFrom (entryCount fs)
+opened-numbers : (fs : List Form) → numbers (stateOpened fs .rows) ≡ downFrom (entryCount fs)
 unfolding stateOpened
 opened-numbers fs = counted-down (openedFrom empty fs .rows) (opened-counted fs) ∙ ap downFrom (opened-count fs)
 

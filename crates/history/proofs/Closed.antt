@@ -14,23 +14,23 @@ use Rattle.rows.proofs.Keyed.{keys-filter}
 use Rattle.rows.proofs.Sound.{Sound}
 use Rattle.rows.proofs.Lists.{filter-filter}
 use Rattle.closing.specs.Closing.{closes, placedIn, returned, withItems, remaining, homed, settled, closing}
+use Rattle.closing.proofs.KeptLookups.{remaining-keys, returned-keeps}
+use Rattle.closing.proofs.KeptProcesses.{homed-at, homed-prime}
 use Rattle.history.specs.Notes.{Noted, Loan, History, noted, spoiled, survives, sweep, standing, stands, isClosed, openLoans, lastGo}
 use Rattle.history.proofs.Fit.{Fit}
 use Rattle.history.proofs.Inv.{Inv, Open, view, ofRequest, ofLoan, throughNow, below}
 use Rattle.history.proofs.Sweep.{rising, sourced, sweep-sweep}
 use Rattle.history.proofs.Comes.{reached, reached-sweep}
 use Rattle.history.proofs.View.{filter-through, map-through, view-rises}
-use Rattle.closing.proofs.KeptLookups.{remaining-keys, returned-keeps}
-use Rattle.closing.proofs.KeptProcesses.{homed-at, homed-prime}
 
 -- ---- marks
-pub view-marked : (f : Row → Bool) (g : Noted → Bool) → ((r : Row) → f r ≡ g (view r)) → (rs : List Row) → marked f rs ≡ reached g (map view rs)
+view-marked : (f : Row → Bool) (g : Noted → Bool) → ((r : Row) → f r ≡ g (view r)) → (rs : List Row) → marked f rs ≡ reached g (map view rs)
 unfolding marked reached view
 view-marked f g h [] = refl
 view-marked f g h (r ∷ rs) = rw (view-marked f g h rs, h r) refl
 
 -- the sources of what is left are left
-pub sweep-sourced : (f : Noted → Bool) (rs : List Noted) → sourced (sweep f rs) ≡ true
+sweep-sourced : (f : Noted → Bool) (rs : List Noted) → sourced (sweep f rs) ≡ true
 unfolding sweep each
 sweep-sourced f [] = refl
 sweep-sourced f (r ∷ rs) = pick (sweep-sourced f rs) (survives f (noted (sweep f rs)) r) refl

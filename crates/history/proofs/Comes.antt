@@ -32,7 +32,7 @@ unfolding mark noted member
 mark-sub true r m rs s h e = or-map (eqb s (r .number)) (member s m) (member s (noted rs)) h e
 mark-sub false r m rs s h e = or-r (eqb s (r .number)) (member s (noted rs)) (h e)
 
-pub reached-sub : (f : Noted → Bool) (rs : List Noted) (s : ℕ) → member s (reached f rs) ≡ true → member s (noted rs) ≡ true
+reached-sub : (f : Noted → Bool) (rs : List Noted) (s : ℕ) → member s (reached f rs) ≡ true → member s (noted rs) ≡ true
 unfolding reached
 reached-sub f [] s e = clash e (unfold member in refl)
 reached-sub f (r ∷ rs) s e = mark-sub (f r || any (λ s. member s (reached f rs)) (r .sources)) r (reached f rs) rs s (reached-sub f rs s) e
@@ -80,7 +80,7 @@ not-same true false e = sym e
 not-same false true e = sym e
 not-same false false e = refl
 
-pub reached-eq : (f : Noted → Bool) (rs : List Noted) → rising rs ≡ true → sourced rs ≡ true → (n : ℕ) → member n (noted rs) ≡ true
+reached-eq : (f : Noted → Bool) (rs : List Noted) → rising rs ≡ true → sourced rs ≡ true → (n : ℕ) → member n (noted rs) ≡ true
     → member n (reached f rs) ≡ f (notedOf rs n) || any (λ s. member s (reached f rs)) (notedOf rs n .sources)
 reached-eq f rs u v n t =
     not-same _ _
@@ -130,7 +130,7 @@ module _ (h : History) (fit : Fit h) (q : ℕ) (isNumber : 0 < q) where
   came (bySource n s i c) =
       reached-at n (has-source n s i) ∙ or-r (bearing (notedOf (h .rows) n)) _ (any-at (λ s. member s (reached bearing (h .rows))) (notedOf (h .rows) n .sources) s (unfold IsSource in i) (came c))
 
-pub comes-from : (h : History) → Fit h → (q n : ℕ) → 0 < q → (member n (reached (λ r. eqb (r .request) q) (h .rows)) ≡ true) ↔ ComesFrom h q n
+comes-from : (h : History) → Fit h → (q n : ℕ) → 0 < q → (member n (reached (λ r. eqb (r .request) q) (h .rows)) ≡ true) ↔ ComesFrom h q n
 unfolding IsNoted
 comes-from h fit q n p = (λ e. comes h fit q p n (reached-sub (λ r. eqb (r .request) q) (h .rows) n e) e, λ c. came h fit q p c)
 

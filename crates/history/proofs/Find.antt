@@ -1,4 +1,4 @@
--- Rows and records of sound tables as the calls find them, and rows of the tables as the history has them.
+-- Rows of the tables as the history has them; held rows, ends and their ports as the calls find them.
 use Prim.Native.Nat.{ℕ, pred, _<_}
 use mathlib.Core.Bool.{Bool, true, false, cond}
 use mathlib.Core.Path.{_≡_, refl, sym, ap, _∙_}
@@ -21,13 +21,13 @@ use Rattle.rows.proofs.SoundFacts.{row-number, row-below, row-object, paired-at
 use Rattle.calls.specs.declared.Item.{Item}
 use Rattle.calls.specs.Rules.{notHeld}
 use Rattle.calls.specs.Loans.{itemRow, moves}
+use Rattle.calls.proofs.Stand.{held-there}
 use Rattle.history.specs.Notes.{History, isEndNoted, noted, notedOf, spoiled, standing, stands}
 use Rattle.history.specs.Chains.{IsNoted}
 use Rattle.history.proofs.Inv.{Inv, view}
 use Rattle.history.proofs.Sweep.{noted-sweep}
 use Rattle.history.proofs.View.{view-noted, view-of}
 use Rattle.history.proofs.Gone.{stands-noted}
-use Rattle.calls.proofs.Stand.{held-there}
 
 -- ---- rows of the tables, as the history has them
 module _ (h : History) (st : State) (i : Inv h st) where
@@ -81,7 +81,7 @@ module _ (st : State) (s : Sound st) where
   client-port e t k = client-object (st .processes) (rowOf (st .rows) e) (row-object st s e t) k ∙ row-number (st .rows) e t
 
   -- the port of an end has a number: a client end's is its own, a server end's that of its other end
-  pub end-port-low : (e : ℕ) → member e (numbers (st .rows)) ≡ true → isEnd (rowOf (st .rows) e .kind) ≡ true → 0 < rowOf (st .rows) e .object
+  end-port-low : (e : ℕ) → member e (numbers (st .rows)) ≡ true → isEnd (rowOf (st .rows) e .kind) ≡ true → 0 < rowOf (st .rows) e .object
   end-port-low e t k = ⊎-elim client server (or-cases (isClient (rowOf (st .rows) e .kind)) (isServer (rowOf (st .rows) e .kind)) (unfold isEnd in k))
     where
       r : Row

@@ -1,6 +1,6 @@
 -- Every call line leaves sound tables sound.
-use Prim.Native.Nat.{ℕ}
-use mathlib.Core.Bool.{Bool, true, false, not, _&&_}
+use Prim.Native.Nat.{ℕ, _<_}
+use mathlib.Core.Bool.{true, false, not, _&&_}
 use mathlib.Core.List.{List}
 use mathlib.Core.Path.{_≡_, refl}
 use lib.Dec.{eqb}
@@ -8,7 +8,7 @@ use Rattle.rows.specs.Lists.{some}
 use Rattle.rows.specs.Tables.{State, rowOf, openOn, isListed}
 use Rattle.rows.specs.Sound.{isFetched}
 use Rattle.rows.specs.Limits.{processes}
-use Rattle.rows.proofs.Bools.{clash, or-fl, not-f, pos-some, all-mono, not-zero}
+use Rattle.rows.proofs.Bools.{or-fl, not-f, pos-some, all-mono, not-zero}
 use Rattle.rows.proofs.Sound.{Sound}
 use Rattle.rows.proofs.Places.{between-range}
 use Rattle.closing.proofs.Kept.{close-request-kept, close-port-kept, drop-kept}
@@ -29,13 +29,12 @@ use Rattle.text.specs.Entry.{callerUnlisted, answered, callOn, refused}
 use Rattle.text.proofs.Readings.{Good, reading-good, number-some}
 
 -- the caller, a process's number, is listed
+pub listed-caller : (st : State) (p : ℕ) → 0 < p → some p && not (isListed (st .processes) p) ≡ false → isListed (st .processes) p ≡ true
+listed-caller st p lo e = not-f (isListed (st .processes) p) (rw (pos-some p lo) at e)
+
 caller-listed : (st : State) (p : ℕ) → isProcess p ≡ true → some p && not (isListed (st .processes) p) ≡ false → isListed (st .processes) p ≡ true
 unfolding isProcess
-caller-listed st p r e = pick (some p) (pos-some p (between-range 1 processes p r .0)) e
-  where
-    pick : (b : Bool) → b ≡ true → b && not (isListed (st .processes) p) ≡ false → isListed (st .processes) p ≡ true
-    pick true q e = not-f (isListed (st .processes) p) e
-    pick false q e = clash q refl
+caller-listed st p r e = listed-caller st p (between-range 1 processes p r .0) e
 
 module _ (st : State) (s : Sound st) (p e : ℕ) where
   drop-call-kept : Sound (doDrop st p e .after)
@@ -63,7 +62,7 @@ module _ (st : State) (s : Sound st) (p e : ℕ) where
   unfolding doRevoke done
   revoke-kept h = unless _ _ 7 s λ e7. close-request-kept st s e h
 
-pub perform-kept : (st : State) → Sound st → (c : Call) → Good c → callerUnlisted st c ≡ false → Sound (perform st c .after)
+perform-kept : (st : State) → Sound st → (c : Call) → Good c → callerUnlisted st c ≡ false → Sound (perform st c .after)
 unfolding perform callerUnlisted callerOf Good
 perform-kept st s (Go p e) g l = go-kept st s p e (caller-listed st p (g .caller) l)
 perform-kept st s (Hold p e) g l = hold-kept st s p e (caller-listed st p (g .caller) l)

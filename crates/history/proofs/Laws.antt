@@ -20,22 +20,23 @@ use Rattle.rows.proofs.Standing.{standing-shape, nodes-stay, rights-within}
 use Rattle.rows.proofs.SoundFacts.{row-number}
 use Rattle.rows.proofs.Places.{clist-not-node}
 use Rattle.closing.specs.Closing.{placedIn, closing, closeRequest, closePort, dropRow, isEndOf, isRow, closes}
+use Rattle.closing.proofs.KeptLookups.{left-keys}
 use Rattle.calls.specs.declared.Item.{Item}
 use Rattle.calls.specs.declared.Call.{Call}
 use Rattle.calls.specs.declared.Call.the-variants.{Go, Hold, Register, Drop, Port, Close, Ask, Fetch, Reply, Refuse, Revoke, Comes}
 use Rattle.calls.specs.Rules.{Out, refusedIf, notHeld, withRows, withRecord}
 use Rattle.calls.specs.Loans.{Lending, itemsOf, moves, toSystem, lendEnd, lendCopy, lendItem, lendItems, lent, withRequest, handedTo, withFetched}
 use Rattle.calls.specs.Calls.{done, made, goHome, goThrough, doGo, withHeld, doHold, withRegistered, doRegister, doDrop, withPort, doPort, doClose, doAsk, doFetch, doReply, doRefuse, doRevoke, doComes, perform}
+use Rattle.calls.proofs.KeptMoved.{moved, moved-number}
 use Rattle.text.specs.Entry.{openEntry, callOn, answered, refused}
 use Rattle.text.specs.declared.Reading.{Reading}
 use Rattle.text.specs.declared.Reading.the-variants.{Asks, Crowded, Refused as BadLine}
 use Rattle.text.specs.CallLines.{readingOf}
+use Rattle.text.proofs.Readings.{Good, reading-good, number-some}
 use Rattle.history.specs.Reading.{accepts}
 use Rattle.history.specs.Demand3.{lentAfter, stateIn}
 use Rattle.history.proofs.Find.{node-no-end}
-use Rattle.text.proofs.Readings.{Good, reading-good, number-some}
 use Rattle.history.proofs.Kept.{words-sound, kept}
-use Rattle.closing.proofs.KeptLookups.{left-keys}
 
 -- ---- rows of nodes never vanish
 -- row n is in the tables after a call
@@ -55,18 +56,13 @@ one-more : (n : ℕ) (r : Row) (rs : List Row) → member n (numbers rs) ≡ tru
 unfolding numbers
 one-more n r rs t = member-there n (r .number) (map (λ r. r .number) rs) t
 
-placed-number : (b : Bool) (p : ℕ) (r : Row) → cond b (placedIn p r) r .number ≡ r .number
-unfolding placedIn
-placed-number true p r = refl
-placed-number false p r = refl
-
 -- what an ask lends is added to the rows
 item-stays : (st : State) (c v n : ℕ) (i : Item) (l : Lending) → member n (numbers (l .rows)) ≡ true → member n (numbers (lendItem st c v i l .rows)) ≡ true
 unfolding lendItem lendEnd lendCopy toSystem
 item-stays st c v n i l t = pick (moves st i)
   where
     ends-lent : numbers (map (λ r. cond (eqb (r .number) (i .row)) (placedIn withSystem r) r) (l .rows)) ≡ numbers (l .rows)
-    ends-lent = numbers-moved (λ r. cond (eqb (r .number) (i .row)) (placedIn withSystem r) r) (λ r. placed-number (eqb (r .number) (i .row)) withSystem r) (l .rows)
+    ends-lent = numbers-moved (λ r. cond (eqb (r .number) (i .row)) (placedIn withSystem r) r) (unfold moved in moved-number (λ m. eqb m (i .row)) withSystem) (l .rows)
 
     pick : (b : Bool) → member n (numbers (cond b (lendEnd i l) (lendCopy st c v i l) .rows)) ≡ true
     pick true = ap (member n) ends-lent ∙ t
@@ -146,7 +142,7 @@ module _ (st : State) (s : Sound st) (n : ℕ) (e : isNode (rowOf (st .rows) n .
   fetched-stays p d =
       let v = openOn (st .requests) (rowOf (st .rows) d .object) in
       unless n st _ 7 _ t λ _. unless n st _ 8 _ t λ _. unless n st _ 11 _ t λ _.
-      ap (member n) (numbers-moved (λ r. cond (lists (r .number) v) (placedIn (inClist p) r) r) (λ r. placed-number (lists (r .number) v) (inClist p) r) (st .rows)) ∙ t
+      ap (member n) (numbers-moved (λ r. cond (lists (r .number) v) (placedIn (inClist p) r) r) (unfold moved in moved-number (λ m. lists m v) (inClist p)) (st .rows)) ∙ t
 
   replied-stays : (p d : ℕ) → Stays n (doReply st p d)
   unfolding doReply done

@@ -27,7 +27,7 @@ pub mod View
 pub mod Keeps
 -- a row more, in tables and history
 pub mod Added
--- rows and records found in the tables, as the history has them
+-- rows found in the tables, as the history has them
 pub mod Find
 -- closing, in tables and history
 pub mod Closed

@@ -6,16 +6,14 @@ use mathlib.Core.Path.{_≡_, refl, sym, ap, _∙_}
 use lib.Dec.{eqb}
 use Rattle.rows.specs.declared.Row.{Row}
 use Rattle.rows.specs.declared.Request.{Request}
-use Rattle.rows.specs.Lists.{if_then_else_, filter, any, all, firstWith, member, nonzero}
+use Rattle.rows.specs.Lists.{filter, any, all, firstWith, member, nonzero}
 use Rattle.rows.specs.Codes.{isEnd}
-use Rattle.rows.specs.Tables.{State, noRow, noRequest, rowOf, requestOf, lists}
+use Rattle.rows.specs.Tables.{State, noRequest, rowOf, requestOf, lists}
 use Rattle.rows.proofs.Bools.{and-l, and-r, not-t, eqb-sym, and-rf, and-true}
-use Rattle.rows.proofs.Keyed.{first-map}
 use Rattle.rows.proofs.Picked.{all-keys, first-picked}
 use Rattle.rows.proofs.RowSources.{end-there}
 use Rattle.rows.proofs.Lists.{filter-filter, member-filter, member-nonzero}
 use Rattle.rows.proofs.Agree.{keys-kept}
-use Rattle.closing.specs.Closing.{placedIn}
 use Rattle.history.specs.Notes.{OnLoan, History, noLoan, loanOf, stands, isClosed, openLoans, isClosedNow, staysOnLoan, loansLeft}
 use Rattle.history.proofs.Inv.{Inv, ofRequest, ofLoan, endsListed, loansIn, noOpen}
 use Rattle.history.proofs.View.{first-through}
@@ -89,31 +87,6 @@ unfolding endsListed lists
 end-listed rs e end v =
     member-filter (λ e. isEnd (rowOf rs e .kind)) (nonzero (v .items)) e ∙ ap (λ t. member e (nonzero (v .items)) && t) end
     ∙ and-true (member e (nonzero (v .items))) ∙ member-nonzero (v .items) e
-
--- ---- rows of which some are put elsewhere keep their numbers and kinds
-pub record Moves (g : Row → Row) : Type 0 where
-  pub number : (r : Row) → g r .number ≡ r .number
-  pub kind : (r : Row) → g r .kind ≡ r .kind
-  pub none : g noRow ≡ noRow
-
-pub moves-if : (test : Row → Bool) (to : Row → ℕ) → test noRow ≡ false → Moves (λ r. if test r then placedIn (to r) r else r)
-unfolding placedIn
-moves-if test to z = record { number = λ r. number r (test r); kind = λ r. kind r (test r); none = rw z refl }
-  where
-    number : (r : Row) (b : Bool) → (cond b (placedIn (to r) r) r) .number ≡ r .number
-    number r true = refl
-    number r false = refl
-
-    kind : (r : Row) (b : Bool) → (cond b (placedIn (to r) r) r) .kind ≡ r .kind
-    kind r true = refl
-    kind r false = refl
-
-pub moved-row : (g : Row → Row) → Moves g → (rs : List Row) (e : ℕ) → rowOf (map g rs) e ≡ g (rowOf rs e)
-unfolding rowOf
-moved-row g m rs e = first-map (λ r. r .number) noRow g (m .number) (m .none) rs e
-
-pub moved-kind : (g : Row → Row) → Moves g → (rs : List Row) (e : ℕ) → rowOf (map g rs) e .kind ≡ rowOf rs e .kind
-moved-kind g m rs e = ap (λ r. r .kind) (moved-row g m rs e) ∙ m .kind (rowOf rs e)
 
 -- ---- the open requests, in the tables and in the history
 module _ (h : History) (st : State) (i : Inv h st) where

@@ -10,7 +10,7 @@ use Rattle.rows.specs.declared.Row.{Row}
 use Rattle.rows.specs.declared.Request.{Request}
 use Rattle.rows.specs.Lists.{if_then_else_, all, member, some, nonzero}
 use Rattle.rows.specs.Codes.{isEnd, isSubdirectory, inClist}
-use Rattle.rows.specs.Tables.{State, noRow, rowOf, numbers, lists}
+use Rattle.rows.specs.Tables.{State, rowOf, numbers, lists}
 use Rattle.rows.specs.Sound.{mayBeListed, itemsLent}
 use Rattle.rows.proofs.Bools.{and-l, and-r, and-i, all-mono}
 use Rattle.rows.proofs.Sound.{Sound}
@@ -24,11 +24,11 @@ use Rattle.calls.specs.Rules.{refusedIf, notHeld, withRows, copyOf, withRecord}
 use Rattle.calls.specs.Loans.{handedTo, nowFetched, withFetched}
 use Rattle.calls.specs.Calls.{done, goHome, goThrough, doGo, withHeld, doHold, withRegistered, doRegister, portEnd, withPort, doPort, fetchedAnswer, doFetch, doComes}
 use Rattle.calls.proofs.AddRow.{row-before}
+use Rattle.calls.proofs.KeptMoved.{moved, kind-same}
 use Rattle.history.specs.Notes.{OnLoan, History, addRow, noteGo, noteHold, noteRegister, notePort}
 use Rattle.history.specs.Reading.{noteCall}
 use Rattle.history.proofs.Inv.{Lends, endsListed, loansIn, firstValue}
 use Rattle.history.proofs.Keeps.{Keeps}
-use Rattle.history.proofs.Loans.{Moves, moves-if, moved-kind}
 use Rattle.history.proofs.LoansKept.{LendsAfter, unless, taken, taken-done, taken-made, calm}
 
 -- ---- what the requests list are rows of the tables: they list the same ends among rows of the same kinds
@@ -76,9 +76,9 @@ module _ (st : State) (s : Sound st) where
   port-same p e d = rows-more st s (_ ∷ _ ∷ []) (two-new st _ _ refl refl)
 
 -- ---- fetch
-handed-moves : (p : ℕ) (v : Request) → Moves (handedTo p v)
-unfolding handedTo
-handed-moves p v = moves-if (λ r. lists (r .number) v) (λ r. inClist p) (unfold noRow lists some in refl)
+handed-kind : (p : ℕ) (v : Request) (rs : List Row) (e : ℕ) → rowOf (map (handedTo p v) rs) e .kind ≡ rowOf rs e .kind
+unfolding handedTo moved
+handed-kind p v rs e = kind-same (λ n. lists n v) (inClist p) (unfold lists some in refl) rs e
 
 fetched-loans : (rs : List Row) (q : ℕ) (vs : List Request) → loansIn rs (map (nowFetched q) vs) ≡ loansIn rs vs
 unfolding loansIn nowFetched
@@ -143,7 +143,7 @@ module _ (h : History) (st : State) (l : Lends h st) (s : Sound st) where
       unless _ 7 refl l k λ e7 k.
       unless _ 8 refl l k λ e8 k.
       unless _ 11 refl l k λ e11 k.
-      taken _ _ refl refl k (λ i. calm _ _ i (unfold withFetched in (fetched-loans _ _ (st .requests) ∙ kinds-same st s _ (λ x t. moved-kind (handedTo _ _) (handed-moves _ _) (st .rows) x) ∙ l .lends)))
+      taken _ _ refl refl k (λ i. calm _ _ i (unfold withFetched in (fetched-loans _ _ (st .requests) ∙ kinds-same st s _ (λ x t. handed-kind _ _ (st .rows) x) ∙ l .lends)))
 
   pub comes-lends : (e q : ℕ) → Keeps h (Comes e q) (doComes st e q) → LendsAfter h (Comes e q) (doComes st e q)
   unfolding doComes noteCall refusalOf valuesOf firstValue

@@ -22,16 +22,16 @@ use Rattle.calls.specs.declared.Call.the-variants.{Ask}
 use Rattle.calls.specs.Rules.{notHeld, copyOf}
 use Rattle.calls.specs.Loans.{itemsOf, itemRow, moves, copyLent, Lending, toSystem, lendEnd, lendCopy, lendItem, lendItems, lent, newRequest, withRequest}
 use Rattle.calls.specs.Calls.{doAsk}
+use Rattle.calls.proofs.Stand.{held-there}
+use Rattle.calls.proofs.KeptAskList.{nonzero-pad}
+use Rattle.calls.proofs.KeptMoved.{moved, kind-same}
 use Rattle.history.specs.Notes.{History, isEndNoted, endsNamed, noteAsk}
 use Rattle.history.specs.Reading.{itemsNamed, noteCall}
 use Rattle.history.proofs.Inv.{Inv, Lends, endsListed, loansIn}
 use Rattle.history.proofs.Keeps.{Keeps}
 use Rattle.history.proofs.Find.{end-noted}
-use Rattle.history.proofs.Loans.{moves-if, moved-kind}
 use Rattle.history.proofs.LoansKept.{LendsAfter, unless, taken-made, calm}
 use Rattle.history.proofs.LoansAdd.{kinds-same}
-use Rattle.calls.proofs.Stand.{held-there}
-use Rattle.calls.proofs.KeptAskList.{nonzero-pad}
 
 -- ---- lists
 filter-append : {A : Type 0} (f : A → Bool) (xs ys : List A) → filter f (xs ++ ys) ≡ filter f xs ++ filter f ys
@@ -53,8 +53,8 @@ filter-none f x e = rw e refl
 
 -- ---- rows while items are lent
 system-kind : (e : ℕ) → 0 < e → (rs : List Row) (k : ℕ) → rowOf (map (toSystem e) rs) k .kind ≡ rowOf rs k .kind
-unfolding toSystem
-system-kind e lo = moved-kind (toSystem e) (moves-if (λ r. eqb (r .number) e) (λ r. withSystem) (unfold noRow in ne-eqb 0 e (λ z. omega arith)))
+unfolding toSystem moved
+system-kind e lo rs k = kind-same (λ n. eqb n e) withSystem (ne-eqb 0 e (λ z. omega arith)) rs k
 
 row-here : (r : Row) (rs : List Row) (n : ℕ) → r .number ≡ n → rowOf (r ∷ rs) n ≡ r
 unfolding rowOf

@@ -18,6 +18,7 @@ use Rattle.rows.proofs.Lists.{filter-filter}
 use Rattle.rows.proofs.SoundFacts.{same-eq, eq-same}
 use Rattle.rows.proofs.Agree.{keys-kept}
 use Rattle.closing.specs.Closing.{listedIn, leaves, withItems, trimmed, remaining, settled, closes, closing, closeRequest, isEndOf, closePort, isRow, dropRow, placedIn}
+use Rattle.closing.proofs.KeptLookups.{remaining-keys, returned-keeps, left-keys, row-after}
 use Rattle.calls.specs.declared.Call.the-variants.{Drop, Close, Reply, Refuse, Revoke}
 use Rattle.calls.specs.Calls.{doDrop, doClose, doReply, doRefuse, doRevoke}
 use Rattle.history.specs.Notes.{History, stands, loansLeft, noteDrop, noteClose, noteRevoke, noteEnd}
@@ -27,7 +28,6 @@ use Rattle.history.proofs.Keeps.{Keeps}
 use Rattle.history.proofs.LoansKept.{LendsAfter, unless, taken-done, Settles}
 use Rattle.history.proofs.Find.{in-tables}
 use Rattle.history.proofs.Loans.{closedNumber, shut, staysLent, left-closed, left-open, shut-first, end-listed, open-numbers}
-use Rattle.closing.proofs.KeptLookups.{remaining-keys, returned-keeps, left-keys, row-after}
 
 -- ---- rows that are left
 kind-left : (g : List ℕ) (f : Request → Bool) (st : State) (e : ℕ) → member e g ≡ false → isEnd (rowOf (settled g f st .rows) e .kind) ≡ isEnd (rowOf (st .rows) e .kind)
@@ -112,7 +112,7 @@ module _ (h h′ : History) (st : State) (g : List ℕ) (f : Request → Bool) (
       )
       ∙ Bool·not-not (f (requestOf (st .requests) n))
 
-  pub closing-lends : loansIn (settled g f st .rows) (settled g f st .requests) ≡ loansLeft h′ (loansIn (st .rows) (st .requests))
+  closing-lends : loansIn (settled g f st .rows) (settled g f st .requests) ≡ loansLeft h′ (loansIn (st .rows) (st .requests))
   closing-lends = ap (loansIn (settled g f st .rows)) still-open ∙ loans-left h′ st g f end-left (st .requests) as-closed
     where
       still-open : settled g f st .requests ≡ remaining f g (st .requests)

@@ -20,6 +20,7 @@ use Rattle.rows.proofs.Sound.{Sound}
 use Rattle.rows.proofs.SoundFacts.{row-number}
 use Rattle.rows.proofs.Lists.{member-filter}
 use Rattle.closing.specs.Closing.{closes, oldestListing, placedIn, returned, settled, closing, closeRequest}
+use Rattle.closing.proofs.KeptLookups.{row-after}
 use Rattle.calls.specs.declared.Answer.the-variants.{Done}
 use Rattle.calls.specs.declared.Call.the-variants.{Revoke}
 use Rattle.calls.specs.Answers.{refusalOf}
@@ -34,7 +35,6 @@ use Rattle.history.proofs.Standing.{stands-chains, request-closed}
 use Rattle.history.proofs.Loans.{closedNumber, end-listed, open-numbers, request-loan}
 use Rattle.history.proofs.LoansClose.{stands-left, closed-now}
 use Rattle.history.proofs.Vanish.{revoked}
-use Rattle.closing.proofs.KeptLookups.{row-after}
 
 -- ---- the oldest of the requests that pass a test and list e
 module _ (f : Request → Bool) (e : ℕ) where

@@ -155,7 +155,7 @@ fetch-spoken st s p e =
     let h = leb-true (openOn (st .requests) c .number) greatestNumber (open-ranged greatestNumber (st .requests) c (request-ranged st s)) in
     unless st _ 7 _ refl λ _. unless st _ 8 _ refl λ _. unless st _ 11 _ refl λ _. fetched-spoken st (openOn (st .requests) c .number) _ _ _ _ _ h
 
-pub perform-spoken : (st : State) → Sound st → (c : Call) → Spoken st (perform st c)
+perform-spoken : (st : State) → Sound st → (c : Call) → Spoken st (perform st c)
 unfolding perform
 perform-spoken st s (Go p e) = go-spoken st p e
 perform-spoken st s (Hold p e) = hold-spoken st p e

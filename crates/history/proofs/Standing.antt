@@ -135,7 +135,7 @@ module _ (h : History) (fit : Fit h) where
   source-noted n s i = all-at (λ s. member s (noted (h .rows))) (notedOf (h .rows) n .sources) (sourced-at (h .rows) (fit .sources-older) n) s i
 
   -- a port whose client end does not stand is closed
-  pub port-gone : (c : ℕ) → IsPort h c → stands h c ≡ false → Gone h (aPort c)
+  port-gone : (c : ℕ) → IsPort h c → stands h c ≡ false → Gone h (aPort c)
   unfolding IsPort IsSource
   port-gone c p z = ⊎-elim by-call by-operation (falls-by c t z)
     where

@@ -17,6 +17,7 @@ use Rattle.rows.proofs.SoundFacts.{row-below, active-node}
 use Rattle.calls.specs.declared.Call.the-variants.{Hold, Register, Port}
 use Rattle.calls.specs.Rules.{withRows, copyOf}
 use Rattle.calls.specs.Calls.{withHeld, doHold, withRegistered, doRegister, portEnd, withPort, doPort}
+use Rattle.calls.proofs.Stand.{held-there}
 use Rattle.history.specs.Notes.{History, notedOf, stands, lastGo, addRow, heldSources, noteHold, firstOnly, noteRegister, notePort}
 use Rattle.history.specs.Reading.{noteCall}
 use Rattle.history.proofs.Fit.{isEmpty, bearsWell, endsWell}
@@ -25,7 +26,6 @@ use Rattle.history.proofs.Keeps.{Keeps, unless, taken-made}
 use Rattle.history.proofs.Added.{newNoted, FitsNew, not-below, add-row, stands-same}
 use Rattle.history.proofs.Sweep.{noted-here, noted-other}
 use Rattle.history.proofs.Find.{row-stands, row-noted, stands-low, node-no-end, held-source}
-use Rattle.calls.proofs.Stand.{held-there}
 
 -- ---- what is noted of a row that bears no request and is no end
 pub view-copy : (r : Row) (n x p s v d q : ℕ) → isEnd (r .kind) ≡ false → view (copyOf r n x p s v d q) ≡ newNoted n (nonzero (s ∷ v ∷ [])) q 0

@@ -21,6 +21,8 @@ use Rattle.calls.specs.declared.Call.the-variants.{Ask}
 use Rattle.calls.specs.Rules.{notHeld, withRows}
 use Rattle.calls.specs.Loans.{itemsOf, itemRow, moves, copyDepth, copyLent, Lending, toSystem, lendEnd, lendCopy, lendItem, lendItems, lent, newRequest, withRequest}
 use Rattle.calls.specs.Calls.{doAsk}
+use Rattle.calls.proofs.Stand.{held-there}
+use Rattle.calls.proofs.KeptMoved.{moved, moved-same}
 use Rattle.history.specs.Notes.{Noted, Loan, OnLoan, History, noted, notedOf, noLoan, loanOf, spoiled, standing, stands, isClosed, openLoans, addRow, endsNamed, copiesNoted, copied, noteAsk}
 use Rattle.history.specs.Reading.{itemsNamed, noteCall}
 use Rattle.history.proofs.Fit.{isEmpty, bearsWell, endsWell, portNoted, Fit}
@@ -30,7 +32,6 @@ use Rattle.history.proofs.View.{map-through}
 use Rattle.history.proofs.Added.{newNoted, FitsNew, below-up, not-below, add-row, stands-same}
 use Rattle.history.proofs.Find.{row-stands, row-noted, stands-low, client-port, end-noted}
 use Rattle.history.proofs.StepAdd.{view-copy}
-use Rattle.calls.proofs.Stand.{held-there}
 
 -- ---- one more request, in the history by itself
 -- h with the rows rs and the request v
@@ -139,12 +140,8 @@ module _ (h : History) (st : State) (i : Inv h st) (p c : ℕ) (es : List ℕ) (
 
 -- ---- one item
 system-view : (e : ℕ) (r : Row) → view (toSystem e r) ≡ view r
-unfolding toSystem
-system-view e r = pick (eqb (r .number) e)
-  where
-    pick : (b : Bool) → view (cond b (placedIn withSystem r) r) ≡ view r
-    pick true = unfold view placedIn sources in refl
-    pick false = refl
+unfolding toSystem moved
+system-view e r = moved-same (λ n. eqb n e) withSystem view (λ r. unfold view placedIn sources in refl) r
 
 two-sources : (a b : ℕ) → 0 < a → 0 < b → nonzero (a ∷ b ∷ []) ≡ a ∷ b ∷ []
 unfolding nonzero filter

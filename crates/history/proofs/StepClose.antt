@@ -18,6 +18,7 @@ use Rattle.rows.proofs.SoundFacts.{requests-between}
 use Rattle.closing.specs.Closing.{closeRequest, isEndOf, closePort, isRow, dropRow}
 use Rattle.calls.specs.declared.Call.the-variants.{Drop, Close, Reply, Refuse, Revoke}
 use Rattle.calls.specs.Calls.{doDrop, doClose, doReply, doRefuse, doRevoke}
+use Rattle.calls.proofs.Stand.{held-there}
 use Rattle.history.specs.Notes.{Noted, History, noLoan, notedOf, spoiled, stands, openLoans, openRequest, noteDrop, noteClose, noteRevoke, noteEnd}
 use Rattle.history.specs.Reading.{noteCall}
 use Rattle.history.proofs.Inv.{Inv, view, ofRequest, ofLoan, noOpen}
@@ -27,7 +28,6 @@ use Rattle.history.proofs.Added.{below-cons}
 use Rattle.history.proofs.Closed.{closed-keeps}
 use Rattle.history.proofs.Find.{row-stands, row-noted, stands-low, server-port}
 use Rattle.history.proofs.Comes.{revoke-spoils}
-use Rattle.calls.proofs.Stand.{held-there}
 
 -- ---- what more is spoiled
 drop-spoils : (e : ℕ) (h : History) (r : Noted) → spoiled (noteDrop e h) r ≡ spoiled h r || eqb (r .number) e
@@ -78,7 +78,7 @@ module _ (st : State) (s : Sound st) where
       let r : some (v .number) && ltb (v .number) (st .next) ≡ true = all-first key noRequest (λ v. some (v .number) && ltb (v .number) (st .next)) (st .requests) n (requests-between st s) (found-there key n e) in
       (some-pos (v .number) (and-l (some (v .number)) _ r), ltb-true (v .number) (st .next) (and-r (some (v .number)) _ r))
 
-  request-range : (q : ℕ) → eqb (requestOf (st .requests) q .number) 0 ≡ false → (0 < q) × (q < st .next)
+  pub request-range : (q : ℕ) → eqb (requestOf (st .requests) q .number) 0 ≡ false → (0 < q) × (q < st .next)
   unfolding requestOf
   request-range q e =
       let n : requestOf (st .requests) q .number ≡ q = first-key (λ v. v .number) noRequest (st .requests) q (found-there (λ v. v .number) q e) in

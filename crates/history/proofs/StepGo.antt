@@ -23,13 +23,15 @@ use Rattle.calls.specs.Answers.{refusalOf, valuesOf}
 use Rattle.calls.specs.Rules.{refusedIf, notHeld, withRecord}
 use Rattle.calls.specs.Loans.{handedTo, nowFetched, withFetched}
 use Rattle.calls.specs.Calls.{done, goHome, goThrough, doGo, fetchedAnswer, doFetch, doComes}
+use Rattle.calls.proofs.Stand.{held-there}
+use Rattle.calls.proofs.KeptMoved.{moved, moved-same}
+use Rattle.calls.proofs.KeptLoans.{now-same}
 use Rattle.history.specs.Notes.{Went, History, spoiled, standing, stands, isClosed, openLoans, wentNowhere, lastGo, noteGo}
 use Rattle.history.specs.Reading.{noteCall}
 use Rattle.history.proofs.Inv.{Inv, view, ofRequest, ofLoan, throughNow, firstValue}
 use Rattle.history.proofs.Keeps.{fit-same, seen-inv, Keeps, unless, taken, taken-done}
 use Rattle.history.proofs.View.{map-through}
 use Rattle.history.proofs.Find.{row-stands, stands-low}
-use Rattle.calls.proofs.Stand.{held-there}
 
 -- ---- the records after one is replaced
 record-at : (ps : List Process) (p k : ℕ) (x : Process) → isListed ps p ≡ true → processAt (set ps (p - 1) x) k ≡ cond (eqb p k) x (processAt ps k)
@@ -136,20 +138,11 @@ module _ (h : History) (st : State) (i : Inv h st) where
 
   -- ---- fetch
   hand-view : (p : ℕ) (v : Request) (r : Row) → view (handedTo p v r) ≡ view r
-  unfolding handedTo
-  hand-view p v r = pick (lists (r .number) v)
-    where
-      pick : (b : Bool) → view (cond b (placedIn (inClist p) r) r) ≡ view r
-      pick true = unfold view placedIn sources in refl
-      pick false = refl
+  unfolding handedTo moved
+  hand-view p v r = moved-same (λ n. lists n v) (inClist p) view (λ r. unfold view placedIn sources in refl) r
 
   fetched-view : (q : ℕ) (v : Request) → ofRequest (nowFetched q v) ≡ ofRequest v
-  unfolding nowFetched
-  fetched-view q v = pick (eqb (v .number) q)
-    where
-      pick : (b : Bool) → ofRequest (cond b (record { number = v .number; port = v .port; asker = v .asker; fetched = 1; items = v .items }) v) ≡ ofRequest v
-      pick true = unfold ofRequest in refl
-      pick false = refl
+  fetched-view q v = now-same q ofRequest (λ n c a k is. unfold ofRequest in refl) v
 
   fetched-inv : (p : ℕ) (v : Request) → Inv h (withFetched p v st)
   unfolding withFetched

@@ -1,10 +1,8 @@
 -- Every call on sound tables, accepted or refused, keeps the invariant of history and tables.
-use Prim.Native.Nat.{ℕ, _<_}
-use mathlib.Core.Bool.{Bool, true, false, not, _&&_}
+use Prim.Native.Nat.{_<_}
+use mathlib.Core.Bool.{Bool, true, false}
 use mathlib.Core.Path.{_≡_, refl}
-use Rattle.rows.specs.Lists.{some}
-use Rattle.rows.specs.Tables.{State, isListed}
-use Rattle.rows.proofs.Bools.{not-f, pos-some}
+use Rattle.rows.specs.Tables.{State}
 use Rattle.rows.proofs.Sound.{Sound}
 use Rattle.calls.specs.declared.Call.{Call}
 use Rattle.calls.specs.declared.Call.the-variants.{Go, Hold, Register, Drop, Port, Close, Ask, Fetch, Reply, Refuse, Revoke, Comes}
@@ -18,6 +16,7 @@ use Rattle.history.proofs.StepAdd.{hold-keeps, register-keeps, port-kee
 use Rattle.history.proofs.StepClose.{drop-keeps, close-keeps, reply-keeps, refuse-keeps, revoke-keeps}
 use Rattle.history.proofs.StepGo.{go-keeps, fetch-keeps, comes-keeps}
 use Rattle.history.proofs.StepAsk.{ask-keeps}
+use Rattle.history.proofs.KeptCalls.{listed-caller}
 
 -- the call is made by a process: all but comes
 unfoldable pub hasCaller : Call → Bool
@@ -38,15 +37,11 @@ hasCaller (Comes e q) = false
 pub record GoodCall (c : Call) : Type 0 where
   pub caller : hasCaller c ≡ true → 0 < callerOf c
 
--- ---- refused
 -- ---- performed
-listed : (st : State) (p : ℕ) → 0 < p → some p && not (isListed (st .processes) p) ≡ false → isListed (st .processes) p ≡ true
-listed st p lo e = not-f (isListed (st .processes) p) (rw (pos-some p lo) at e)
-
 perform-keeps : (h : History) (st : State) → Inv h st → Sound st → (c : Call) → GoodCall c → callerUnlisted st c ≡ false → Keeps h c (perform st c)
 unfolding perform callerUnlisted callerOf hasCaller
-perform-keeps h st i s (Go p e) g l = go-keeps h st i p e (listed st p (g .caller refl) l)
-perform-keeps h st i s (Hold p e) g l = hold-keeps h st i s p e (listed st p (g .caller refl) l)
+perform-keeps h st i s (Go p e) g l = go-keeps h st i p e (listed-caller st p (g .caller refl) l)
+perform-keeps h st i s (Hold p e) g l = hold-keeps h st i s p e (listed-caller st p (g .caller refl) l)
 perform-keeps h st i s (Register p e) g l = register-keeps h st i s p e
 perform-keeps h st i s (Drop p e) g l = drop-keeps h st i s p e
 perform-keeps h st i s (Port p e) g l = port-keeps h st i s p e
@@ -57,9 +52,6 @@ perform-keeps h st i s (Reply p v) g l = reply-keeps h st i s p v
 perform-keeps h st i s (Refuse p v) g l = refuse-keeps h st i s p v
 perform-keeps h st i s (Revoke p q) g l = revoke-keeps h st i s p q
 perform-keeps h st i s (Comes e q) g l = comes-keeps h st i e q
-
-pub perform-inv : (h : History) (st : State) → Inv h st → Sound st → (c : Call) → GoodCall c → callerUnlisted st c ≡ false → Inv (noteAnswer h c (perform st c .answer)) (perform st c .after)
-perform-inv h st i s c g l = perform-keeps h st i s c g l .inv
 
 -- a call that was read, its caller listed or not
 pub call-inv : (h : History) (st : State) → Inv h st → Sound st → (c : Call) → GoodCall c → Inv (noteAnswer h c (answered st (Asks c) .answer)) (answered st (Asks c) .after)

@@ -1,19 +1,16 @@
 -- An accepted revoke takes from the tables just what came from the request.
 use Prim.Native.Nat.{ℕ, _<_}
 use mathlib.Core.Bool.{Bool, true, false, not, _||_, false≢true}
-use mathlib.Core.List.{[], _∷_, map}
+use mathlib.Core.List.{[], _∷_}
 use mathlib.Core.Path.{_≡_, refl, sym, ap, _∙_, subst}
 use mathlib.Core.Logic.{_↔_}
 use lib.Dec.{eqb}
-use native.Mathlib.Omega.{arith}
 use Rattle.rows.specs.Lists.{member}
-use Rattle.rows.specs.Tables.{State, noRequest, requestOf, numbers, marked, bears}
-use Rattle.rows.specs.Sound.{requestsRise}
+use Rattle.rows.specs.Tables.{State, requestOf, numbers, marked, bears}
 use Rattle.rows.proofs.Bools.{false-of, clash, and-l, or-fl}
-use Rattle.rows.proofs.Keyed.{first-there, rises-range}
 use Rattle.rows.proofs.Sound.{Sound}
-use Rattle.rows.proofs.SoundFacts.{requests-top}
 use Rattle.closing.specs.Closing.{closes, closing, closeRequest}
+use Rattle.closing.proofs.KeptLookups.{left-keys}
 use Rattle.calls.specs.declared.Answer.{Answer}
 use Rattle.calls.specs.declared.Answer.the-variants.{Done, Made, Fetched, Told, Refused}
 use Rattle.calls.specs.Rules.{Out, refusedIf}
@@ -24,8 +21,7 @@ use Rattle.history.specs.Demand3.{InTables, Vanished}
 use Rattle.history.proofs.Inv.{Inv}
 use Rattle.history.proofs.Comes.{revoke-takes}
 use Rattle.history.proofs.Find.{in-tables}
-use Rattle.history.proofs.StepClose.{revoked-inv}
-use Rattle.closing.proofs.KeptLookups.{left-keys}
+use Rattle.history.proofs.StepClose.{revoked-inv, request-range}
 
 isDone : Answer → Bool
 isDone Done = true
@@ -51,13 +47,8 @@ unfolding doRevoke
 revoked h st i s p q e =
     let v = requestOf (st .requests) q in
     let (test, same) = passed st (eqb (v .number) 0 || not (eqb (v .asker) p)) 7 (done (closeRequest q st)) e in
-    let t : member q (map (λ v. v .number) (st .requests)) ≡ true = there (or-fl (eqb (v .number) 0) _ test) in
-    let (lo, hi) = rises-range (λ v. v .number) (st .requests) (unfold requestsRise in s .requests-rise) q t in
-    let top = requests-top st s in
-    record { after = ap (λ o. o .after) same ∙ (unfold done in refl); low = lo; inv = revoked-inv h st i s q lo (omega arith) }
-  where
-    there : eqb (requestOf (st .requests) q .number) 0 ≡ false → member q (map (λ v. v .number) (st .requests)) ≡ true
-    there z = unfold requestOf in first-there (λ v. v .number) noRequest (λ v. not (eqb (v .number) 0)) (unfold noRequest in refl) (st .requests) q (ap not z)
+    let (lo, hi) = request-range st s q (or-fl (eqb (v .number) 0) _ test) in
+    record { after = ap (λ o. o .after) same ∙ (unfold done in refl); low = lo; inv = revoked-inv h st i s q lo hi }
 
 pub revoke-vanished : (h : History) (st : State) → Inv h st → Sound st → (p q : ℕ) → doRevoke st p q .answer ≡ Done → Vanished h st (doRevoke st p q .after) q
 unfolding InTables

@@ -52,7 +52,7 @@ module _ {A B : Type 0} (w : A → B) where
         top-through (y ∷ ys) = k y
 
 -- ---- rows
-pub view-number : (r : Row) → view r .number ≡ r .number
+view-number : (r : Row) → view r .number ≡ r .number
 unfolding view
 view-number r = refl
 

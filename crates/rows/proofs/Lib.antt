@@ -17,6 +17,8 @@ pub mod RowSources
 pub mod Places
 -- what sound tables tell of one row that is found and of one listed process
 pub mod SoundFacts
+-- what awaits a fetch, and the requests that list it
+pub mod Awaits
 -- rows read back from the words in which they lie
 pub mod LayoutRows
 -- requests and process records read back

@@ -1,5 +1,5 @@
 -- Kinds and places: which exclude each other, what is in range, and what an unused row is.
-use Prim.Native.Nat.{ℕ, _+_, _<_, _≤_}
+use Prim.Native.Nat.{ℕ, _+_, _≤_}
 use mathlib.Core.Bool.{true, false}
 use mathlib.Core.List.{List}
 use mathlib.Core.Path.{_≡_, refl}
@@ -15,7 +15,7 @@ use Rattle.rows.specs.Limits.{processes, nodes}
 use Rattle.rows.specs.Codes.{operation, subdirectory, clientEnd, serverEnd, isOperation, isSubdirectory, isClient, isServer, isEnd, isCopied, inClist, withSystem, isNode, isClist, isSystem}
 use Rattle.rows.specs.Tables.{noRow}
 use Rattle.rows.specs.Sound.{placeInRange, mayBeListed}
-use Rattle.rows.proofs.Bools.{false-of, and-l, and-r, and-i, or-cases, or-l}
+use Rattle.rows.proofs.Bools.{false-of, and-l, and-r, and-i, or-cases, or-l, or-r}
 
 -- ---- ranges
 pub between-range : (lo hi n : ℕ) → between lo hi n ≡ true → (lo ≤ n) × (n ≤ hi)
@@ -31,15 +31,15 @@ pub copied-no-end : (k : ℕ) → isCopied k ≡ true → isEnd k ≡ false
 unfolding isCopied isEnd isOperation isSubdirectory isClient isServer operation subdirectory clientEnd serverEnd
 copied-no-end k t = ⊎-elim (λ e. rw (eqb-true k 1 e) refl) (λ e. rw (eqb-true k 2 e) refl) (or-cases (eqb k 1) (eqb k 2) t)
 
+pub subdirectory-no-end : (k : ℕ) → isSubdirectory k ≡ true → isEnd k ≡ false
+unfolding isCopied
+subdirectory-no-end k t = copied-no-end k (or-r (isOperation k) (isSubdirectory k) t)
+
 pub client-is-end : (k : ℕ) → isClient k ≡ true → isEnd k ≡ true
 unfolding isEnd
 client-is-end k t = or-l (isClient k) (isServer k) t
 
 -- ---- places
-pub node-low : (n : ℕ) → isNode n ≡ true → 0 < n
-unfolding isNode nodes
-node-low n t = let (p, q) = between-range 1 32 n t in p
-
 pub node-not-system : (n : ℕ) → isNode n ≡ true → isSystem n ≡ false
 unfolding isNode isSystem nodes withSystem
 node-not-system n t = let (p, q) = between-range 1 32 n t in ne-eqb n 200 (λ e. omega arith)

@@ -29,7 +29,7 @@ unfolding noRow isNode between
 node-there = row-there (λ r. isNode (r .place)) refl
 
 -- by its kind: that of none is 0
-pub kind-there : (P : ℕ → Bool) → P 0 ≡ false → (rs : List Row) (n : ℕ) → P (rowOf rs n .kind) ≡ true → member n (numbers rs) ≡ true
+kind-there : (P : ℕ → Bool) → P 0 ≡ false → (rs : List Row) (n : ℕ) → P (rowOf rs n .kind) ≡ true → member n (numbers rs) ≡ true
 unfolding noRow
 kind-there P z = row-there (λ r. P (r .kind)) z
 

@@ -17,7 +17,7 @@ use Rattle.rows.specs.Limits.{processes, nodes, greatestOperation}
 use Rattle.rows.specs.Codes.{operation, subdirectory, clientEnd, serverEnd, isOperation, isSubdirectory, isClient, isServer, isEnd, isCopied, inClist, isNode, isClist, isSystem, ownerOf}
 use Rattle.rows.specs.Tables.{State, noRow, noProcess, rowOf, processAt, isListed, numbers, sources, reaches, onLoan, lentItself, isLent}
 use Rattle.rows.specs.Sound.{rowsRise, requestsRise, belowNext, recordsFit, objectInRange, objectsInRange, rightInRange, rightsInRange, placeInRange, isOpening, isRegistered, isHeld, isPortEnd, isLentCopy, recordUnused, recordInRange, recordsInRange, isPairedWith, otherEnd, endPaired, endsPaired, same, processPlaced, placedFrom, processesPlaced}
-use Rattle.rows.proofs.Bools.{clash, and-l, and-r, and-i, or-cases, or-l, or-r, or-fl, or-fr, or-false, not-t, zero-none, eqb-sym-f, all-mono}
+use Rattle.rows.proofs.Bools.{clash, and-l, and-r, and-i, or-cases, or-l, or-r, or-fl, or-fr, or-false, not-t, zero-none, eqb-sym-f, all-mono, or-map}
 use Rattle.rows.proofs.Keyed.{first-key, all-first, rises-rest, rises-first, rises-range}
 use Rattle.rows.proofs.Lists.{all-getD}
 use Rattle.rows.proofs.Sound.{Sound}
@@ -43,7 +43,7 @@ unfolding numbers rowOf
 row-number rs n t = first-key (λ r. r .number) noRow rs n t
 
 -- keys that rise are above 0, and below what is above the first
-pub rises-between : {A : Type 0} (key : A → ℕ) (b : ℕ) (xs : List A) → rises key xs ≡ true → topOf key xs < b → all (λ x. some (key x) && ltb (key x) b) xs ≡ true
+rises-between : {A : Type 0} (key : A → ℕ) (b : ℕ) (xs : List A) → rises key xs ≡ true → topOf key xs < b → all (λ x. some (key x) && ltb (key x) b) xs ≡ true
 unfolding all topOf some
 rises-between key b [] e h = refl
 rises-between key b (x ∷ xs) e h =
@@ -194,6 +194,36 @@ placed-from rs [] k t i q e = placed-none rs q
 placed-from rs (x ∷ xs) k t zero q e =
     let z : q ≡ k = omega arith in ap (λ n. processPlaced rs n x) z ∙ and-l (processPlaced rs k x) (placedFrom rs (suc k) xs) t
 placed-from rs (x ∷ xs) k t (suc i) q e = placed-from rs xs (suc k) (and-r (processPlaced rs k x) (placedFrom rs (suc k) xs) t) i q (omega arith)
+
+placed-stays : (rs rs′ : List Row) → ((e p : ℕ) → p ≤ 64 → isSubdirectory (rowOf rs e .kind) ≡ true → rowOf rs e .place ≡ inClist p → rowOf rs′ e ≡ rowOf rs e)
+    → (p : ℕ) (ps : List Process) → p + length ps ≤ 65 → placedFrom rs p ps ≡ true → placedFrom rs′ p ps ≡ true
+unfolding placedFrom
+placed-stays rs rs′ h p [] b e = refl
+placed-stays rs rs′ h p (x ∷ xs) b e =
+    and-i (processPlaced rs′ p x) (placedFrom rs′ (suc p) xs) (placed (and-l (processPlaced rs p x) (placedFrom rs (suc p) xs) e))
+    (placed-stays rs rs′ h (suc p) xs (omega arith) (and-r (processPlaced rs p x) (placedFrom rs (suc p) xs) e))
+  where
+    rest : Row → Bool
+    rest r = some (x .through) && (isSubdirectory (r .kind) && (eqb (r .place) (inClist p) && eqb (r .object) (x .active)))
+
+    stays : rest (rowOf rs (x .through)) ≡ true → rest (rowOf rs′ (x .through)) ≡ true
+    stays q =
+        let k : isSubdirectory (rowOf rs (x .through) .kind) ≡ true = search (and-l, and-r) in
+        let l : eqb (rowOf rs (x .through) .place) (inClist p) ≡ true = search (and-l, and-r) in
+        rw (h (x .through) p (omega arith) k (eqb-true (rowOf rs (x .through) .place) (inClist p) l)) q
+
+    placed : processPlaced rs p x ≡ true → processPlaced rs′ p x ≡ true
+    placed q =
+        unfold processPlaced in
+        or-map (eqb (x .through) 0 && eqb (x .active) (x .prime)) (rest (rowOf rs (x .through))) (rest (rowOf rs′ (x .through))) stays q
+
+-- every process stays placed, if the subdirectory rows in c-lists stay
+pub placed-still : (st : State) → Sound st → (rs : List Row) → ((e p : ℕ) → p ≤ 64 → isSubdirectory (rowOf (st .rows) e .kind) ≡ true → rowOf (st .rows) e .place ≡ inClist p → rowOf rs e ≡ rowOf (st .rows) e)
+    → placedFrom rs 1 (st .processes) ≡ true
+unfolding recordsFit processes processesPlaced
+placed-still st s rs h =
+    let l : length (st .processes) ≡ 64 = eqb-true (length (st .processes)) 64 (s .records-fit) in
+    placed-stays (st .rows) rs h 1 (st .processes) (omega arith) (s .processes-placed)
 
 -- ---- a listed process
 module _ (st : State) (s : Sound st) (p : ℕ) (l : isListed (st .processes) p ≡ true) where
