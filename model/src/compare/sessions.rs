@@ -1,0 +1,63 @@
+//! Whole sessions with the output that the model prints: conformance, random
+//! and damaged ones.
+
+use super::antt::bytes;
+use super::case::{name, same, Case};
+use super::{conformance_files, stem, SMALL};
+use crate::random::damage::damage;
+use crate::random::{session, Profile, Rng, PROFILES};
+use crate::run_session;
+use crate::session::open;
+use std::fs;
+
+/// The definitions print for this input what the model prints.
+pub fn case(name: String, about: String, input: Vec<u8>) -> Case {
+    let output = run_session(&input);
+    Case {
+        name,
+        about,
+        claim: same(&format!("session {}", bytes(&input)), &bytes(&output)),
+        files: vec![("session", input)],
+    }
+}
+
+/// The conformance sessions of up to so many lines.
+pub fn conformance(lines: usize) -> std::io::Result<Vec<Case>> {
+    let mut cases = Vec::new();
+    for path in conformance_files("sessions", "session")? {
+        let input = fs::read(&path)?;
+        if input.iter().filter(|b| **b == b'\n').count() <= lines {
+            let about = format!("conformance/sessions/{}.session", stem(&path));
+            cases.push(case(name("conformance", cases.len()), about, input));
+        }
+    }
+    Ok(cases)
+}
+
+/// Random sessions of so many calls, the profiles in turn.
+pub fn fresh(rng: &mut Rng, count: usize, calls: usize) -> Vec<Case> {
+    let profiles = PROFILES.into_iter().cycle();
+    let each = profiles.take(count).enumerate().map(|(at, profile)| {
+        let seed = rng.word();
+        let about = format!("random session, {profile:?}, seed {seed}, {calls} calls");
+        case(name("session", at), about, session(seed, profile, calls))
+    });
+    each.collect()
+}
+
+/// Short random sessions that are damaged: half of them anywhere, half of
+/// them after the opening.
+pub fn damaged(rng: &mut Rng, count: usize) -> Vec<Case> {
+    let each = (0..count).map(|at| {
+        let profile = rng.pick(&SMALL).unwrap_or(Profile::Tiny);
+        let text = session(rng.word(), profile, 6);
+        let (_, _, opening) = open(&text);
+        let (kept, rest) = match at % 2 {
+            0 => (&[][..], &text[..]),
+            _ => text.split_at(opening),
+        };
+        let input = [kept, &damage(rng, rest)].concat();
+        case(name("damaged", at), "damaged text".to_string(), input)
+    });
+    each.collect()
+}
