@@ -7,7 +7,7 @@ use crate::tables::{Kind, Place, Process, Request, Row, Tables};
 pub fn bytes(text: &[u8]) -> String {
     let plain = |b: &u8| *b == b'\n' || (b' '..=b'~').contains(b);
     if !text.iter().all(plain) {
-        return list(text.iter().map(|b| u32::from(*b)));
+        return list(text.iter().copied());
     }
     let mut quoted = String::from("(bytes \"");
     for byte in text {
@@ -21,8 +21,8 @@ pub fn bytes(text: &[u8]) -> String {
     quoted + "\")"
 }
 
-pub fn list(numbers: impl IntoIterator<Item = u32>) -> String {
-    let items = numbers.into_iter().map(|n| format!("{n} ∷ "));
+pub fn list<N: Into<u64>>(numbers: impl IntoIterator<Item = N>) -> String {
+    let items = numbers.into_iter().map(|n| format!("{} ∷ ", n.into()));
     format!("({}[])", items.collect::<String>())
 }
 
@@ -49,33 +49,37 @@ fn kind_code(kind: Kind) -> u32 {
     }
 }
 
-/// A place's code: the node, 100 + process, 200; none where it would be the
-/// code of another place.
-fn place_code(place: Place) -> Option<u32> {
+/// A place's code: the node, 100 + process, 200. A node or process so far out
+/// of range that this is another place's code gets one that is no place.
+fn place_code(place: Place) -> u64 {
     match place {
-        Place::Node(n) => (n < 100).then_some(n),
-        Place::CList(p) => (p < 100).then_some(100 + p),
-        Place::System => Some(200),
+        Place::Node(n) if n < 100 => u64::from(n),
+        Place::CList(p) if p < 100 => 100 + u64::from(p),
+        Place::System => 200,
+        Place::Node(n) | Place::CList(n) => 201 + u64::from(n),
     }
 }
 
-fn row_fields(row: &Row) -> Option<[u32; 10]> {
-    Some([
+fn row_fields(row: &Row) -> [u64; 10] {
+    let fields = [
         row.number,
         kind_code(row.kind),
         row.object,
         row.operation,
         row.rights,
-        place_code(row.place)?,
+        0,
         row.source,
         row.via,
         row.depth,
         row.request,
-    ])
+    ];
+    let mut fields = fields.map(u64::from);
+    fields[5] = place_code(row.place);
+    fields
 }
 
 /// The items have four places, 0 for none; so a listed 0 has no code.
-fn request_fields(request: &Request) -> Option<[u32; 8]> {
+fn request_fields(request: &Request) -> Option<[u64; 8]> {
     if request.lists(0) {
         return None;
     }
@@ -87,25 +91,25 @@ fn request_fields(request: &Request) -> Option<[u32; 8]> {
         fetched,
         ..
     } = *request;
-    Some([number, port, asker, fetched, a, b, c, d])
+    Some([number, port, asker, fetched, a, b, c, d].map(u64::from))
 }
 
-fn record_fields(record: &Process) -> [u32; 3] {
-    [record.prime, record.active, record.through]
+fn record_fields(record: &Process) -> [u64; 3] {
+    [record.prime, record.active, record.through].map(u64::from)
 }
 
 /// A function of the module `Help` with its arguments.
-fn made(function: &str, fields: &[u32]) -> String {
+fn made(function: &str, fields: &[u64]) -> String {
     let arguments = fields.iter().map(|n| format!(" {n}"));
     format!("{function}{}", arguments.collect::<String>())
 }
 
 /// The state that tables are in the definitions, rows and requests newest
-/// first; none where a field has no code there.
+/// first; none where an item has no code there.
 pub fn state(tables: &Tables) -> Option<String> {
     let (mut rows, mut requests) = (String::new(), String::new());
     for row in tables.rows.iter().rev() {
-        rows += &(made("row", &row_fields(row)?) + " ∷ ");
+        rows += &(made("row", &row_fields(row)) + " ∷ ");
     }
     for request in tables.requests.iter().rev() {
         requests += &(made("request", &request_fields(request)?) + " ∷ ");
@@ -125,17 +129,22 @@ pub fn state(tables: &Tables) -> Option<String> {
 
 /// The numbers of a state, as `Help` lays them out: next, the rows, the
 /// requests, the processes, each with their count before them.
-pub fn state_numbers(tables: &Tables) -> Option<Vec<Vec<u32>>> {
-    let mut rows = vec![tables.rows.len() as u32];
+pub fn state_numbers(tables: &Tables) -> Option<Vec<Vec<u64>>> {
+    let mut rows = vec![tables.rows.len() as u64];
     for row in tables.rows.iter().rev() {
-        rows.extend(row_fields(row)?);
+        rows.extend(row_fields(row));
     }
-    let mut requests = vec![tables.requests.len() as u32];
+    let mut requests = vec![tables.requests.len() as u64];
     for request in tables.requests.iter().rev() {
         requests.extend(request_fields(request)?);
     }
     let records = tables.processes.iter().flat_map(record_fields);
-    let mut processes = vec![PROCESSES];
+    let mut processes = vec![u64::from(PROCESSES)];
     processes.extend(records);
-    Some(vec![vec![tables.next], rows, requests, processes])
+    Some(vec![
+        vec![u64::from(tables.next)],
+        rows,
+        requests,
+        processes,
+    ])
 }

@@ -45,10 +45,12 @@ pub fn conformance_calls() -> std::io::Result<Vec<(String, Tables, Vec<u8>)>> {
     for path in conformance_files("tables", "tables")? {
         let text = fs::read_to_string(&path)?;
         let line = fs::read(path.with_extension("call"))?;
-        let tables = Tables::parse(&text).ok_or_else(|| {
+        let mut tables = Tables::parse(&text).ok_or_else(|| {
             let said = format!("{path:?}: no tables");
             std::io::Error::new(std::io::ErrorKind::InvalidData, said)
         })?;
+        // The definitions write 0 for an item that is not there.
+        tables.requests.iter_mut().for_each(|q| q.strike(0));
         calls.push((stem(&path), tables, line));
     }
     Ok(calls)

@@ -42,11 +42,14 @@ fn case(name: String, about: String, entry: (&str, Entry), lent: Lent, text: &[u
     }
 }
 
+/// Tables of at most so many rows: the prover takes a tenth of a second a row.
+const MOST_ROWS: usize = 12;
+
 /// Cases in turn: conformance tables, random sound tables (twice), words of
 /// which some are changed, openings on words of any content.
 pub fn words(rng: &mut Rng, count: usize) -> std::io::Result<Vec<Case>> {
     let mut conformance = conformance_calls()?;
-    conformance.retain(|(_, tables, _)| sound(tables));
+    conformance.retain(|(_, tables, _)| sound(tables) && tables.rows.len() <= MOST_ROWS);
     rng.shuffle(&mut conformance);
     let mut cases: Vec<Case> = Vec::new();
     while cases.len() < count {
@@ -73,8 +76,18 @@ fn of_conformance(at: usize, (file, tables, line): (String, Tables, Vec<u8>)) ->
     ))
 }
 
+/// Random sound tables of few rows, and a line.
+fn small_call(rng: &mut Rng) -> (Tables, Vec<u8>) {
+    loop {
+        let (tables, line) = sound_call(rng);
+        if tables.rows.len() <= MOST_ROWS {
+            return (tables, line);
+        }
+    }
+}
+
 fn of_tables(rng: &mut Rng, at: usize) -> Option<Case> {
-    let (tables, line) = sound_call(rng);
+    let (tables, line) = small_call(rng);
     let about = "words of random sound tables".to_string();
     Some(case(
         name("words", at),
@@ -88,7 +101,7 @@ fn of_tables(rng: &mut Rng, at: usize) -> Option<Case> {
 /// Words of sound tables with one changed: any word, one of a used slot, or
 /// one more or less in a run.
 fn changed(rng: &mut Rng, at: usize) -> Option<Case> {
-    let (tables, line) = sound_call(rng);
+    let (tables, line) = small_call(rng);
     let (mut words, mut processes) = encode(&tables)?;
     let value = rng.between(0, 40);
     let column = rng.below(10) * 1024;
