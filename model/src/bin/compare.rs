@@ -1,8 +1,9 @@
 //! Writes cases for the prover, as tools/compare asks for them. Usage:
 //!
 //! compare write DIR SEED [--sessions N --calls N --damaged N ..]   all cases of a seed
-//! compare prefixes DIR SORT SESSION       the session cut after each line
-//! compare smaller DIR SORT SESSION        the session with lines left out
+//! compare prefixes DIR SORT SESSION       the session cut after some of its lines
+//! compare runs DIR SORT SESSION           the session with many lines left out
+//! compare lines DIR SORT SESSION          the session with few lines left out
 //! compare bits DIR BASE                   what the definitions answer, bit by bit
 //! compare read NAMES                      the answer, the bits that are 0 being named
 //! compare show SESSION [ANSWER]           the session with the model's answers
@@ -24,12 +25,13 @@ fn main() -> Outcome {
             let cases = model::compare::cases(seed.parse()?, sizes(options)?)?;
             written(directory, &cases)
         }
-        ["prefixes", directory, sort, session] => {
-            let sessions = smaller::prefixes(&fs::read(session)?);
-            written(directory, &smaller::cases(claim(sort), sessions))
-        }
-        ["smaller", directory, sort, session] => {
-            let sessions = smaller::smaller(&fs::read(session)?);
+        [how @ ("prefixes" | "runs" | "lines"), directory, sort, session] => {
+            let input = fs::read(session)?;
+            let sessions = match *how {
+                "prefixes" => smaller::prefixes(&input),
+                "runs" => smaller::smaller(&input, 1),
+                _ => smaller::smaller(&input, 2),
+            };
             written(directory, &smaller::cases(claim(sort), sessions))
         }
         ["bits", directory, base] => written(directory, &bits_of(base)?),

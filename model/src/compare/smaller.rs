@@ -29,30 +29,52 @@ pub fn cases(claim: Claim, sessions: Vec<Vec<u8>>) -> Vec<Case> {
     each.collect()
 }
 
-/// The session cut after each of its lines but the last.
+/// The session cut after some of its lines: in eight places, and 1, 2, 4, 8,
+/// .. lines before the end. If a session differs, so do those that go on from
+/// it; so if none of these differs no prefix does.
 pub fn prefixes(input: &[u8]) -> Vec<Vec<u8>> {
     let lines: Vec<&[u8]> = split_lines(input).collect();
-    let ends = 0..lines.len();
-    ends.map(|end| lines[..end].concat()).collect()
+    let count = lines.len();
+    let spread = (0..8).map(|part| count * part / 8);
+    let near = (0..).map(|power| 1 << power).take_while(|n| *n <= count);
+    let cuts = spread.chain(near.map(|n| count - n));
+    let shorter = cuts.filter(|cut| *cut < count);
+    shorter.map(|cut| lines[..cut].concat()).collect()
 }
 
-/// The session with a run of lines left out (half of them, a quarter, .. one
-/// line), or an entry of a node; as it is, and with later numbers lowered by
-/// those that what is left out took.
-pub fn smaller(input: &[u8]) -> Vec<Vec<u8>> {
+/// The session with a run of lines left out, as it is and with later numbers
+/// lowered by those that the lines took. Level 1: the runs are the halves,
+/// quarters and eighths of the session. Level 2: shorter ones, to single
+/// lines; and an entry of a node left out.
+pub fn smaller(input: &[u8], level: u32) -> Vec<Vec<u8>> {
     let lines: Vec<&[u8]> = split_lines(input).collect();
     let taken = taken(input);
-    let mut found = without_entries(&lines, &taken);
-    let mut size = lines.len().div_ceil(2);
-    while size > 0 {
-        for start in (0..lines.len()).step_by(size) {
-            let end = (start + size).min(lines.len());
-            let before = lines[..start].concat();
-            let gone = taken.get(start..end).unwrap_or(&[]);
-            found.push([&before[..], &lines[end..].concat()].concat());
-            found.push([before, lowered(&lines[end..], gone)].concat());
+    let mut found = Vec::new();
+    let sizes = (1..).map(|power| lines.len() >> power);
+    let sizes: Vec<usize> = sizes.take_while(|size| *size > 0).collect();
+    let (large, small) = sizes.split_at(sizes.len().min(3));
+    let sizes = match level {
+        1 => large,
+        _ => {
+            found.extend(without_entries(&lines, &taken));
+            small
         }
-        size /= 2;
+    };
+    for size in sizes {
+        found.extend(without_runs(&lines, &taken, *size));
+    }
+    found
+}
+
+/// The session without one of its runs of so many lines.
+fn without_runs(lines: &[&[u8]], taken: &[Taken], size: usize) -> Vec<Vec<u8>> {
+    let mut found = Vec::new();
+    for start in (0..lines.len()).step_by(size) {
+        let end = (start + size).min(lines.len());
+        let before = lines[..start].concat();
+        let gone = taken.get(start..end).unwrap_or(&[]);
+        found.push([&before[..], &lines[end..].concat()].concat());
+        found.push([before, lowered(&lines[end..], gone)].concat());
     }
     found
 }
