@@ -70,10 +70,12 @@ fn sizes(options: &[&str]) -> Result<Sizes, Box<dyn std::error::Error>> {
         lines: number("--lines")?,
         sessions: number("--sessions")?,
         calls: number("--calls")?,
+        chosen: number("--chosen")?,
         damaged: number("--damaged")?,
         altered: number("--altered")?,
         tables: number("--tables")?,
         single: number("--single")?,
+        full: number("--full")?,
         words: number("--words")?,
         histories: number("--histories")?,
     })

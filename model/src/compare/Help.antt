@@ -64,8 +64,12 @@ answerTo st line = cond (sound st) (printed (callOn st line .answer)) (noText (1
 unfoldable pub stateAfter : State → List ℕ → State
 stateAfter st line = cond (sound st) (callOn st line .after) st
 
+-- of a state that is sound
+unfoldable pub calledSound : State → List ℕ → List ℕ
+calledSound st line = let o = callOn st line in printed (o .answer) ++ tellState (o .after)
+
 unfoldable pub called : State → List ℕ → List ℕ
-called st line = cond (sound st) (let o = callOn st line in printed (o .answer) ++ tellState (o .after)) (noText (1 ∷ []) ++ tellState st)
+called st line = cond (sound st) (calledSound st line) (noText (1 ∷ []) ++ tellState st)
 
 -- ---- on words: the reply, then the words after
 unfoldable pub tellReplied : Replied → List ℕ
@@ -103,5 +107,5 @@ unfoldable pub bitOf : ℕ → ℕ → List ℕ → Bool
 bitOf at power text = eqb ((getD text at 0 / power) % 2) 1
 
 unfoldable pub helps : Unit {0}
-unfolding row request process state rowNumbers requestNumbers recordNumbers tellNext tellRows tellRequests tellProcesses tellState answerTo stateAfter called tellReplied calledWords openedWords loanNumbers tellHistory tellLines tellFrom told bitOf
+unfolding row request process state rowNumbers requestNumbers recordNumbers tellNext tellRows tellRequests tellProcesses tellState answerTo stateAfter calledSound called tellReplied calledWords openedWords loanNumbers tellHistory tellLines tellFrom told bitOf
 helps = tt

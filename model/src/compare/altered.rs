@@ -3,7 +3,6 @@
 use super::antt::state;
 use super::case::{name, Case};
 use super::some_tables;
-use crate::limits::ROWS;
 use crate::random::aimed::{aimed, AIMS};
 use crate::random::alter::{alter, alter_gently};
 use crate::random::Rng;
@@ -29,34 +28,43 @@ pub fn case(name: String, about: &str, tables: &Tables) -> Option<Case> {
     })
 }
 
-/// Altered tables, in turn: aimed at a clause (each clause in turn), altered
-/// anywhere, altered gently so that many stay sound.
+/// Altered tables, in turn: aimed at a clause (each clause in turn, twice),
+/// altered anywhere, altered gently so that many stay sound.
 pub fn altered(rng: &mut Rng, count: usize) -> Vec<Case> {
     let mut cases: Vec<Case> = Vec::new();
-    let mut aims = AIMS.iter().cycle();
-    let mut large = false;
+    let mut clauses = AIMS.iter().map(|(clause, _)| *clause).cycle();
     while cases.len() < count {
         let (tables, _) = some_tables(rng);
-        let made = match cases.len() % 3 {
-            0 => {
-                let clause = aims.next().map_or("", |(clause, _)| clause);
-                let altered = aimed(rng, &tables, clause);
-                altered.map(|altered| (format!("tables altered for '{clause}'"), altered))
-            }
-            1 => Some(("tables altered".to_string(), alter(rng, &tables))),
-            _ => Some((
+        let (about, altered) = match cases.len() % 4 {
+            0 => ("tables altered".to_string(), alter(rng, &tables)),
+            1 => (
                 "tables altered gently".to_string(),
                 alter_gently(rng, &tables),
-            )),
+            ),
+            _ => {
+                let clause = clauses.next().unwrap_or_default();
+                let about = format!("tables altered for '{clause}'");
+                (about, aimed_alone(rng, clause).unwrap_or(tables))
+            }
         };
-        let Some((about, altered)) = made else {
-            continue;
-        };
-        // Tables of over 1,024 rows are long to compute: one is enough.
-        if altered.rows.len() > ROWS && std::mem::replace(&mut large, true) {
-            continue;
-        }
         cases.extend(case(name("sound", cases.len()), &about, &altered));
     }
     cases
 }
+
+/// Tables in which the clause is broken, if possible no other with it.
+fn aimed_alone(rng: &mut Rng, clause: &str) -> Option<Tables> {
+    let mut found = None;
+    for _ in 0..TRIES {
+        let (tables, _) = some_tables(rng);
+        let altered = aimed(rng, &tables, clause);
+        if altered.as_ref().is_some_and(|t| broken(t) == [clause]) {
+            return altered;
+        }
+        found = altered.or(found);
+    }
+    found
+}
+
+/// How many tables are tried for a clause.
+const TRIES: usize = 60;

@@ -3,9 +3,8 @@
 
 use super::antt::{bytes, list};
 use super::case::{name, same, Case};
-use super::SMALL;
+use super::sessions::conformance_inputs;
 use crate::history::History;
-use crate::random::{session, Rng};
 use crate::session::Session;
 
 /// The definitions' history of this session tells what the model's tells.
@@ -57,13 +56,18 @@ pub fn moment(history: &History) -> Vec<u32> {
     told
 }
 
-/// The histories of random sessions of so many calls.
-pub fn fresh(rng: &mut Rng, count: usize, calls: usize) -> Vec<Case> {
-    let profiles = SMALL.into_iter().cycle();
-    let each = profiles.take(count).enumerate().map(|(at, profile)| {
-        let seed = rng.word();
-        let about = format!("history of a random session, {profile:?}, seed {seed}");
-        case(name("history", at), about, session(seed, profile, calls))
+/// The histories of so many sessions: half of them of those given, the others
+/// conformance sessions of up to so many lines.
+pub fn histories(chosen: &[Vec<u8>], lines: usize, count: usize) -> std::io::Result<Vec<Case>> {
+    let given = chosen.iter().take(count / 2).cloned();
+    let mut inputs: Vec<_> = given.map(|s| ("a chosen session".to_string(), s)).collect();
+    let mut conformance = conformance_inputs(lines)?;
+    conformance.retain(|(about, _)| !about.contains("garbled"));
+    conformance.truncate(count - inputs.len());
+    inputs.extend(conformance);
+    let each = inputs.into_iter().enumerate();
+    let cases = each.map(|(at, (about, input))| {
+        case(name("history", at), format!("history of {about}"), input)
     });
-    each.collect()
+    Ok(cases.collect())
 }

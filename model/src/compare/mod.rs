@@ -4,7 +4,10 @@ pub mod altered;
 pub mod antt;
 pub mod bits;
 pub mod case;
+pub mod features;
+pub mod full;
 pub mod histories;
+pub mod limits;
 pub mod sessions;
 pub mod smaller;
 pub mod tables;
@@ -23,15 +26,19 @@ use std::path::PathBuf;
 pub struct Sizes {
     /// Lines of the longest conformance session.
     pub lines: usize,
-    /// Random sessions, and the calls of each.
+    /// Random sessions, others chosen for their features, the calls of each.
     pub sessions: usize,
+    pub chosen: usize,
     pub calls: usize,
     pub damaged: usize,
     pub altered: usize,
-    /// Conformance tables; single calls on random tables.
+    /// Conformance tables; single calls, chosen for their features.
     pub tables: usize,
     pub single: usize,
+    /// Calls on full tables, at most 6.
+    pub full: usize,
     pub words: usize,
+    /// Histories of conformance sessions, and of chosen ones.
     pub histories: usize,
 }
 
@@ -40,12 +47,19 @@ pub fn cases(seed: u64, sizes: Sizes) -> std::io::Result<Vec<Case>> {
     let mut rng = Rng::new(seed);
     let mut cases = sessions::conformance(sizes.lines)?;
     cases.extend(sessions::fresh(&mut rng, sizes.sessions, sizes.calls));
+    let sessions = features::sessions(&mut rng, sizes.chosen, sizes.calls);
+    cases.extend(sessions::chosen(&sessions));
     cases.extend(sessions::damaged(&mut rng, sizes.damaged));
     cases.extend(tables::conformance(sizes.tables)?);
     cases.extend(tables::single(&mut rng, sizes.single));
+    cases.extend(full::full().into_iter().take(sizes.full));
     cases.extend(altered::altered(&mut rng, sizes.altered));
     cases.extend(words::words(&mut rng, sizes.words)?);
-    cases.extend(histories::fresh(&mut rng, sizes.histories, sizes.calls));
+    cases.extend(histories::histories(
+        &sessions,
+        sizes.lines,
+        sizes.histories,
+    )?);
     Ok(cases)
 }
 

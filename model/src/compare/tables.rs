@@ -2,7 +2,7 @@
 
 use super::antt::{bytes, list, state, state_numbers};
 use super::case::{name, same, Case};
-use super::{conformance_files, some_tables, stem};
+use super::{conformance_files, features, some_tables, stem};
 use crate::random::alter::alter_gently;
 use crate::random::{lines, Rng};
 use crate::session::call;
@@ -70,13 +70,12 @@ pub fn sound_call(rng: &mut Rng) -> (Tables, Vec<u8>) {
     (tables, line)
 }
 
-/// Single calls on random sound tables.
+/// Single calls that were chosen for their features.
 pub fn single(rng: &mut Rng, count: usize) -> Vec<Case> {
-    let mut cases = Vec::new();
-    while cases.len() < count {
-        let (tables, line) = sound_call(rng);
-        let about = "random sound tables".to_string();
-        cases.extend(case(name("single", cases.len()), about, &tables, &line));
-    }
-    cases
+    let calls = features::calls(rng, count);
+    let each = calls.iter().enumerate().filter_map(|(at, (tables, line))| {
+        let about = "chosen call on random tables".to_string();
+        case(name("single", at), about, tables, line)
+    });
+    each.collect()
 }

@@ -49,7 +49,7 @@ const MOST_ROWS: usize = 12;
 /// which some are changed, openings on words of any content.
 pub fn words(rng: &mut Rng, count: usize) -> std::io::Result<Vec<Case>> {
     let mut conformance = conformance_calls()?;
-    conformance.retain(|(_, tables, _)| sound(tables) && tables.rows.len() <= MOST_ROWS);
+    conformance.retain(|(_, tables, _)| sound(tables) && is_small(tables));
     rng.shuffle(&mut conformance);
     let mut cases: Vec<Case> = Vec::new();
     while cases.len() < count {
@@ -76,11 +76,16 @@ fn of_conformance(at: usize, (file, tables, line): (String, Tables, Vec<u8>)) ->
     ))
 }
 
+/// Few rows, and an open request among them.
+fn is_small(tables: &Tables) -> bool {
+    tables.rows.len() <= MOST_ROWS && !tables.requests.is_empty()
+}
+
 /// Random sound tables of few rows, and a line.
 fn small_call(rng: &mut Rng) -> (Tables, Vec<u8>) {
     loop {
         let (tables, line) = sound_call(rng);
-        if tables.rows.len() <= MOST_ROWS {
+        if is_small(&tables) {
             return (tables, line);
         }
     }

@@ -20,7 +20,7 @@ use Rattle.rows.specs.Lists.{sameList, bytes}
 use Rattle.rows.specs.Tables.{noProcess}
 use Rattle.rows.specs.Sound.{sound}
 use Rattle.text.specs.Session.{session}
-use Rattle.compare.specs.Help.{row, request, process, state, tellNext, tellRows, tellRequests, tellProcesses, answerTo, stateAfter, called, calledWords, openedWords, told, bitOf}
+use Rattle.compare.specs.Help.{row, request, process, state, tellNext, tellRows, tellRequests, tellProcesses, answerTo, stateAfter, calledSound, called, calledWords, openedWords, told, bitOf}
 
 ";
 
