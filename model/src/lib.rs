@@ -5,6 +5,7 @@ pub mod call;
 pub mod chains;
 pub mod check;
 pub mod closing;
+pub mod compare;
 pub mod demand3;
 pub mod dump;
 pub mod effects;

@@ -18,9 +18,14 @@ pub fn lowest(tests: &Tests) -> Option<u32> {
 
 /// The answer's number if the call is refused on these sound tables.
 pub fn refusal(tables: &Tables, call: &Call) -> Option<u32> {
+    lowest(&tests(tables, call))
+}
+
+/// All refusals that a call of good form may have, and whether each applies.
+pub fn tests(tables: &Tables, call: &Call) -> Tests {
     let mut tests = input_tests(tables, call);
     tests.extend(state_tests(tables, call));
-    lowest(&tests)
+    tests
 }
 
 /// "Refused for the input", 3 to 6.

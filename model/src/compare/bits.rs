@@ -1,0 +1,76 @@
+//! What the definitions answer where they differ: read bit by bit. The
+//! prover tells only whether a claim holds, so there is a claim for each bit.
+
+use super::antt::{bytes, list, state, state_numbers};
+use super::case::{same, Case};
+use crate::session::call;
+use crate::{run_session, Tables};
+
+/// An answer is read up to its line feed or to so many bytes.
+const BYTES: usize = 40;
+
+/// The bits of a byte of ASCII.
+const BITS: u32 = 7;
+
+fn claim(name: String, claim: String) -> Case {
+    Case {
+        name,
+        about: String::new(),
+        claim,
+        files: Vec::new(),
+    }
+}
+
+fn bit_name(at: usize, bit: u32) -> String {
+    format!("bit-{at}-{bit}")
+}
+
+/// A claim for each bit of a text from a place on: it is 1.
+fn bits(text: &str, from: usize) -> Vec<Case> {
+    let places = (0..BYTES).flat_map(|at| (0..BITS).map(move |bit| (at, bit)));
+    let each = places.map(|(at, bit)| {
+        let bit_of = format!("bitOf {} {} ({text})", from + at, 1 << bit);
+        claim(bit_name(at, bit), bit_of)
+    });
+    each.collect()
+}
+
+/// The claims that tell what the definitions print in place of the model's
+/// last line.
+pub fn of_session(input: &[u8]) -> Vec<Case> {
+    let output = run_session(input);
+    let lines: Vec<&[u8]> = output.split_inclusive(|b| *b == b'\n').collect();
+    let last = lines.last().map_or(0, |line| line.len());
+    let text = format!("session {}", bytes(input));
+    bits(&text, output.len() - last)
+}
+
+/// The claims that tell what the definitions answer to a call on tables, and
+/// which parts of the state after it are as in the model.
+pub fn of_call(tables: &Tables, line: &[u8]) -> Option<Vec<Case>> {
+    let state = state(tables)?;
+    let line_text = bytes(line);
+    let mut cases = bits(&format!("answerTo {state} {line_text}"), 0);
+    let mut after = tables.clone();
+    call(&mut after, line);
+    let tells = ["tellNext", "tellRows", "tellRequests", "tellProcesses"];
+    for (tell, numbers) in tells.iter().zip(state_numbers(&after)?) {
+        let told = format!("{tell} (stateAfter {state} {line_text})");
+        cases.push(claim(format!("part-{tell}"), same(&told, &list(numbers))));
+    }
+    Some(cases)
+}
+
+/// The text whose bits of value 0 are named, up to its line feed.
+pub fn read(zeros: &[&str]) -> String {
+    let mut text = String::new();
+    for at in 0..BYTES {
+        let ones = (0..BITS).filter(|bit| !zeros.contains(&bit_name(at, *bit).as_str()));
+        let byte = ones.map(|bit| 1u8 << bit).sum::<u8>();
+        match byte {
+            0 | b'\n' => break,
+            _ => text.push(char::from(byte)),
+        }
+    }
+    text
+}
