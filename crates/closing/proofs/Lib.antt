@@ -19,3 +19,7 @@ pub mod KeptPlaces
 pub mod KeptRows
 -- closing keeps the tables sound: of seeds, of a request, of a port, of a dropped row
 pub mod Kept
+-- marks of slots: at the slot of a number, and one more
+pub mod ListsMarks
+-- the items of a closed request go back
+pub mod ListsBack
