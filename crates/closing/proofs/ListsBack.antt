@@ -1,11 +1,13 @@
 -- The items of a request that closes go back: one of them, and one after the other.
-use Prim.Native.Nat.{ℕ, suc, _≤_}
+use Prim.Native.Nat.{ℕ, suc, _+_, _<_, _≤_}
 use mathlib.Core.Bool.{Bool, true, false, cond, not, _&&_, _||_}
 use mathlib.Core.List.{List, [], _∷_, _++_, map, map-id, map-map}
 use mathlib.Core.Path.{_≡_, refl, ap, sym, subst, _∙_}
 use lib.Dec.{eqb}
 use borrow.Author.Tests.{eqb-true}
-use lib.ListN.{length, set, length-map}
+use native.Mathlib.Numerals.{add-one}
+use lib.ListN.{length, getD, take, set, length-map}
+use lib.Seq.{take-suc, take-all}
 use Rattle.rows.specs.declared.Row.{Row}
 use Rattle.rows.specs.Lists.{pad, member, some}
 use Rattle.rows.specs.Codes.{inClist}
@@ -187,3 +189,23 @@ module _ (b : ℕ → Bool) (p : ℕ) (xs ys : List ℕ) where
 
   pub back-step : (st : State) (t : List ℕ) (back : List Bool) → WentBack (λ n. b n || among xs n) p ys (itemsBack b p xs st) t back → WentBack b p (xs ++ ys) st t back
   back-step st t back w = record { lies = subst (λ (s : State). Lies s t) (state-step st) (w .lies); marks = w .marks ∙ marks-step st }
+
+-- ---- the loop over the items
+module _ (b : ℕ → Bool) (p : ℕ) (st : State) where
+  -- the changed state has as many rows, and the same marks
+  pub back-count : (xs : List ℕ) (n : ℕ) → n ≡ length (st .rows) → n ≡ length (itemsBack b p xs st .rows)
+  unfolding itemsBack withRows
+  back-count xs n e = e ∙ sym (length-map (st .rows) (backRow b p xs))
+
+  pub back-marks : (xs : List ℕ) (t : List ℕ) (back : List Bool) → WentBack b p xs st t back → back ≡ slotMarks (λ n. b n || among xs n) (itemsBack b p xs st .rows)
+  unfolding itemsBack withRows
+  back-marks xs t back w = w .marks ∙ sym (marks-map (λ n. b n || among xs n) (backRow b p xs) (back-number b p xs) (st .rows))
+
+  pub back-turn : (items : List ℕ) (k : ℕ) → k < length items → (t : List ℕ) (back : List Bool)
+      → WentBack (λ n. b n || among (take k items) n) p (getD items k 0 ∷ []) (itemsBack b p (take k items) st) t back → WentBack b p (take (k + 1) items) st t back
+  back-turn items k h t back w =
+      subst (λ (l : List ℕ). WentBack b p l st t back) (sym (ap (λ (j : ℕ). take j items) (add-one k) ∙ take-suc items k 0 h))
+      (back-step b p (take k items) (getD items k 0 ∷ []) st t back w)
+
+  pub back-end : (items : List ℕ) (k : ℕ) → length items ≤ k → (t : List ℕ) (back : List Bool) → WentBack b p (take k items) st t back → WentBack b p items st t back
+  back-end items k h t back w = subst (λ (l : List ℕ). WentBack b p l st t back) (take-all k items h) w
