@@ -23,3 +23,5 @@ pub mod Kept
 pub mod ListsMarks
 -- the items of a closed request go back
 pub mod ListsBack
+-- items of an open request leave its list
+pub mod ListsOut
