@@ -52,6 +52,14 @@ module _ {A : Type 0} (key : A → ℕ) (h : A → A) where
       λ i. cond (q i) (h y) y ∷ rest i
 
 -- ---- one item
+pub none-zero : (e : ℕ) → e ≡ 0 → (b : Bool) → some e && b ≡ false
+unfolding some
+none-zero e z b = rw z refl
+
+pub none-passes : (a b : Bool) → b ≡ false → a && b ≡ false
+none-passes true b e = e
+none-passes false b e = refl
+
 abbrev pub withHere : State → List Request → Request → List Request → State
 withHere st new w old = withRequests (new ++ (w ∷ old)) st
 
