@@ -169,9 +169,10 @@ module _ (st : State) (new old : List Request) (c : ℕ → Bool) where
   loop-start v t lie cut = subst (λ (s : State). Lies s t) (sym (ap (λ (w : Request). withHere st new w old) (out-start c v) ∙ same-here lie new v old cut)) lie
 
   -- the next item done in that state
-  pub loop-turn : (k : ℕ) (v : Request) (t : List ℕ) → Lies (withHere (outState k v) new (itemOut c k (getD (v .items) k 0) (outTo c k v)) old) t → Lies (outState (k + 1) v) t
+  pub loop-turn : (k : ℕ) (v : Request) (items : List ℕ) → v .items ≡ items → (t : List ℕ) → Lies (withHere (outState k v) new (itemOut c k (getD items k 0) (outTo c k v)) old) t
+      → Lies (outState (k + 1) v) t
   unfolding withRequests
-  loop-turn k v t lie = subst (λ (w : Request). Lies (withHere st new w old) t) (out-step c k v) lie
+  loop-turn k v items e t lie = subst (λ (w : Request). Lies (withHere st new w old) t) (ap (λ (l : List ℕ). itemOut c k (getD l k 0) (outTo c k v)) (sym e) ∙ out-step c k v) lie
 
   pub loop-end : (k : ℕ) (v : Request) → length (v .items) ≤ k → (t : List ℕ) → Lies (outState k v) t → Lies (withHere st new (itemsOut c v) old) t
   loop-end k v h t lie = subst (λ (w : Request). Lies (withHere st new w old) t) (out-end c k v h) lie
