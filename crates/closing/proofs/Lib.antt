@@ -25,3 +25,5 @@ pub mod ListsMarks
 pub mod ListsBack
 -- items of an open request leave its list
 pub mod ListsOut
+-- the pass over the requests: one more is done
+pub mod ListsPass

@@ -1,0 +1,145 @@
+-- The pass over the requests, from the oldest on: one request more is done.
+use Prim.Native.Nat.{ℕ, zero, suc, _+_, _<_, _≤_}
+use mathlib.Core.Bool.{Bool, true, false, cond, not, _&&_, _||_}
+use mathlib.Core.List.{List, [], _∷_, _++_, map, map-id, map-map, append-nil}
+use mathlib.Core.Path.{_≡_, refl, ap, sym, subst, _∙_}
+use native.Mathlib.Nat.{not-suc-le-zero, le-of-suc-le-suc}
+use native.Mathlib.Decide.{decLt}
+use native.Mathlib.Omega.{arith}
+use lib.Dec.{eqb}
+use borrow.Author.Tests.{eqb-true}
+use lib.ListN.{length, getD, replicate, length-map, List·getD-eq-default}
+use lib.Seq.{append-snoc}
+use Rattle.rows.specs.declared.Row.{Row}
+use Rattle.rows.specs.declared.Request.{Request}
+use Rattle.rows.specs.declared.Process.{Process}
+use Rattle.rows.specs.Lists.{if_then_else_, any, all, rises, member, pad, some, nonzero}
+use Rattle.rows.specs.Limits.{processes}
+use Rattle.rows.specs.Codes.{inClist, isEnd, isClient, isServer, clientEnd, serverEnd}
+use Rattle.rows.specs.Tables.{State, noRow, noRequest, noProcess, rowOf, numbers, processAt, isListed, lists}
+use Rattle.rows.specs.Sound.{recordsFit, requestersListed, mayBeListed, itemsLent, requestsRise}
+use Rattle.rows.specs.Layout.{requestAt}
+use Rattle.rows.specs.Lies.{Lies, withRows, withRequests}
+use Rattle.rows.proofs.Bools.{clash, and-l, and-r, pos-some, all-mono}
+use Rattle.rows.proofs.Keyed.{first-there, rises-rest, rises-first}
+use Rattle.rows.proofs.Sound.{Sound, sound-open}
+use Rattle.rows.proofs.Slots.{rises-old, request-of-words, request-words-at}
+use Rattle.changes.specs.Marks.{tested}
+use Rattle.closing.specs.Closing.{oldestListing, placedIn, returned, listedIn, leaves, withItems, trimmed}
+use Rattle.closing.specs.Lists.{slotMarks, among, backRow, itemsBack, WentBack, itemsOut, trimmedAll, partlySettled, SettledTo, listsSettled}
+use Rattle.closing.proofs.KeptLookups.{returned-keeps, returned-same, oldest-all}
+use Rattle.closing.proofs.ListsBack.{back-number, marks-map}
+
+-- ---- what sound tables tell of a request
+all-cut : {A : Type 0} (P : A → Bool) (new : List A) (x : A) (old : List A) → all P (new ++ (x ∷ old)) ≡ true → P x ≡ true
+unfolding all
+all-cut P [] x old e = and-l (P x) (all P old) e
+all-cut P (y ∷ new) x old e = all-cut P new x old (and-r (P y) (all P (new ++ (x ∷ old))) e)
+
+listed-low : (m : ℕ) (ps : List Process) (p : ℕ) → length ps ≡ m → isListed ps p ≡ true → p ≤ m
+unfolding isListed processAt
+listed-low m ps zero e h = omega arith
+listed-low m ps (suc i) e h =
+    elim (decLt i m) [
+      | yes lt ↦ lt
+      | no ge ↦ clash h (ap (λ (x : Process). some (x .prime)) (List·getD-eq-default ps noProcess {n = i} (omega arith)) ∙ (unfold noProcess some in refl))
+    ]
+
+no-row-listed : (v : Request) → mayBeListed v noRow ≡ false
+unfolding mayBeListed noRow isEnd isClient isServer clientEnd serverEnd some
+no-row-listed v = refl
+
+module _ (st : State) (s : Sound st) (new : List Request) (v : Request) (old : List Request) (cut : st .requests ≡ new ++ (v ∷ old)) where
+  pub asker-low : v .asker ≤ 64
+  unfolding requestersListed recordsFit processes
+  asker-low =
+      listed-low 64 (st .processes) (v .asker) (eqb-true (length (st .processes)) 64 (s .records-fit))
+      (all-cut (λ v. isListed (st .processes) (v .asker)) new v old (subst (λ (l : List Request). all (λ v. isListed (st .processes) (v .asker)) l ≡ true) cut (s .requesters-listed)))
+
+  pub items-stand : all (λ e. member e (numbers (st .rows))) (nonzero (v .items)) ≡ true
+  unfolding itemsLent numbers rowOf
+  items-stand =
+      all-mono (λ e. mayBeListed v (rowOf (st .rows) e)) (λ e. member e (numbers (st .rows))) (λ e h. first-there (λ r. r .number) noRow (mayBeListed v) (no-row-listed v) (st .rows) e h) (nonzero (v .items))
+      (all-cut (λ v. all (λ e. mayBeListed v (rowOf (st .rows) e)) (nonzero (v .items))) new v old (subst (λ (l : List Request). all (λ v. all (λ e. mayBeListed v (rowOf (st .rows) e)) (nonzero (v .items))) l ≡ true) cut (s .items-lent)))
+
+  pub requests-rise : rises (λ v. v .number) (v ∷ old) ≡ true
+  unfolding requestsRise
+  requests-rise = rises-old (λ v. v .number) new (v ∷ old) (subst (λ (l : List Request). rises (λ v. v .number) l ≡ true) cut (s .requests-rise))
+
+-- ---- one request, over the older ones
+or-swap : (a b : Bool) → a || b ≡ b || a
+or-swap true true = refl
+or-swap true false = refl
+or-swap false true = refl
+or-swap false false = refl
+
+pub returned-number : (f : Request → Bool) (vs : List Request) (r : Row) → returned f vs r .number ≡ r .number
+returned-number = returned-keeps (λ r. r .number) (λ p r. unfold placedIn in refl)
+
+-- an oldest one is there if one is
+oldest-some : (f : Request → Bool) (n : ℕ) (vs : List Request) → rises (λ v. v .number) vs ≡ true → some (oldestListing f n vs .number) ≡ listedIn f vs n
+unfolding oldestListing listedIn any
+oldest-some f n [] up = unfold noRequest some in refl
+oldest-some f n (v ∷ vs) up = pick (oldest-some f n vs (rises-rest (λ v. v .number) v vs up)) (some (w .number)) refl (f v && lists n v)
+  where
+    w : Request
+    w = oldestListing f n vs
+
+    or-true : (a b : Bool) → b ≡ true → a || b ≡ true
+    or-true true b e = refl
+    or-true false b e = e
+
+    pick : some (w .number) ≡ listedIn f vs n → (a : Bool) → some (w .number) ≡ a → (c : Bool) → some (cond a w (cond c v w) .number) ≡ c || any (λ u. f u && lists n u) vs
+    pick ih true q c = q ∙ sym (or-true c (any (λ u. f u && lists n u) vs) (sym ih ∙ q))
+    pick ih false q true = let h = rises-first (λ v. v .number) v vs up in pos-some (v .number) (omega arith)
+    pick ih false q false = ih
+
+module _ (f : Request → Bool) (v : Request) (old : List Request) where
+  -- it stays open
+  open-listed : f v ≡ false → (n : ℕ) → listedIn f (v ∷ old) n ≡ listedIn f old n
+  unfolding listedIn any
+  open-listed h n = rw h refl
+
+  open-oldest : f v ≡ false → (n : ℕ) → oldestListing f n (v ∷ old) ≡ oldestListing f n old
+  unfolding oldestListing
+  open-oldest h n = rw h (pick (some (oldestListing f n old .number)) (oldestListing f n old))
+    where
+      pick : (b : Bool) (w : Request) → cond b w w ≡ w
+      pick true w = refl
+      pick false w = refl
+
+  open-returned : f v ≡ false → (r : Row) → returned f (v ∷ old) r ≡ returned f old r
+  unfolding returned
+  open-returned h r = ap (λ (w : Request). cond (some (w .number)) (placedIn (inClist (w .asker)) r) r) (open-oldest h (r .number))
+
+  -- it closes
+  closed-listed : f v ≡ true → (n : ℕ) → listedIn f (v ∷ old) n ≡ listedIn f old n || among (v .items) n
+  unfolding listedIn any lists among
+  closed-listed h n = rw h (or-swap (some n && member n (v .items)) (any (λ w. f w && (some n && member n (w .items))) old))
+
+  closed-returned : f v ≡ true → rises (λ v. v .number) (v ∷ old) ≡ true → (r : Row) → backRow (listedIn f old) (v .asker) (v .items) (returned f old r) ≡ returned f (v ∷ old) r
+  unfolding backRow returned oldestListing
+  closed-returned h up r =
+      ap (λ (m : ℕ). cond (not (listedIn f old m) && among (v .items) m) (placedIn (inClist (v .asker)) (returned f old r)) (returned f old r)) (returned-number f old r)
+      ∙ ap (λ (b : Bool). cond (not b && among (v .items) n) (placedIn (inClist (v .asker)) (returned f old r)) (returned f old r)) (sym (oldest-some f n old (rises-rest (λ v. v .number) v old up)))
+      ∙ pick (some (w .number)) refl (among (v .items) n)
+      ∙ ap (λ (b : Bool). cond (some (latest b .number)) (placedIn (inClist (latest b .asker)) r) r) (sym (lists-it h))
+    where
+      n : ℕ
+      n = r .number
+
+      w : Request
+      w = oldestListing f n old
+
+      latest : Bool → Request
+      latest b = cond (some (w .number)) w (cond b v w)
+
+      lists-it : f v ≡ true → f v && lists n v ≡ among (v .items) n
+      lists-it h = unfold lists among in rw h refl
+
+      pick : (a : Bool) → some (w .number) ≡ a → (c : Bool)
+          → cond (not a && c) (placedIn (inClist (v .asker)) (cond a (placedIn (inClist (w .asker)) r) r)) (cond a (placedIn (inClist (w .asker)) r) r)
+          ≡ cond (some (cond a w (cond c v w) .number)) (placedIn (inClist (cond a w (cond c v w) .asker)) r) r
+      pick true q c = rw q refl
+      pick false q true = let lt = rises-first (λ v. v .number) v old up in rw (pos-some (v .number) (omega arith)) refl
+      pick false q false = rw q refl
