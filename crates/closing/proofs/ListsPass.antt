@@ -21,7 +21,7 @@ use Rattle.rows.specs.Sound.{recordsFit, requestersListed, mayBeListed, itemsLe
 use Rattle.rows.specs.Layout.{requestAt}
 use Rattle.rows.specs.Lies.{Lies, withRows, withRequests}
 use Rattle.rows.proofs.Bools.{clash, and-l, and-r, pos-some, all-mono}
-use Rattle.rows.proofs.Keyed.{first-there, rises-rest, rises-first}
+use Rattle.rows.proofs.Keyed.{first-there, keys-map, rises-rest, rises-first}
 use Rattle.rows.proofs.Sound.{Sound, sound-open}
 use Rattle.rows.proofs.Slots.{rises-old, request-of-words, request-words-at}
 use Rattle.changes.specs.Marks.{tested}
@@ -143,3 +143,78 @@ module _ (f : Request → Bool) (v : Request) (old : List Request) where
       pick true q c = rw q refl
       pick false q true = let lt = rises-first (λ v. v .number) v old up in rw (pos-some (v .number) (omega arith)) refl
       pick false q false = rw q refl
+
+pub length-trimmed : (f : Request → Bool) (g : List ℕ) (vs : List Request) → length (trimmedAll f g vs) ≡ length vs
+unfolding trimmedAll
+length-trimmed f g [] = refl
+length-trimmed f g (v ∷ vs) = ap suc (length-trimmed f g vs)
+
+-- ---- the state once the older requests are done
+module _ (g : List ℕ) (f : Request → Bool) (new : List Request) (v : Request) (old : List Request) (st : State) where
+  abbrev pub before : State
+  before = partlySettled g f (new ++ (v ∷ [])) old st
+
+  abbrev pub after : State
+  after = partlySettled g f new (v ∷ old) st
+
+  pub before-cut : before .requests ≡ new ++ (v ∷ trimmedAll f g old)
+  unfolding partlySettled
+  before-cut = append-snoc new v (trimmedAll f g old)
+
+  pub before-slot : (j : ℕ) → length old ≡ j → length (trimmedAll f g old) ≡ j
+  before-slot j e = length-trimmed f g old ∙ e
+
+  pub before-count : (n : ℕ) → n ≡ length (st .rows) → n ≡ length (before .rows)
+  unfolding partlySettled
+  before-count n e = e ∙ sym (length-map (st .rows) (returned f old))
+
+  -- marks of the rows as they were
+  pub before-marks : (b : ℕ → Bool) → slotMarks b (before .rows) ≡ slotMarks b (st .rows)
+  unfolding partlySettled
+  before-marks b = marks-map b (returned f old) (returned-number f old) (st .rows)
+
+  -- the request in its slot
+  pub before-read : (t : List ℕ) → Lies before t → (j : ℕ) → length old ≡ j → requestAt t j ≡ v
+  before-read t lie j e =
+      ap (λ (i : ℕ). requestAt t i) (sym (before-slot j e))
+      ∙ request-of-words t (length (trimmedAll f g old)) v (request-words-at lie new v (trimmedAll f g old) before-cut)
+
+  pub before-stand : all (λ e. member e (numbers (st .rows))) (nonzero (v .items)) ≡ true → all (λ e. member e (numbers (before .rows))) (nonzero (v .items)) ≡ true
+  unfolding partlySettled numbers
+  before-stand h = subst (λ (l : List ℕ). all (λ e. member e l) (nonzero (v .items)) ≡ true) (sym (keys-map (λ r. r .number) (returned f old) (returned-number f old) (st .rows))) h
+
+  -- it stays open: its list is trimmed
+  open-after : f v ≡ false → withRequests (new ++ (itemsOut (λ n. member n g || listedIn f old n) v ∷ trimmedAll f g old)) before ≡ after
+  unfolding partlySettled withRequests trimmedAll trimmed itemsOut leaves
+  open-after h =
+      λ i.
+      record {
+        rows = map (λ r. sym (open-returned f v old h r) i) (st .rows);
+        requests = new ++ (cond (sym h i) v (withItems (map (λ e. cond (member e g || listedIn f old e) 0 e) (v .items)) v) ∷ trimmedAll f g old);
+        processes = st .processes;
+        next = st .next;
+      }
+
+  pub open-settled : f v ≡ false → (t t′ : List ℕ) (back : List Bool) → SettledTo g f (new ++ (v ∷ [])) old st t back
+      → Lies (withRequests (new ++ (itemsOut (λ n. member n g || listedIn f old n) v ∷ trimmedAll f g old)) before) t′ → SettledTo g f new (v ∷ old) st t′ back
+  open-settled h t t′ back s lie =
+      record {
+        lies = subst (λ (x : State). Lies x t′) (open-after h) lie;
+        marks = s .marks ∙ (λ i. slotMarks (λ n. sym (open-listed f v old h n) i) (st .rows));
+      }
+
+  -- it closes: its ends go back
+  closed-after : f v ≡ true → rises (λ v. v .number) (v ∷ old) ≡ true → itemsBack (listedIn f old) (v .asker) (v .items) before ≡ after
+  unfolding partlySettled itemsBack withRows trimmedAll
+  closed-after h up =
+      let rows = map-map (backRow (listedIn f old) (v .asker) (v .items)) (returned f old) (st .rows) ∙ (λ i. map (λ r. closed-returned f v old h up r i) (st .rows)) in
+      let requests = append-snoc new v (trimmedAll f g old) ∙ (λ i. new ++ (cond (sym h i) v (trimmed f g old v) ∷ trimmedAll f g old)) in
+      λ i. record { rows = rows i; requests = requests i; processes = st .processes; next = st .next }
+
+  pub closed-settled : f v ≡ true → rises (λ v. v .number) (v ∷ old) ≡ true → (t : List ℕ) (back : List Bool) → WentBack (listedIn f old) (v .asker) (v .items) before t back
+      → SettledTo g f new (v ∷ old) st t back
+  closed-settled h up t back w =
+      record {
+        lies = subst (λ (x : State). Lies x t) (closed-after h up) (w .lies);
+        marks = w .marks ∙ before-marks (λ n. listedIn f old n || among (v .items) n) ∙ (λ i. slotMarks (λ n. sym (closed-listed f v old h n) i) (st .rows));
+      }
