@@ -17,14 +17,14 @@ use Rattle.rows.specs.Lists.{if_then_else_, any, all, rises, member, pad, some,
 use Rattle.rows.specs.Limits.{processes}
 use Rattle.rows.specs.Codes.{inClist, isEnd, isClient, isServer, clientEnd, serverEnd}
 use Rattle.rows.specs.Tables.{State, noRow, noRequest, noProcess, rowOf, numbers, processAt, isListed, lists}
-use Rattle.rows.specs.Sound.{recordsFit, requestersListed, mayBeListed, itemsLent, requestsRise}
+use Rattle.rows.specs.Sound.{sound, recordsFit, requestersListed, mayBeListed, itemsLent, requestsRise}
 use Rattle.rows.specs.Layout.{requestAt}
 use Rattle.rows.specs.Lies.{Lies, withRows, withRequests}
 use Rattle.rows.proofs.Bools.{clash, and-l, and-r, pos-some, all-mono}
 use Rattle.rows.proofs.Keyed.{first-there, keys-map, rises-rest, rises-first}
 use Rattle.rows.proofs.Sound.{Sound, sound-open}
 use Rattle.rows.proofs.Slots.{rises-old, request-of-words, request-words-at}
-use Rattle.changes.specs.Marks.{tested}
+use Rattle.changes.specs.Marks.{tested, marksOf}
 use Rattle.closing.specs.Closing.{oldestListing, placedIn, returned, listedIn, leaves, withItems, trimmed}
 use Rattle.closing.specs.Lists.{slotMarks, among, backRow, itemsBack, WentBack, itemsOut, trimmedAll, partlySettled, SettledTo, listsSettled}
 use Rattle.closing.proofs.KeptLookups.{returned-keeps, returned-same, oldest-all}
@@ -218,3 +218,46 @@ module _ (g : List ℕ) (f : Request → Bool) (new : List Request) (v : Request
         lies = subst (λ (x : State). Lies x t) (closed-after h up) (w .lies);
         marks = w .marks ∙ before-marks (λ n. listedIn f old n || among (v .items) n) ∙ (λ i. slotMarks (λ n. sym (closed-listed f v old h n) i) (st .rows));
       }
+
+-- ---- one request done, by what the two functions over its items ensure
+module _ (st : State) (sd : sound st ≡ true) (g : List ℕ) (f : Request → Bool) (new : List Request) (v : Request) (old : List Request) (cut : st .requests ≡ new ++ (v ∷ old)) (n j : ℕ)
+    (count : n ≡ length (st .rows)) (slot : length old ≡ j) (t : List ℕ) (back : List Bool) (done : SettledTo g f (new ++ (v ∷ [])) old st t back) (x : Request) (is : x ≡ requestAt t j) where
+  was : State
+  was = partlySettled g f (new ++ (v ∷ [])) old st
+
+  read : x ≡ v
+  unfolding was
+  read = is ∙ before-read g f new v old st t (done .lies) j slot
+
+  marked-back : back ≡ slotMarks (listedIn f old) (was .rows)
+  unfolding was
+  marked-back = done .marks ∙ sym (before-marks g f new v old st (listedIn f old))
+
+  pub closed-done : f v ≡ true → (t′ : List ℕ) (back′ : List Bool)
+      → ((s : State) (b : ℕ → Bool) → Lies s t → n ≡ length (s .rows) → x .asker ≤ 64 → back ≡ slotMarks b (s .rows) → WentBack b (x .asker) (x .items) s t′ back′)
+      → SettledTo g f new (v ∷ old) st t′ back′
+  unfolding was
+  closed-done h t′ back′ called =
+      let low : x .asker ≤ 64 = subst (λ (y : Request). y .asker ≤ 64) (sym read) (asker-low st (sound-open st sd) new v old cut) in
+      let went : WentBack (listedIn f old) (x .asker) (x .items) was t′ back′ = called was (listedIn f old) (done .lies) (before-count g f new v old st n count) low marked-back in
+      closed-settled g f new v old st h (requests-rise st (sound-open st sd) new v old cut) t′ back′
+      (subst (λ (y : Request). WentBack (listedIn f old) (y .asker) (y .items) was t′ back′) read went)
+
+  pub open-done : f v ≡ false → (removed : List Bool) → removed ≡ pad false 1024 (marksOf g (st .rows)) → (t′ : List ℕ)
+      → ((s : State) (r b : ℕ → Bool) (new′ old′ : List Request) → Lies s t → n ≡ length (s .rows) → s .requests ≡ new′ ++ (x ∷ old′) → length old′ ≡ j
+      → all (λ e. member e (numbers (s .rows))) (nonzero (x .items)) ≡ true → removed ≡ slotMarks r (s .rows) → back ≡ slotMarks b (s .rows)
+      → Lies (withRequests (new′ ++ (itemsOut (λ n. r n || b n) x ∷ old′)) s) t′)
+      → SettledTo g f new (v ∷ old) st t′ back
+  unfolding was
+  open-done h removed gone t′ called =
+      let stand : all (λ e. member e (numbers (was .rows))) (nonzero (x .items)) ≡ true =
+      subst (λ (y : Request). all (λ e. member e (numbers (was .rows))) (nonzero (y .items)) ≡ true) (sym read) (before-stand g f new v old st (items-stand st (sound-open st sd) new v old cut)) in
+      let here : was .requests ≡ new ++ (x ∷ trimmedAll f g old) = before-cut g f new v old st ∙ ap (λ (y : Request). new ++ (y ∷ trimmedAll f g old)) (sym read) in
+      let lies : Lies (withRequests (new ++ (itemsOut (λ n. member n g || listedIn f old n) x ∷ trimmedAll f g old)) was) t′ =
+      called was (λ n. member n g) (listedIn f old) new (trimmedAll f g old) (done .lies) (before-count g f new v old st n count) here (before-slot g f new v old st j slot) stand
+      (gone ∙ marks-of ∙ sym (before-marks g f new v old st (λ n. member n g))) marked-back in
+      open-settled g f new v old st h t t′ back done
+      (subst (λ (y : Request). Lies (withRequests (new ++ (itemsOut (λ n. member n g || listedIn f old n) y ∷ trimmedAll f g old)) was) t′) read lies)
+    where
+      marks-of : pad false 1024 (marksOf g (st .rows)) ≡ slotMarks (λ n. member n g) (st .rows)
+      marks-of = unfold slotMarks marksOf in refl
