@@ -21,7 +21,7 @@ use Rattle.closing.specs.Lists.{slotMarks, among}
 
 -- ---- marks that are padded
 module _ (d : Bool) where
-  getD-pad : (k : ℕ) (l : List Bool) (i : ℕ) → getD (pad d k l) i d ≡ getD l i d
+  pub getD-pad : (k : ℕ) (l : List Bool) (i : ℕ) → getD (pad d k l) i d ≡ getD l i d
   unfolding pad
   getD-pad zero l i = refl
   getD-pad (suc k) [] zero = refl

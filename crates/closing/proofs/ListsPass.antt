@@ -20,15 +20,17 @@ use Rattle.rows.specs.Tables.{State, noRow, noRequest, noProcess, rowOf, number
 use Rattle.rows.specs.Sound.{sound, recordsFit, requestersListed, mayBeListed, itemsLent, requestsRise}
 use Rattle.rows.specs.Layout.{requestAt}
 use Rattle.rows.specs.Lies.{Lies, withRows, withRequests}
-use Rattle.rows.proofs.Bools.{clash, and-l, and-r, pos-some, all-mono}
+use Rattle.rows.proofs.Bools.{clash, and-l, and-r, pos-some, all-mono, any-append}
 use Rattle.rows.proofs.Keyed.{first-there, keys-map, rises-rest, rises-first}
 use Rattle.rows.proofs.Sound.{Sound, sound-open}
-use Rattle.rows.proofs.Slots.{rises-old, request-of-words, request-words-at}
+use Rattle.rows.proofs.Slots.{lies-well, rises-old, request-of-words, request-words-at}
 use Rattle.changes.specs.Marks.{tested, marksOf}
+use Rattle.changes.proofs.Keep.{length-tested}
 use Rattle.closing.specs.Closing.{oldestListing, placedIn, returned, listedIn, leaves, withItems, trimmed}
 use Rattle.closing.specs.Lists.{slotMarks, among, backRow, itemsBack, WentBack, itemsOut, trimmedAll, partlySettled, SettledTo, listsSettled}
 use Rattle.closing.proofs.KeptLookups.{returned-keeps, returned-same, oldest-all}
-use Rattle.closing.proofs.ListsBack.{back-number, marks-map}
+use Rattle.closing.proofs.ListsMarks.{getD-pad, tested-at}
+use Rattle.closing.proofs.ListsBack.{marks-map}
 
 -- ---- what sound tables tell of a request
 all-cut : {A : Type 0} (P : A → Bool) (new : List A) (x : A) (old : List A) → all P (new ++ (x ∷ old)) ≡ true → P x ≡ true
@@ -261,3 +263,59 @@ module _ (st : State) (sd : sound st ≡ true) (g : List ℕ) (f : Request → B
     where
       marks-of : pad false 1024 (marksOf g (st .rows)) ≡ slotMarks (λ n. member n g) (st .rows)
       marks-of = unfold slotMarks marksOf in refl
+
+-- ---- the loop
+-- no marks at all, over any number of slots
+pad-none : (k : ℕ) (l : List Bool) → length l ≤ k → any (λ b. b) l ≡ false → replicate k false ≡ pad false k l
+unfolding pad any
+pad-none zero [] h e = refl
+pad-none zero (b ∷ l) h e = absurd (not-suc-le-zero h)
+pad-none (suc k) [] h e = ap (λ (r : List Bool). false ∷ r) (pad-none k [] (omega arith) e)
+pad-none (suc k) (true ∷ l) h e = clash refl e
+pad-none (suc k) (false ∷ l) h e = ap (λ (r : List Bool). false ∷ r) (pad-none k l (le-of-suc-le-suc h) e)
+
+tested-none : {A : Type 0} (xs : List A) → any (λ b. b) (tested (λ x. false) xs) ≡ false
+unfolding tested any
+tested-none [] = refl
+tested-none (x ∷ xs) = any-append (λ b. b) (tested (λ y. false) xs) (false ∷ []) ∙ rw (tested-none xs) refl
+
+module _ (g : List ℕ) (f : Request → Bool) (st : State) where
+  abbrev pub Done : ℕ → List ℕ → List Bool → Type 0
+  Done j t back = (new old : List Request) → st .requests ≡ new ++ old → length old ≡ j → SettledTo g f new old st t back
+
+  none-done : (new : List Request) → st .requests ≡ new ++ [] → partlySettled g f new [] st ≡ st
+  unfolding partlySettled trimmedAll listedIn any
+  none-done new cut =
+      let rows : map (returned f []) (st .rows) ≡ st .rows = (λ i. map (λ r. returned-same f [] r refl i) (st .rows)) ∙ map-id (st .rows) in
+      λ i. record { rows = rows i; requests = sym cut i; processes = st .processes; next = st .next }
+
+  none-marked : (k : ℕ) → k ≡ 1024 → length (st .rows) ≤ k → replicate k false ≡ slotMarks (listedIn f []) (st .rows)
+  unfolding slotMarks listedIn any
+  none-marked k e few = pad-none k (tested (λ r. false) (st .rows)) (omega (arith, length-tested (λ r. false) (st .rows))) (tested-none (st .rows)) ∙ ap (λ (m : ℕ). pad false m (tested (λ r. false) (st .rows))) e
+
+  pub done-start : (t : List ℕ) → Lies st t → (k : ℕ) → k ≡ 1024 → Done 0 t (replicate k false)
+  done-start t lie k e new [] cut long =
+      record { lies = subst (λ (x : State). Lies x t) (sym (none-done new cut)) lie; marks = none-marked k e (omega (arith, lies-well lie .rows-fit)) }
+  done-start t lie k e new (v ∷ old) cut long = absurd (omega arith)
+
+  -- one more, by what the function over it ensures
+  pub done-turn : (j : ℕ) (t t′ : List ℕ) (back back′ : List Bool) → Done j t back
+      → ((new : List Request) (v : Request) (old : List Request) → st .requests ≡ new ++ (v ∷ old) → length old ≡ j → SettledTo g f (new ++ (v ∷ [])) old st t back → SettledTo g f new (v ∷ old) st t′ back′)
+      → Done (j + 1) t′ back′
+  done-turn j t t′ back back′ ih called new [] cut long = absurd (omega arith)
+  done-turn j t t′ back back′ ih called new (v ∷ old) cut long =
+      called new v old cut (omega arith) (ih (new ++ (v ∷ [])) old (cut ∙ sym (append-snoc new v old)) (omega arith))
+
+  pub done-end : (j : ℕ) (t : List ℕ) (back : List Bool) → length (st .requests) ≡ j → Done j t back → Lies (listsSettled g f st) t
+  unfolding listsSettled
+  done-end j t back e d = d [] (st .requests) refl e .lies
+
+  -- the mark of the request in a slot
+  pub closes-at : (closed : List Bool) → closed ≡ pad false 128 (tested f (st .requests)) → (new : List Request) (v : Request) (old : List Request) → st .requests ≡ new ++ (v ∷ old)
+      → (j : ℕ) → length old ≡ j → getD closed j false ≡ f v
+  closes-at closed e new v old cut j long =
+      ap (λ (l : List Bool). getD l j false) e
+      ∙ getD-pad false 128 (tested f (st .requests)) j
+      ∙ ap (λ (l : List Request). getD (tested f l) j false) cut
+      ∙ ap (λ (i : ℕ). getD (tested f (new ++ (v ∷ old))) i false) (sym long)
+      ∙ tested-at f new v old
