@@ -27,3 +27,5 @@ pub mod ListsBack
 pub mod ListsOut
 -- the pass over the requests: one more is done
 pub mod ListsPass
+-- the pass, and then what is marked removed: what closing leaves
+pub mod ListsSettled
