@@ -1,18 +1,18 @@
 -- Marks of slots: what stands at the slot of a number, a mark more, and marks of rows that were changed.
 use Prim.Native.Nat.{ℕ, zero, suc, _<_, _≤_}
-use mathlib.Core.Bool.{Bool, true, false, cond, not, _&&_, _||_}
+use mathlib.Core.Bool.{Bool, true, false, cond, _&&_, _||_}
 use mathlib.Core.List.{List, [], _∷_, _++_, map}
-use mathlib.Core.Path.{_≡_, refl, ap, sym, subst, _∙_}
+use mathlib.Core.Path.{_≡_, refl, ap, sym, _∙_}
 use native.Mathlib.Nat.{not-suc-le-zero, le-of-suc-le-suc}
 use native.Mathlib.Omega.{arith}
 use lib.Dec.{eqb}
 use borrow.Author.Tests.{eqb-true, ne-eqb}
-use lib.ListN.{length, getD, set, length-append, length-map, List·getD-append}
+use lib.ListN.{length, getD, set, length-append, List·getD-append}
 use lib.Seq.{getD-at, set-at, set-append-left}
 use Rattle.rows.specs.declared.Row.{Row}
 use Rattle.rows.specs.Lists.{rises, member, pad, some}
 use Rattle.rows.specs.Lies.{slotWith, rowSlot}
-use Rattle.rows.proofs.Bools.{clash, eqb-sym, eqb-sym-f, or-fl, or-fr, some-pos}
+use Rattle.rows.proofs.Bools.{eqb-sym-f, or-fl, or-fr}
 use Rattle.rows.proofs.Keyed.{rises-rest, rises-fresh}
 use Rattle.rows.proofs.KeySlots.{slot-le, slot-none}
 use Rattle.changes.specs.Marks.{tested}

@@ -1,13 +1,12 @@
 -- The items of a request that stays open leave its list: one of them, and one after the other.
 use Prim.Native.Nat.{ℕ, zero, suc, _+_, _<_, _≤_}
-use mathlib.Core.Bool.{Bool, true, false, cond, _&&_, _||_}
+use mathlib.Core.Bool.{Bool, true, false, cond, _&&_}
 use mathlib.Core.List.{List, [], _∷_, _++_, map, append-nil}
 use mathlib.Core.Path.{_≡_, refl, ap, sym, subst, _∙_}
 use native.Mathlib.Nat.{not-suc-le-zero, le-of-suc-le-suc}
 use native.Mathlib.Numerals.{add-one}
 use native.Mathlib.Omega.{arith}
 use lib.Dec.{eqb}
-use borrow.Author.Tests.{ne-eqb}
 use lib.ListN.{length, getD, take, drop, set, drop-of-length-le}
 use lib.Seq.{take-all}
 use Rattle.rows.specs.declared.Row.{Row}
@@ -15,10 +14,10 @@ use Rattle.rows.specs.declared.Request.{Request}
 use Rattle.rows.specs.Lists.{all, rises, member, some, nonzero}
 use Rattle.rows.specs.Tables.{State, numbers}
 use Rattle.rows.specs.Lies.{Lies, requestSlot, withRequests, changeRequest}
-use Rattle.rows.proofs.Bools.{clash, and-i, eqb-self, some-pos, pos-some, member-here, member-there, eqb-sym-f, or-fl, or-fr, all-at}
+use Rattle.rows.proofs.Bools.{clash, and-i, eqb-self, pos-some, member-here, member-there, eqb-sym-f, or-fl, or-fr, all-at}
 use Rattle.rows.proofs.Keyed.{rises-rest, rises-fresh}
 use Rattle.rows.proofs.Picked.{older-other}
-use Rattle.rows.proofs.Slots.{lies-well, rises-old, slot-number}
+use Rattle.rows.proofs.Slots.{lies-well, slot-number}
 use Rattle.changes.specs.Changes.{itemCleared}
 use Rattle.closing.specs.Closing.{withItems}
 use Rattle.closing.specs.Lists.{itemOut, itemsOut}

@@ -1,19 +1,18 @@
 -- The pass over the requests, from the oldest on: one request more is done.
-use Prim.Native.Nat.{ℕ, zero, suc, _+_, _<_, _≤_}
+use Prim.Native.Nat.{ℕ, zero, suc, _+_, _≤_}
 use mathlib.Core.Bool.{Bool, true, false, cond, not, _&&_, _||_}
-use mathlib.Core.List.{List, [], _∷_, _++_, map, map-id, map-map, append-nil}
+use mathlib.Core.List.{List, [], _∷_, _++_, map, map-id, map-map}
 use mathlib.Core.Path.{_≡_, refl, ap, sym, subst, _∙_}
 use native.Mathlib.Nat.{not-suc-le-zero, le-of-suc-le-suc}
 use native.Mathlib.Decide.{decLt}
 use native.Mathlib.Omega.{arith}
-use lib.Dec.{eqb}
 use borrow.Author.Tests.{eqb-true}
 use lib.ListN.{length, getD, replicate, length-map, List·getD-eq-default}
 use lib.Seq.{append-snoc}
 use Rattle.rows.specs.declared.Row.{Row}
 use Rattle.rows.specs.declared.Request.{Request}
 use Rattle.rows.specs.declared.Process.{Process}
-use Rattle.rows.specs.Lists.{if_then_else_, any, all, rises, member, pad, some, nonzero}
+use Rattle.rows.specs.Lists.{any, all, rises, member, pad, some, nonzero}
 use Rattle.rows.specs.Limits.{processes}
 use Rattle.rows.specs.Codes.{inClist, isEnd, isClient, isServer, clientEnd, serverEnd}
 use Rattle.rows.specs.Tables.{State, noRow, noRequest, noProcess, rowOf, numbers, processAt, isListed, lists}
@@ -28,7 +27,7 @@ use Rattle.changes.specs.Marks.{tested, marksOf}
 use Rattle.changes.proofs.Keep.{length-tested}
 use Rattle.closing.specs.Closing.{oldestListing, placedIn, returned, listedIn, leaves, withItems, trimmed}
 use Rattle.closing.specs.Lists.{slotMarks, among, backRow, itemsBack, WentBack, itemsOut, trimmedAll, partlySettled, SettledTo, listsSettled}
-use Rattle.closing.proofs.KeptLookups.{returned-keeps, returned-same, oldest-all}
+use Rattle.closing.proofs.KeptLookups.{returned-keeps, returned-same}
 use Rattle.closing.proofs.ListsMarks.{getD-pad, tested-at}
 use Rattle.closing.proofs.ListsBack.{marks-map}
 

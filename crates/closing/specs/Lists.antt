@@ -1,6 +1,6 @@
 -- Lists and places as the pass over the requests, from the oldest on, leaves them: before the marked rows and requests are removed.
 use Prim.Native.Nat.{ℕ}
-use mathlib.Core.Bool.{Bool, true, false, not, _&&_, _||_}
+use mathlib.Core.Bool.{Bool, false, not, _&&_, _||_}
 use mathlib.Core.List.{List, [], _∷_, _++_, map}
 use mathlib.Core.Path.{_≡_}
 use Rattle.rows.specs.declared.Row.{Row}

@@ -9,7 +9,7 @@ ghost use mathlib.Core.Bool.{Bool, true, false, _||_};
 ghost use mathlib.Core.List.{List, [], _∷_, _++_};
 ghost use Prim.Native.Nat.{ℕ, _≤_, _<_};
 ghost use lib.ListN.{length};
-ghost use Rattle.rows.specs.declared.Request.{Request as Listing};
+ghost use Rattle.rows.specs.declared.Request.{Request};
 ghost use Rattle.rows.specs.Lists.{all, member, pad, some, nonzero};
 ghost use Rattle.rows.specs.Codes.{inClist};
 ghost use Rattle.rows.specs.Tables.{State, numbers};
@@ -18,7 +18,7 @@ ghost use Rattle.rows.specs.Lies.{Lies, withRequests};
 ghost use Rattle.changes.specs.Marks.{tested, marksOf};
 ghost use Rattle.closing.specs.Lists.{slotMarks, WentBack, itemOut, itemsOut, SettledTo, listsSettled};
 
-// The place of a process's c-list; 0 for what is no process.
+// The place of a process's c-list; 0 for what is no process. Ruled out: the process's own number; the c-list of the next one.
 pub fn clist(p: u32) -> u32
     ensures { λ r. ⌜ (p ≤ 64 → r ≡ inClist p) ⌝ }
 {
@@ -65,9 +65,17 @@ fn items_back(t: &mut [u32], n: usize, v: Request, back: &mut [bool; 1024])
 }
 
 // The item e, at place k of the open request in slot j, leaves the list if its row is removed or went back.
-fn item_out(t: &mut [u32], n: usize, j: usize, k: usize, e: u32, removed: &[bool; 1024], back: &[bool; 1024])
+fn item_out(
+    t: &mut [u32],
+    n: usize,
+    j: usize,
+    k: usize,
+    e: u32,
+    removed: &[bool; 1024],
+    back: &[bool; 1024],
+)
     requires { ⌜ (length (now t) ≡ 11265) × (n ≤ 1024) × (j < 128) × (k < 4) ⌝ }
-    ensures out { λ _. ⌜ ((st : State) (g b : ℕ → Bool) (new : List Listing) (w : Listing) (old : List Listing) → Lies st (now (t .entry)) → n ≡ length (st .rows) → st .requests ≡ new ++ (w ∷ old) → length old ≡ j → (some e ≡ true → member e (numbers (st .rows)) ≡ true) → now (removed .entry) ≡ slotMarks g (st .rows) → now (back .entry) ≡ slotMarks b (st .rows) → Lies (withRequests (new ++ (itemOut (λ n. g n || b n) k e w ∷ old)) st) (now (t .exit))) ⌝ }
+    ensures out { λ _. ⌜ ((st : State) (g b : ℕ → Bool) (new : List Request) (w : Request) (old : List Request) → Lies st (now (t .entry)) → n ≡ length (st .rows) → st .requests ≡ new ++ (w ∷ old) → length old ≡ j → (some e ≡ true → member e (numbers (st .rows)) ≡ true) → now (removed .entry) ≡ slotMarks g (st .rows) → now (back .entry) ≡ slotMarks b (st .rows) → Lies (withRequests (new ++ (itemOut (λ n. g n || b n) k e w ∷ old)) st) (now (t .exit))) ⌝ }
     ensures long { λ _. ⌜ length (now (t .exit)) ≡ 11265 ⌝ }
 {
     if e == 0 {
@@ -82,9 +90,16 @@ fn item_out(t: &mut [u32], n: usize, j: usize, k: usize, e: u32, removed: &[bool
 }
 
 // All items of an open request, which is v.
-fn items_out(t: &mut [u32], n: usize, j: usize, v: Request, removed: &[bool; 1024], back: &[bool; 1024])
+fn items_out(
+    t: &mut [u32],
+    n: usize,
+    j: usize,
+    v: Request,
+    removed: &[bool; 1024],
+    back: &[bool; 1024],
+)
     requires { ⌜ (length (now t) ≡ 11265) × (n ≤ 1024) × (j < 128) ⌝ }
-    ensures out { λ _. ⌜ ((st : State) (g b : ℕ → Bool) (new old : List Listing) → Lies st (now (t .entry)) → n ≡ length (st .rows) → st .requests ≡ new ++ (v ∷ old) → length old ≡ j → all (λ e. member e (numbers (st .rows))) (nonzero (v .items)) ≡ true → now (removed .entry) ≡ slotMarks g (st .rows) → now (back .entry) ≡ slotMarks b (st .rows) → Lies (withRequests (new ++ (itemsOut (λ n. g n || b n) v ∷ old)) st) (now (t .exit))) ⌝ }
+    ensures out { λ _. ⌜ ((st : State) (g b : ℕ → Bool) (new old : List Request) → Lies st (now (t .entry)) → n ≡ length (st .rows) → st .requests ≡ new ++ (v ∷ old) → length old ≡ j → all (λ e. member e (numbers (st .rows))) (nonzero (v .items)) ≡ true → now (removed .entry) ≡ slotMarks g (st .rows) → now (back .entry) ≡ slotMarks b (st .rows) → Lies (withRequests (new ++ (itemsOut (λ n. g n || b n) v ∷ old)) st) (now (t .exit))) ⌝ }
     ensures long { λ _. ⌜ length (now (t .exit)) ≡ 11265 ⌝ }
 {
     let items = v.items;
@@ -97,9 +112,16 @@ fn items_out(t: &mut [u32], n: usize, j: usize, v: Request, removed: &[bool; 102
 }
 
 // The request in slot j, once all older ones are done.
-fn settle_request(t: &mut [u32], n: usize, j: usize, closes: bool, removed: &[bool; 1024], back: &mut [bool; 1024])
+fn settle_request(
+    t: &mut [u32],
+    n: usize,
+    j: usize,
+    closes: bool,
+    removed: &[bool; 1024],
+    back: &mut [bool; 1024],
+)
     requires { ⌜ (length (now t) ≡ 11265) × (n ≤ 1024) × (j < 128) ⌝ }
-    ensures settled { λ _. ⌜ ((st : State) (g : List ℕ) (f : Listing → Bool) (new : List Listing) (v : Listing) (old : List Listing) → sound st ≡ true → n ≡ length (st .rows) → st .requests ≡ new ++ (v ∷ old) → length old ≡ j → closes ≡ f v → now (removed .entry) ≡ pad false 1024 (marksOf g (st .rows)) → SettledTo g f (new ++ (v ∷ [])) old st (now (t .entry)) (now (back .entry)) → SettledTo g f new (v ∷ old) st (now (t .exit)) (now (back .exit))) ⌝ }
+    ensures settled { λ _. ⌜ ((st : State) (g : List ℕ) (f : Request → Bool) (new : List Request) (v : Request) (old : List Request) → sound st ≡ true → n ≡ length (st .rows) → st .requests ≡ new ++ (v ∷ old) → length old ≡ j → closes ≡ f v → now (removed .entry) ≡ pad false 1024 (marksOf g (st .rows)) → SettledTo g f (new ++ (v ∷ [])) old st (now (t .entry)) (now (back .entry)) → SettledTo g f new (v ∷ old) st (now (t .exit)) (now (back .exit))) ⌝ }
     ensures long { λ _. ⌜ length (now (t .exit)) ≡ 11265 ⌝ }
 {
     let v = read::request_at(t, j);
@@ -114,7 +136,7 @@ fn settle_request(t: &mut [u32], n: usize, j: usize, closes: bool, removed: &[bo
 // Ruled out: an end goes to the asker of a newer closed request, or stays in a newer open request's list.
 pub fn settle_lists(t: &mut [u32], n: usize, m: usize, removed: &[bool; 1024], closed: &[bool; 128])
     requires { ⌜ (length (now t) ≡ 11265) × (n ≤ 1024) × (m ≤ 128) ⌝ }
-    ensures settled { λ _. ⌜ ((st : State) (g : List ℕ) (f : Listing → Bool) → sound st ≡ true → Lies st (now (t .entry)) → n ≡ length (st .rows) → m ≡ length (st .requests) → now (removed .entry) ≡ pad false 1024 (marksOf g (st .rows)) → now (closed .entry) ≡ pad false 128 (tested f (st .requests)) → Lies (listsSettled g f st) (now (t .exit))) ⌝ }
+    ensures settled { λ _. ⌜ ((st : State) (g : List ℕ) (f : Request → Bool) → sound st ≡ true → Lies st (now (t .entry)) → n ≡ length (st .rows) → m ≡ length (st .requests) → now (removed .entry) ≡ pad false 1024 (marksOf g (st .rows)) → now (closed .entry) ≡ pad false 128 (tested f (st .requests)) → Lies (listsSettled g f st) (now (t .exit))) ⌝ }
     ensures long { λ _. ⌜ length (now (t .exit)) ≡ 11265 ⌝ }
 {
     let mut back = [false; 1024];

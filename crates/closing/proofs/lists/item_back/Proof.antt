@@ -1,5 +1,6 @@
+-- `lists::item_back`: nothing changes for 0, for a number that no row has, and for a row that went back before; else a store of the place and one of the mark.
 use borrow.Author.Needs.{needs}
-use Prim.Native.Nat.{ℕ, suc, _≤_, _<_, _-_, _+_}
+use Prim.Native.Nat.{ℕ, suc}
 use native.Mathlib.Omega.{arith}
 use mathlib.Core.Path.{_≡_, sym, subst, _∙_}
 use denote.Ref.{now}
@@ -12,35 +13,24 @@ use Rattle.closing.proofs.ListsMarks.{mark-read}
 use Rattle.closing.proofs.ListsBack.{back-zero, back-absent, back-before, back-now}
 use Rattle.closing.proofs.lists.item_back.Statement.{statement}
 use Rattle.closing.proofs.lists.item_back.Tie as tie
-use Rattle.closing.proofs.lists.item_back.Reads as reads
-use Rattle.closing.proofs.lists.item_back.Lts as lts
-use Rattle.changes.proofs.change.set_place.Reads as set-place-reads
-use Rattle.closing.proofs.lists.clist.Reads as clist-reads
-use Rattle.rows.proofs.find.row_among.Reads as row-among-reads
 
--- src/lists.rt:38:9
 returns : tie.Need-returns
 returns c =
     let s = c .before .before in
     ((λ st b lie count few m. back-zero b (s .args .asker) st (now (s .args .t)) (now (s .args .back)) lie m (s .args .e) (c .if1 .taken)), s .pre .0)
 
--- src/lists.rt:40:24
 row-among-requires : tie.Need-row-among-requires
 row-among-requires c κs = search needs
 
--- src/lists.rt:40:19
 enum-known-i : tie.Need-enum-known-i
 enum-known-i c = search needs
 
--- src/lists.rt:41:9
 enum-told : tie.Need-enum-told
 enum-told c = search needs
 
--- src/lists.rt:41:9
 same-length : tie.Need-same-length
 same-length c = search needs
 
--- src/lists.rt:41:9
 returns-2 : tie.Need-returns-2
 returns-2 c =
     let s = c .before .before .before .before .before .before in
@@ -50,15 +40,12 @@ returns-2 c =
       s .pre .0,
     )
 
--- src/lists.rt:43:8
 element-copy-out-if2 : tie.Need-element-copy-out-if2
 element-copy-out-if2 c = omega (arith, at-below (c .before .before .before .before .before .before .before .args .n) (c .before .before .before .row-among .result) (c .before .i .given .0 .0) (c .before .before .before .row-among .ensures .0) (c .before .i .given .1))
 
--- src/lists.rt:44:9
 same-length-2 : tie.Need-same-length-2
 same-length-2 c = search needs
 
--- src/lists.rt:44:9
 returns-3 : tie.Need-returns-3
 returns-3 c =
     let s = c .before .before .before .before .before .before .before .before .before in
@@ -69,25 +56,20 @@ returns-3 c =
       s .pre .0,
     )
 
--- src/lists.rt:46:5
 element-write-back : tie.Need-element-write-back
 element-write-back c =
     omega (arith, at-below (c .before .before .before .before .before .before .before .before .before .args .n) (c .before .before .before .before .before .row-among .result) (c .before .before .before .i .given .0 .0) (c .before .before .before .before .before .row-among .ensures .0) (c .before .before .before .i .given .1))
 
--- src/lists.rt:47:9
 clist-requires : tie.Need-clist-requires
 clist-requires c κs = search needs
 
--- src/lists.rt:48:5
 set-place-requires : tie.Need-set-place-requires
 set-place-requires c κs =
     (c .before .before .before .before .before .before .before .before .before .before .before .pre .0, omega (arith, at-below (c .before .before .before .before .before .before .before .before .before .before .before .args .n) (c .before .before .before .before .before .before .before .row-among .result) (c .before .before .before .before .before .i .given .0 .0) (c .before .before .before .before .before .before .before .row-among .ensures .0) (c .before .before .before .before .before .i .given .1)))
 
--- src/lists.rt:32:1
 same-length-3 : tie.Need-same-length-3
 same-length-3 c = search needs
 
--- src/lists.rt:32:1
 returns-4 : tie.Need-returns-4
 returns-4 c =
     let s = c .before .before .before .before .before .before .before .before .before .before .before .before .before .before in

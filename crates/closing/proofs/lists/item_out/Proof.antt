@@ -1,5 +1,6 @@
+-- `lists::item_out`: the two marks at the row's slot say whether the item leaves.
 use borrow.Author.Needs.{needs}
-use Prim.Native.Nat.{ℕ, suc, _≤_, _<_, _-_, _+_}
+use Prim.Native.Nat.{suc}
 use native.Mathlib.Omega.{arith}
 use mathlib.Core.Bool.{true, false, _||_}
 use mathlib.Core.Path.{_≡_, sym, _∙_}
@@ -12,34 +13,24 @@ use Rattle.closing.proofs.ListsMarks.{marks-read}
 use Rattle.closing.proofs.ListsOut.{slot-here, none-zero, none-passes, out-same, out-now}
 use Rattle.closing.proofs.lists.item_out.Statement.{statement}
 use Rattle.closing.proofs.lists.item_out.Tie as tie
-use Rattle.closing.proofs.lists.item_out.Reads as reads
-use Rattle.closing.proofs.lists.item_out.Lts as lts
-use Rattle.changes.proofs.change.clear_item.Reads as clear-item-reads
-use Rattle.rows.proofs.find.row_among.Reads as row-among-reads
 
--- src/lists.rt:74:9
 returns : tie.Need-returns
 returns c =
     let s = c .before .before in
     ((λ st g b new w old lie count cut slot stands gone back. out-same lie new w old cut (λ n. g n || b n) (s .args .k) (s .args .e) (none-zero (s .args .e) (c .if1 .taken) (g (s .args .e) || b (s .args .e)))), s .pre .0)
 
--- src/lists.rt:76:24
 row-among-requires : tie.Need-row-among-requires
 row-among-requires c κs = search needs
 
--- src/lists.rt:76:19
 enum-known-i : tie.Need-enum-known-i
 enum-known-i c = search needs
 
--- src/lists.rt:77:9
 enum-told : tie.Need-enum-told
 enum-told c = search needs
 
--- src/lists.rt:77:9
 same-length : tie.Need-same-length
 same-length c = search needs
 
--- src/lists.rt:77:9
 returns-2 : tie.Need-returns-2
 returns-2 c =
     let s = c .before .before .before .before .before .before in
@@ -51,25 +42,20 @@ returns-2 c =
       s .pre .0,
     )
 
--- src/lists.rt:79:8
 element-copy-out-if2 : tie.Need-element-copy-out-if2
 element-copy-out-if2 c =
     omega (arith, at-below (c .before .before .before .before .before .before .before .args .n) (c .before .before .before .row-among .result) (c .before .i .given .0 .0) (c .before .before .before .row-among .ensures .0) (c .before .i .given .1))
 
--- src/lists.rt:79:21
 element-copy-out-if2-2 : tie.Need-element-copy-out-if2-2
 element-copy-out-if2-2 c =
     omega (arith, at-below (c .before .before .before .before .before .before .before .before .args .n) (c .before .before .before .before .row-among .result) (c .before .before .i .given .0 .0) (c .before .before .before .before .row-among .ensures .0) (c .before .before .i .given .1))
 
--- src/lists.rt:80:9
 clear-item-requires : tie.Need-clear-item-requires
 clear-item-requires c κs = search needs
 
--- src/lists.rt:68:1
 same-length-2 : tie.Need-same-length-2
 same-length-2 c = search needs
 
--- src/lists.rt:68:1
 returns-3 : tie.Need-returns-3
 returns-3 c =
     let s = c .before .before .before .before .before .before .before .before .before .before .before .before .before .before in
@@ -85,11 +71,9 @@ returns-3 c =
       cleared .ensures .1,
     )
 
--- src/lists.rt:68:1
 same-length-3 : tie.Need-same-length-3
 same-length-3 c = search needs
 
--- src/lists.rt:68:1
 returns-4 : tie.Need-returns-4
 returns-4 c =
     let s = c .before .before .before .before .before .before .before .before .before .before in

@@ -1,8 +1,9 @@
+-- `lists::items_back`: the invariant is that the first k items went back.
 use borrow.Author.Needs.{needs}
-use Prim.Native.Nat.{ℕ, _≤_, _<_, _-_, _+_}
+use Prim.Native.Nat.{ℕ, _≤_, _-_}
 use native.Mathlib.Omega.{arith}
 use mathlib.Core.Bool.{Bool, _||_}
-use mathlib.Core.Path.{_≡_, sym, subst, _∙_}
+use mathlib.Core.Path.{_≡_, sym, _∙_}
 use denote.Ref.{now}
 use lib.ListN.{length, take, length-map}
 use Rattle.rows.specs.Tables.{State}
@@ -11,9 +12,6 @@ use Rattle.closing.specs.Lists.{slotMarks, among, itemsBack, WentBack}
 use Rattle.closing.proofs.ListsBack.{back-start, back-count, back-marks, back-turn, back-end}
 use Rattle.closing.proofs.lists.items_back.Statement.{statement}
 use Rattle.closing.proofs.lists.items_back.Tie as tie
-use Rattle.closing.proofs.lists.items_back.Reads as reads
-use Rattle.closing.proofs.lists.items_back.Lts as lts
-use Rattle.closing.proofs.lists.item_back.Reads as item-back-reads
 
 abbrev Inv-loop : tie.InvT-loop
 Inv-loop t₀ n back₀ items asker k₀ t back k =
@@ -23,33 +21,26 @@ Inv-loop t₀ n back₀ items asker k₀ t back k =
 abbrev μ-loop : tie.MeasureT-loop
 μ-loop t₀ n back₀ items asker k₀ t back k = 4 - k
 
--- src/lists.rt:60:5
 loop-holds : tie.Need-loop-holds Inv-loop μ-loop
 loop-holds c =
     let s = c .before .before in
     (search needs, s .pre .0, (λ st b lie count few m. back-start b (s .args .v .asker) st (now (s .args .t)) (now (s .args .back)) lie m))
 
--- src/lists.rt:61:17
 mul-e : tie.Need-mul-e Inv-loop μ-loop
 mul-e c = search needs
 
--- src/lists.rt:61:17
 array-read-e : tie.Need-array-read-e Inv-loop μ-loop
 array-read-e c = search needs
 
--- src/lists.rt:62:9
 item-back-requires : tie.Need-item-back-requires Inv-loop μ-loop
 item-back-requires c κs = search needs
 
--- src/lists.rt:63:9
 add-k : tie.Need-add-k Inv-loop μ-loop
 add-k c = search needs
 
--- src/lists.rt:60:5
 loop-less : tie.Need-loop-less Inv-loop μ-loop
 loop-less c = search needs
 
--- src/lists.rt:60:5
 loop-again : tie.Need-loop-again Inv-loop μ-loop
 loop-again c =
     let s = c .before .before .before .before .before .before .before .before .before in
@@ -66,11 +57,9 @@ loop-again c =
           (back-count b (v .asker) st (take (l .k) (v .items)) (s .args .n) count) few (back-marks b (v .asker) st (take (l .k) (v .items)) (l .t) (l .back) w))),
     )
 
--- src/lists.rt:52:1
 same-length : tie.Need-same-length Inv-loop μ-loop
 same-length c = search needs
 
--- src/lists.rt:52:1
 returns : tie.Need-returns Inv-loop μ-loop
 returns c =
     let s = c .before .before .before .before in

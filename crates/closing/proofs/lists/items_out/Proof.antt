@@ -1,5 +1,6 @@
+-- `lists::items_out`: the invariant is that the first k items are done.
 use borrow.Author.Needs.{needs}
-use Prim.Native.Nat.{ℕ, _≤_, _<_, _-_, _+_}
+use Prim.Native.Nat.{ℕ, _≤_, _-_}
 use native.Mathlib.Omega.{arith}
 use mathlib.Core.Bool.{Bool, true, _||_}
 use mathlib.Core.List.{List, _∷_, _++_}
@@ -14,9 +15,6 @@ use Rattle.closing.specs.Lists.{slotMarks}
 use Rattle.closing.proofs.ListsOut.{outTo, outState, item-stands, loop-start, loop-turn, loop-end}
 use Rattle.closing.proofs.lists.items_out.Statement.{statement}
 use Rattle.closing.proofs.lists.items_out.Tie as tie
-use Rattle.closing.proofs.lists.items_out.Reads as reads
-use Rattle.closing.proofs.lists.items_out.Lts as lts
-use Rattle.closing.proofs.lists.item_out.Reads as item-out-reads
 
 abbrev Inv-loop : tie.InvT-loop
 Inv-loop t₀ n j removed back items k₀ t k =
@@ -27,33 +25,26 @@ Inv-loop t₀ n j removed back items k₀ t k =
 abbrev μ-loop : tie.MeasureT-loop
 μ-loop t₀ n j removed back items k₀ t k = 4 - k
 
--- src/lists.rt:92:5
 loop-holds : tie.Need-loop-holds Inv-loop μ-loop
 loop-holds c =
     let s = c .before .before in
     (search needs, s .pre .0, (λ st g b new v old e lie count cut slot stand gone back. loop-start st new old (λ n. g n || b n) v (now (s .args .t)) lie cut))
 
--- src/lists.rt:93:17
 mul-e : tie.Need-mul-e Inv-loop μ-loop
 mul-e c = search needs
 
--- src/lists.rt:93:17
 array-read-e : tie.Need-array-read-e Inv-loop μ-loop
 array-read-e c = search needs
 
--- src/lists.rt:94:9
 item-out-requires : tie.Need-item-out-requires Inv-loop μ-loop
 item-out-requires c κs = search needs
 
--- src/lists.rt:95:9
 add-k : tie.Need-add-k Inv-loop μ-loop
 add-k c = search needs
 
--- src/lists.rt:92:5
 loop-less : tie.Need-loop-less Inv-loop μ-loop
 loop-less c = search needs
 
--- src/lists.rt:92:5
 loop-again : tie.Need-loop-again Inv-loop μ-loop
 unfolding withRequests
 loop-again c =
@@ -69,11 +60,9 @@ loop-again c =
           (item-stands (st .rows) (s .args .v .items) (l .k) (omega (arith, c .before .before .before .before .loop-test .taken)) stand) gone back)),
     )
 
--- src/lists.rt:85:1
 same-length : tie.Need-same-length Inv-loop μ-loop
 same-length c = search needs
 
--- src/lists.rt:85:1
 returns : tie.Need-returns Inv-loop μ-loop
 returns c =
     let s = c .before .before .before .before in

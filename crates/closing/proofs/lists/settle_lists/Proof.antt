@@ -1,9 +1,10 @@
+-- `lists::settle_lists`: the invariant is that the j oldest requests are done, however the list is cut there.
 use borrow.Author.Needs.{needs}
-use Prim.Native.Nat.{ℕ, _≤_, _<_, _-_, _+_}
+use Prim.Native.Nat.{ℕ, _≤_, _-_}
 use native.Mathlib.Omega.{arith}
 use mathlib.Core.Bool.{Bool, true, false}
 use mathlib.Core.List.{List}
-use mathlib.Core.Path.{_≡_, refl, sym, _∙_}
+use mathlib.Core.Path.{_≡_, refl}
 use denote.Ref.{now}
 use lib.ListN.{length}
 use Rattle.rows.specs.declared.Request.{Request}
@@ -15,9 +16,6 @@ use Rattle.changes.specs.Marks.{tested, marksOf}
 use Rattle.closing.proofs.ListsPass.{Done, done-start, done-turn, done-end, closes-at}
 use Rattle.closing.proofs.lists.settle_lists.Statement.{statement}
 use Rattle.closing.proofs.lists.settle_lists.Tie as tie
-use Rattle.closing.proofs.lists.settle_lists.Reads as reads
-use Rattle.closing.proofs.lists.settle_lists.Lts as lts
-use Rattle.closing.proofs.lists.settle_request.Reads as settle-request-reads
 
 abbrev Inv-loop : tie.InvT-loop
 Inv-loop t₀ n m removed closed back₀ j₀ t back j =
@@ -28,27 +26,21 @@ Inv-loop t₀ n m removed closed back₀ j₀ t back j =
 abbrev μ-loop : tie.MeasureT-loop
 μ-loop t₀ n m removed closed back₀ j₀ t back j = m - j
 
--- src/lists.rt:122:5
 loop-holds : tie.Need-loop-holds Inv-loop μ-loop
 loop-holds c = (search needs, search needs, (λ st g f sd lie count long gone closes. done-start g f st (now (c .before .args .t)) lie 1024 refl))
 
--- src/lists.rt:123:22
 element-copy-out-closes : tie.Need-element-copy-out-closes Inv-loop μ-loop
 element-copy-out-closes c = search needs
 
--- src/lists.rt:124:9
 settle-request-requires : tie.Need-settle-request-requires Inv-loop μ-loop
 settle-request-requires c κs = search needs
 
--- src/lists.rt:125:9
 add-j : tie.Need-add-j Inv-loop μ-loop
 add-j c = search needs
 
--- src/lists.rt:122:5
 loop-less : tie.Need-loop-less Inv-loop μ-loop
 loop-less c = search needs
 
--- src/lists.rt:122:5
 loop-again : tie.Need-loop-again Inv-loop μ-loop
 loop-again c =
     let s = c .before .before .before .before .before .before .before .before .before in
@@ -61,11 +53,9 @@ loop-again c =
           (λ new v old cut slot. called .ensures .0 st g f new v old sd count cut slot (closes-at g f st (now (s .args .closed)) closes new v old cut (l .j) slot) gone)),
     )
 
--- src/lists.rt:115:1
 same-length : tie.Need-same-length Inv-loop μ-loop
 same-length c = search needs
 
--- src/lists.rt:115:1
 returns : tie.Need-returns Inv-loop μ-loop
 returns c =
     let l = c .before .loop in (

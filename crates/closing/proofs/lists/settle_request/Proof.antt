@@ -1,26 +1,17 @@
+-- `lists::settle_request`: the request that is read is the one in the slot; its mark says which of the two functions is called.
 use borrow.Author.Needs.{needs}
-use Prim.Native.Nat.{ℕ, _≤_, _<_, _-_, _+_}
-use native.Mathlib.Omega.{arith}
 use mathlib.Core.Path.{sym, _∙_}
 use denote.Ref.{now}
 use Rattle.closing.proofs.ListsPass.{closed-done, open-done}
 use Rattle.closing.proofs.lists.settle_request.Statement.{statement}
 use Rattle.closing.proofs.lists.settle_request.Tie as tie
-use Rattle.closing.proofs.lists.settle_request.Reads as reads
-use Rattle.closing.proofs.lists.settle_request.Lts as lts
-use Rattle.closing.proofs.lists.items_back.Reads as items-back-reads
-use Rattle.closing.proofs.lists.items_out.Reads as items-out-reads
-use Rattle.rows.proofs.read.request_at.Reads as request-at-reads
 
--- src/lists.rt:105:9
 request-at-requires : tie.Need-request-at-requires
 request-at-requires c κs = search needs
 
--- src/lists.rt:107:9
 items-back-requires : tie.Need-items-back-requires
 items-back-requires c κs = search needs
 
--- src/lists.rt:109:9
 items-out-requires : tie.Need-items-out-requires
 items-out-requires c κs = search needs
 
