@@ -19,3 +19,13 @@ pub mod KeptPlaces
 pub mod KeptRows
 -- closing keeps the tables sound: of seeds, of a request, of a port, of a dropped row
 pub mod Kept
+-- marks of slots: at the slot of a number, and one more
+pub mod ListsMarks
+-- the items of a closed request go back
+pub mod ListsBack
+-- items of an open request leave its list
+pub mod ListsOut
+-- the pass over the requests: one more is done
+pub mod ListsPass
+-- the pass, and then what is marked removed: what closing leaves
+pub mod ListsSettled

@@ -1,4 +1,5 @@
 -- Definitions of closing: in one pass, and step by step as document 01 has it.
 pub mod Closing
 pub mod Steps
+pub mod Lists
 pub mod Computes

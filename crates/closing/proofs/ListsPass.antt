@@ -1,0 +1,320 @@
+-- The pass over the requests, from the oldest on: one request more is done.
+use Prim.Native.Nat.{ℕ, zero, suc, _+_, _≤_}
+use mathlib.Core.Bool.{Bool, true, false, cond, not, _&&_, _||_}
+use mathlib.Core.List.{List, [], _∷_, _++_, map, map-id, map-map}
+use mathlib.Core.Path.{_≡_, refl, ap, sym, subst, _∙_}
+use native.Mathlib.Nat.{not-suc-le-zero, le-of-suc-le-suc}
+use native.Mathlib.Decide.{decLt}
+use native.Mathlib.Omega.{arith}
+use borrow.Author.Tests.{eqb-true}
+use lib.ListN.{length, getD, replicate, length-map, List·getD-eq-default}
+use lib.Seq.{append-snoc}
+use Rattle.rows.specs.declared.Row.{Row}
+use Rattle.rows.specs.declared.Request.{Request}
+use Rattle.rows.specs.declared.Process.{Process}
+use Rattle.rows.specs.Lists.{any, all, rises, member, pad, some, nonzero}
+use Rattle.rows.specs.Limits.{processes}
+use Rattle.rows.specs.Codes.{inClist, isEnd, isClient, isServer, clientEnd, serverEnd}
+use Rattle.rows.specs.Tables.{State, noRow, noRequest, noProcess, rowOf, numbers, processAt, isListed, lists}
+use Rattle.rows.specs.Sound.{sound, recordsFit, requestersListed, mayBeListed, itemsLent, requestsRise}
+use Rattle.rows.specs.Layout.{requestAt}
+use Rattle.rows.specs.Lies.{Lies, withRows, withRequests}
+use Rattle.rows.proofs.Bools.{clash, and-l, and-r, pos-some, all-mono, any-append}
+use Rattle.rows.proofs.Keyed.{first-there, keys-map, rises-rest, rises-first}
+use Rattle.rows.proofs.Sound.{Sound, sound-open}
+use Rattle.rows.proofs.Slots.{lies-well, rises-old, request-of-words, request-words-at}
+use Rattle.changes.specs.Marks.{tested, marksOf}
+use Rattle.changes.proofs.Keep.{length-tested}
+use Rattle.closing.specs.Closing.{oldestListing, placedIn, returned, listedIn, leaves, withItems, trimmed}
+use Rattle.closing.specs.Lists.{slotMarks, among, backRow, itemsBack, WentBack, itemsOut, trimmedAll, partlySettled, SettledTo, listsSettled}
+use Rattle.closing.proofs.KeptLookups.{returned-keeps, returned-same}
+use Rattle.closing.proofs.ListsMarks.{getD-pad, tested-at}
+use Rattle.closing.proofs.ListsBack.{marks-map}
+
+-- ---- what sound tables tell of a request
+all-cut : {A : Type 0} (P : A → Bool) (new : List A) (x : A) (old : List A) → all P (new ++ (x ∷ old)) ≡ true → P x ≡ true
+unfolding all
+all-cut P [] x old e = and-l (P x) (all P old) e
+all-cut P (y ∷ new) x old e = all-cut P new x old (and-r (P y) (all P (new ++ (x ∷ old))) e)
+
+listed-low : (m : ℕ) (ps : List Process) (p : ℕ) → length ps ≡ m → isListed ps p ≡ true → p ≤ m
+unfolding isListed processAt
+listed-low m ps zero e h = omega arith
+listed-low m ps (suc i) e h =
+    elim (decLt i m) [
+      | yes lt ↦ lt
+      | no ge ↦ clash h (ap (λ (x : Process). some (x .prime)) (List·getD-eq-default ps noProcess {n = i} (omega arith)) ∙ (unfold noProcess some in refl))
+    ]
+
+no-row-listed : (v : Request) → mayBeListed v noRow ≡ false
+unfolding mayBeListed noRow isEnd isClient isServer clientEnd serverEnd some
+no-row-listed v = refl
+
+module _ (st : State) (s : Sound st) (new : List Request) (v : Request) (old : List Request) (cut : st .requests ≡ new ++ (v ∷ old)) where
+  pub asker-low : v .asker ≤ 64
+  unfolding requestersListed recordsFit processes
+  asker-low =
+      listed-low 64 (st .processes) (v .asker) (eqb-true (length (st .processes)) 64 (s .records-fit))
+      (all-cut (λ v. isListed (st .processes) (v .asker)) new v old (subst (λ (l : List Request). all (λ v. isListed (st .processes) (v .asker)) l ≡ true) cut (s .requesters-listed)))
+
+  pub items-stand : all (λ e. member e (numbers (st .rows))) (nonzero (v .items)) ≡ true
+  unfolding itemsLent numbers rowOf
+  items-stand =
+      all-mono (λ e. mayBeListed v (rowOf (st .rows) e)) (λ e. member e (numbers (st .rows))) (λ e h. first-there (λ r. r .number) noRow (mayBeListed v) (no-row-listed v) (st .rows) e h) (nonzero (v .items))
+      (all-cut (λ v. all (λ e. mayBeListed v (rowOf (st .rows) e)) (nonzero (v .items))) new v old (subst (λ (l : List Request). all (λ v. all (λ e. mayBeListed v (rowOf (st .rows) e)) (nonzero (v .items))) l ≡ true) cut (s .items-lent)))
+
+  pub requests-rise : rises (λ v. v .number) (v ∷ old) ≡ true
+  unfolding requestsRise
+  requests-rise = rises-old (λ v. v .number) new (v ∷ old) (subst (λ (l : List Request). rises (λ v. v .number) l ≡ true) cut (s .requests-rise))
+
+-- ---- one request, over the older ones
+or-swap : (a b : Bool) → a || b ≡ b || a
+or-swap true true = refl
+or-swap true false = refl
+or-swap false true = refl
+or-swap false false = refl
+
+pub returned-number : (f : Request → Bool) (vs : List Request) (r : Row) → returned f vs r .number ≡ r .number
+returned-number = returned-keeps (λ r. r .number) (λ p r. unfold placedIn in refl)
+
+-- an oldest one is there if one is
+oldest-some : (f : Request → Bool) (n : ℕ) (vs : List Request) → rises (λ v. v .number) vs ≡ true → some (oldestListing f n vs .number) ≡ listedIn f vs n
+unfolding oldestListing listedIn any
+oldest-some f n [] up = unfold noRequest some in refl
+oldest-some f n (v ∷ vs) up = pick (oldest-some f n vs (rises-rest (λ v. v .number) v vs up)) (some (w .number)) refl (f v && lists n v)
+  where
+    w : Request
+    w = oldestListing f n vs
+
+    or-true : (a b : Bool) → b ≡ true → a || b ≡ true
+    or-true true b e = refl
+    or-true false b e = e
+
+    pick : some (w .number) ≡ listedIn f vs n → (a : Bool) → some (w .number) ≡ a → (c : Bool) → some (cond a w (cond c v w) .number) ≡ c || any (λ u. f u && lists n u) vs
+    pick ih true q c = q ∙ sym (or-true c (any (λ u. f u && lists n u) vs) (sym ih ∙ q))
+    pick ih false q true = let h = rises-first (λ v. v .number) v vs up in pos-some (v .number) (omega arith)
+    pick ih false q false = ih
+
+module _ (f : Request → Bool) (v : Request) (old : List Request) where
+  -- it stays open
+  open-listed : f v ≡ false → (n : ℕ) → listedIn f (v ∷ old) n ≡ listedIn f old n
+  unfolding listedIn any
+  open-listed h n = rw h refl
+
+  open-oldest : f v ≡ false → (n : ℕ) → oldestListing f n (v ∷ old) ≡ oldestListing f n old
+  unfolding oldestListing
+  open-oldest h n = rw h (pick (some (oldestListing f n old .number)) (oldestListing f n old))
+    where
+      pick : (b : Bool) (w : Request) → cond b w w ≡ w
+      pick true w = refl
+      pick false w = refl
+
+  open-returned : f v ≡ false → (r : Row) → returned f (v ∷ old) r ≡ returned f old r
+  unfolding returned
+  open-returned h r = ap (λ (w : Request). cond (some (w .number)) (placedIn (inClist (w .asker)) r) r) (open-oldest h (r .number))
+
+  -- it closes
+  closed-listed : f v ≡ true → (n : ℕ) → listedIn f (v ∷ old) n ≡ listedIn f old n || among (v .items) n
+  unfolding listedIn any lists among
+  closed-listed h n = rw h (or-swap (some n && member n (v .items)) (any (λ w. f w && (some n && member n (w .items))) old))
+
+  closed-returned : f v ≡ true → rises (λ v. v .number) (v ∷ old) ≡ true → (r : Row) → backRow (listedIn f old) (v .asker) (v .items) (returned f old r) ≡ returned f (v ∷ old) r
+  unfolding backRow returned oldestListing
+  closed-returned h up r =
+      ap (λ (m : ℕ). cond (not (listedIn f old m) && among (v .items) m) (placedIn (inClist (v .asker)) (returned f old r)) (returned f old r)) (returned-number f old r)
+      ∙ ap (λ (b : Bool). cond (not b && among (v .items) n) (placedIn (inClist (v .asker)) (returned f old r)) (returned f old r)) (sym (oldest-some f n old (rises-rest (λ v. v .number) v old up)))
+      ∙ pick (some (w .number)) refl (among (v .items) n)
+      ∙ ap (λ (b : Bool). cond (some (latest b .number)) (placedIn (inClist (latest b .asker)) r) r) (sym (lists-it h))
+    where
+      n : ℕ
+      n = r .number
+
+      w : Request
+      w = oldestListing f n old
+
+      latest : Bool → Request
+      latest b = cond (some (w .number)) w (cond b v w)
+
+      lists-it : f v ≡ true → f v && lists n v ≡ among (v .items) n
+      lists-it h = unfold lists among in rw h refl
+
+      pick : (a : Bool) → some (w .number) ≡ a → (c : Bool)
+          → cond (not a && c) (placedIn (inClist (v .asker)) (cond a (placedIn (inClist (w .asker)) r) r)) (cond a (placedIn (inClist (w .asker)) r) r)
+          ≡ cond (some (cond a w (cond c v w) .number)) (placedIn (inClist (cond a w (cond c v w) .asker)) r) r
+      pick true q c = rw q refl
+      pick false q true = let lt = rises-first (λ v. v .number) v old up in rw (pos-some (v .number) (omega arith)) refl
+      pick false q false = rw q refl
+
+pub length-trimmed : (f : Request → Bool) (g : List ℕ) (vs : List Request) → length (trimmedAll f g vs) ≡ length vs
+unfolding trimmedAll
+length-trimmed f g [] = refl
+length-trimmed f g (v ∷ vs) = ap suc (length-trimmed f g vs)
+
+-- ---- the state once the older requests are done
+module _ (g : List ℕ) (f : Request → Bool) (new : List Request) (v : Request) (old : List Request) (st : State) where
+  abbrev pub before : State
+  before = partlySettled g f (new ++ (v ∷ [])) old st
+
+  abbrev pub after : State
+  after = partlySettled g f new (v ∷ old) st
+
+  pub before-cut : before .requests ≡ new ++ (v ∷ trimmedAll f g old)
+  unfolding partlySettled
+  before-cut = append-snoc new v (trimmedAll f g old)
+
+  pub before-slot : (j : ℕ) → length old ≡ j → length (trimmedAll f g old) ≡ j
+  before-slot j e = length-trimmed f g old ∙ e
+
+  pub before-count : (n : ℕ) → n ≡ length (st .rows) → n ≡ length (before .rows)
+  unfolding partlySettled
+  before-count n e = e ∙ sym (length-map (st .rows) (returned f old))
+
+  -- marks of the rows as they were
+  pub before-marks : (b : ℕ → Bool) → slotMarks b (before .rows) ≡ slotMarks b (st .rows)
+  unfolding partlySettled
+  before-marks b = marks-map b (returned f old) (returned-number f old) (st .rows)
+
+  -- the request in its slot
+  pub before-read : (t : List ℕ) → Lies before t → (j : ℕ) → length old ≡ j → requestAt t j ≡ v
+  before-read t lie j e =
+      ap (λ (i : ℕ). requestAt t i) (sym (before-slot j e))
+      ∙ request-of-words t (length (trimmedAll f g old)) v (request-words-at lie new v (trimmedAll f g old) before-cut)
+
+  pub before-stand : all (λ e. member e (numbers (st .rows))) (nonzero (v .items)) ≡ true → all (λ e. member e (numbers (before .rows))) (nonzero (v .items)) ≡ true
+  unfolding partlySettled numbers
+  before-stand h = subst (λ (l : List ℕ). all (λ e. member e l) (nonzero (v .items)) ≡ true) (sym (keys-map (λ r. r .number) (returned f old) (returned-number f old) (st .rows))) h
+
+  -- it stays open: its list is trimmed
+  open-after : f v ≡ false → withRequests (new ++ (itemsOut (λ n. member n g || listedIn f old n) v ∷ trimmedAll f g old)) before ≡ after
+  unfolding partlySettled withRequests trimmedAll trimmed itemsOut leaves
+  open-after h =
+      λ i.
+      record {
+        rows = map (λ r. sym (open-returned f v old h r) i) (st .rows);
+        requests = new ++ (cond (sym h i) v (withItems (map (λ e. cond (member e g || listedIn f old e) 0 e) (v .items)) v) ∷ trimmedAll f g old);
+        processes = st .processes;
+        next = st .next;
+      }
+
+  pub open-settled : f v ≡ false → (t t′ : List ℕ) (back : List Bool) → SettledTo g f (new ++ (v ∷ [])) old st t back
+      → Lies (withRequests (new ++ (itemsOut (λ n. member n g || listedIn f old n) v ∷ trimmedAll f g old)) before) t′ → SettledTo g f new (v ∷ old) st t′ back
+  open-settled h t t′ back s lie =
+      record {
+        lies = subst (λ (x : State). Lies x t′) (open-after h) lie;
+        marks = s .marks ∙ (λ i. slotMarks (λ n. sym (open-listed f v old h n) i) (st .rows));
+      }
+
+  -- it closes: its ends go back
+  closed-after : f v ≡ true → rises (λ v. v .number) (v ∷ old) ≡ true → itemsBack (listedIn f old) (v .asker) (v .items) before ≡ after
+  unfolding partlySettled itemsBack withRows trimmedAll
+  closed-after h up =
+      let rows = map-map (backRow (listedIn f old) (v .asker) (v .items)) (returned f old) (st .rows) ∙ (λ i. map (λ r. closed-returned f v old h up r i) (st .rows)) in
+      let requests = append-snoc new v (trimmedAll f g old) ∙ (λ i. new ++ (cond (sym h i) v (trimmed f g old v) ∷ trimmedAll f g old)) in
+      λ i. record { rows = rows i; requests = requests i; processes = st .processes; next = st .next }
+
+  pub closed-settled : f v ≡ true → rises (λ v. v .number) (v ∷ old) ≡ true → (t : List ℕ) (back : List Bool) → WentBack (listedIn f old) (v .asker) (v .items) before t back
+      → SettledTo g f new (v ∷ old) st t back
+  closed-settled h up t back w =
+      record {
+        lies = subst (λ (x : State). Lies x t) (closed-after h up) (w .lies);
+        marks = w .marks ∙ before-marks (λ n. listedIn f old n || among (v .items) n) ∙ (λ i. slotMarks (λ n. sym (closed-listed f v old h n) i) (st .rows));
+      }
+
+-- ---- one request done, by what the two functions over its items ensure
+module _ (st : State) (sd : sound st ≡ true) (g : List ℕ) (f : Request → Bool) (new : List Request) (v : Request) (old : List Request) (cut : st .requests ≡ new ++ (v ∷ old)) (n j : ℕ)
+    (count : n ≡ length (st .rows)) (slot : length old ≡ j) (t : List ℕ) (back : List Bool) (done : SettledTo g f (new ++ (v ∷ [])) old st t back) (x : Request) (is : x ≡ requestAt t j) where
+  was : State
+  was = partlySettled g f (new ++ (v ∷ [])) old st
+
+  read : x ≡ v
+  unfolding was
+  read = is ∙ before-read g f new v old st t (done .lies) j slot
+
+  marked-back : back ≡ slotMarks (listedIn f old) (was .rows)
+  unfolding was
+  marked-back = done .marks ∙ sym (before-marks g f new v old st (listedIn f old))
+
+  pub closed-done : f v ≡ true → (t′ : List ℕ) (back′ : List Bool)
+      → ((s : State) (b : ℕ → Bool) → Lies s t → n ≡ length (s .rows) → x .asker ≤ 64 → back ≡ slotMarks b (s .rows) → WentBack b (x .asker) (x .items) s t′ back′)
+      → SettledTo g f new (v ∷ old) st t′ back′
+  unfolding was
+  closed-done h t′ back′ called =
+      let low : x .asker ≤ 64 = subst (λ (y : Request). y .asker ≤ 64) (sym read) (asker-low st (sound-open st sd) new v old cut) in
+      let went : WentBack (listedIn f old) (x .asker) (x .items) was t′ back′ = called was (listedIn f old) (done .lies) (before-count g f new v old st n count) low marked-back in
+      closed-settled g f new v old st h (requests-rise st (sound-open st sd) new v old cut) t′ back′
+      (subst (λ (y : Request). WentBack (listedIn f old) (y .asker) (y .items) was t′ back′) read went)
+
+  pub open-done : f v ≡ false → (removed : List Bool) → removed ≡ pad false 1024 (marksOf g (st .rows)) → (t′ : List ℕ)
+      → ((s : State) (r b : ℕ → Bool) (new′ old′ : List Request) → Lies s t → n ≡ length (s .rows) → s .requests ≡ new′ ++ (x ∷ old′) → length old′ ≡ j
+      → all (λ e. member e (numbers (s .rows))) (nonzero (x .items)) ≡ true → removed ≡ slotMarks r (s .rows) → back ≡ slotMarks b (s .rows)
+      → Lies (withRequests (new′ ++ (itemsOut (λ n. r n || b n) x ∷ old′)) s) t′)
+      → SettledTo g f new (v ∷ old) st t′ back
+  unfolding was
+  open-done h removed gone t′ called =
+      let stand : all (λ e. member e (numbers (was .rows))) (nonzero (x .items)) ≡ true =
+      subst (λ (y : Request). all (λ e. member e (numbers (was .rows))) (nonzero (y .items)) ≡ true) (sym read) (before-stand g f new v old st (items-stand st (sound-open st sd) new v old cut)) in
+      let here : was .requests ≡ new ++ (x ∷ trimmedAll f g old) = before-cut g f new v old st ∙ ap (λ (y : Request). new ++ (y ∷ trimmedAll f g old)) (sym read) in
+      let lies : Lies (withRequests (new ++ (itemsOut (λ n. member n g || listedIn f old n) x ∷ trimmedAll f g old)) was) t′ =
+      called was (λ n. member n g) (listedIn f old) new (trimmedAll f g old) (done .lies) (before-count g f new v old st n count) here (before-slot g f new v old st j slot) stand
+      (gone ∙ marks-of ∙ sym (before-marks g f new v old st (λ n. member n g))) marked-back in
+      open-settled g f new v old st h t t′ back done
+      (subst (λ (y : Request). Lies (withRequests (new ++ (itemsOut (λ n. member n g || listedIn f old n) y ∷ trimmedAll f g old)) was) t′) read lies)
+    where
+      marks-of : pad false 1024 (marksOf g (st .rows)) ≡ slotMarks (λ n. member n g) (st .rows)
+      marks-of = unfold slotMarks marksOf in refl
+
+-- ---- the loop
+-- no marks at all, over any number of slots
+pad-none : (k : ℕ) (l : List Bool) → length l ≤ k → any (λ b. b) l ≡ false → replicate k false ≡ pad false k l
+unfolding pad any
+pad-none zero [] h e = refl
+pad-none zero (b ∷ l) h e = absurd (not-suc-le-zero h)
+pad-none (suc k) [] h e = ap (λ (r : List Bool). false ∷ r) (pad-none k [] (omega arith) e)
+pad-none (suc k) (true ∷ l) h e = clash refl e
+pad-none (suc k) (false ∷ l) h e = ap (λ (r : List Bool). false ∷ r) (pad-none k l (le-of-suc-le-suc h) e)
+
+tested-none : {A : Type 0} (xs : List A) → any (λ b. b) (tested (λ x. false) xs) ≡ false
+unfolding tested any
+tested-none [] = refl
+tested-none (x ∷ xs) = any-append (λ b. b) (tested (λ y. false) xs) (false ∷ []) ∙ rw (tested-none xs) refl
+
+module _ (g : List ℕ) (f : Request → Bool) (st : State) where
+  abbrev pub Done : ℕ → List ℕ → List Bool → Type 0
+  Done j t back = (new old : List Request) → st .requests ≡ new ++ old → length old ≡ j → SettledTo g f new old st t back
+
+  none-done : (new : List Request) → st .requests ≡ new ++ [] → partlySettled g f new [] st ≡ st
+  unfolding partlySettled trimmedAll listedIn any
+  none-done new cut =
+      let rows : map (returned f []) (st .rows) ≡ st .rows = (λ i. map (λ r. returned-same f [] r refl i) (st .rows)) ∙ map-id (st .rows) in
+      λ i. record { rows = rows i; requests = sym cut i; processes = st .processes; next = st .next }
+
+  none-marked : (k : ℕ) → k ≡ 1024 → length (st .rows) ≤ k → replicate k false ≡ slotMarks (listedIn f []) (st .rows)
+  unfolding slotMarks listedIn any
+  none-marked k e few = pad-none k (tested (λ r. false) (st .rows)) (omega (arith, length-tested (λ r. false) (st .rows))) (tested-none (st .rows)) ∙ ap (λ (m : ℕ). pad false m (tested (λ r. false) (st .rows))) e
+
+  pub done-start : (t : List ℕ) → Lies st t → (k : ℕ) → k ≡ 1024 → Done 0 t (replicate k false)
+  done-start t lie k e new [] cut long =
+      record { lies = subst (λ (x : State). Lies x t) (sym (none-done new cut)) lie; marks = none-marked k e (omega (arith, lies-well lie .rows-fit)) }
+  done-start t lie k e new (v ∷ old) cut long = absurd (omega arith)
+
+  -- one more, by what the function over it ensures
+  pub done-turn : (j : ℕ) (t t′ : List ℕ) (back back′ : List Bool) → Done j t back
+      → ((new : List Request) (v : Request) (old : List Request) → st .requests ≡ new ++ (v ∷ old) → length old ≡ j → SettledTo g f (new ++ (v ∷ [])) old st t back → SettledTo g f new (v ∷ old) st t′ back′)
+      → Done (j + 1) t′ back′
+  done-turn j t t′ back back′ ih called new [] cut long = absurd (omega arith)
+  done-turn j t t′ back back′ ih called new (v ∷ old) cut long =
+      called new v old cut (omega arith) (ih (new ++ (v ∷ [])) old (cut ∙ sym (append-snoc new v old)) (omega arith))
+
+  pub done-end : (j : ℕ) (t : List ℕ) (back : List Bool) → length (st .requests) ≡ j → Done j t back → Lies (listsSettled g f st) t
+  unfolding listsSettled
+  done-end j t back e d = d [] (st .requests) refl e .lies
+
+  -- the mark of the request in a slot
+  pub closes-at : (closed : List Bool) → closed ≡ pad false 128 (tested f (st .requests)) → (new : List Request) (v : Request) (old : List Request) → st .requests ≡ new ++ (v ∷ old)
+      → (j : ℕ) → length old ≡ j → getD closed j false ≡ f v
+  closes-at closed e new v old cut j long =
+      ap (λ (l : List Bool). getD l j false) e
+      ∙ getD-pad false 128 (tested f (st .requests)) j
+      ∙ ap (λ (l : List Request). getD (tested f l) j false) cut
+      ∙ ap (λ (i : ℕ). getD (tested f (new ++ (v ∷ old))) i false) (sym long)
+      ∙ tested-at f new v old

@@ -1,0 +1,106 @@
+-- `lists::item_out`: the two marks at the row's slot say whether the item leaves.
+use borrow.Author.Needs.{needs}
+use Prim.Native.Nat.{suc}
+use native.Mathlib.Omega.{arith}
+use mathlib.Core.Bool.{true, false, _||_}
+use mathlib.Core.Path.{_≡_, sym, _∙_}
+use denote.Ref.{now}
+use Rattle.rows.specs.Lists.{some}
+use Rattle.rows.specs.Lies.{rowSlot}
+use Rattle.rows.proofs.Bools.{clash, and-i, pos-some}
+use Rattle.rows.proofs.Slots.{at-below, found-at, found-nothing, row-none}
+use Rattle.closing.proofs.ListsMarks.{marks-read}
+use Rattle.closing.proofs.ListsOut.{slot-here, none-zero, none-passes, out-same, out-now}
+use Rattle.closing.proofs.lists.item_out.Statement.{statement}
+use Rattle.closing.proofs.lists.item_out.Tie as tie
+
+returns : tie.Need-returns
+returns c =
+    let s = c .before .before in
+    ((λ st g b new w old lie count cut slot stands gone back. out-same lie new w old cut (λ n. g n || b n) (s .args .k) (s .args .e) (none-zero (s .args .e) (c .if1 .taken) (g (s .args .e) || b (s .args .e)))), s .pre .0)
+
+row-among-requires : tie.Need-row-among-requires
+row-among-requires c κs = search needs
+
+enum-known-i : tie.Need-enum-known-i
+enum-known-i c = search needs
+
+enum-told : tie.Need-enum-told
+enum-told c = search needs
+
+same-length : tie.Need-same-length
+same-length c = search needs
+
+returns-2 : tie.Need-returns-2
+returns-2 c =
+    let s = c .before .before .before .before .before .before in
+    let found = c .before .before .row-among in (
+      (λ st g b new w old lie count cut slot stands gone back.
+          let e = s .args .e in
+          let h : some e ≡ true = pos-some e (omega (arith, c .before .before .before .before .if1 .left)) in
+          clash (stands h) (row-none (st .rows) e (found-nothing (rowSlot (st .rows) e) (found .ensures .1 st lie count) (c .enum-told .given .1)))),
+      s .pre .0,
+    )
+
+element-copy-out-if2 : tie.Need-element-copy-out-if2
+element-copy-out-if2 c =
+    omega (arith, at-below (c .before .before .before .before .before .before .before .args .n) (c .before .before .before .row-among .result) (c .before .i .given .0 .0) (c .before .before .before .row-among .ensures .0) (c .before .i .given .1))
+
+element-copy-out-if2-2 : tie.Need-element-copy-out-if2-2
+element-copy-out-if2-2 c =
+    omega (arith, at-below (c .before .before .before .before .before .before .before .before .args .n) (c .before .before .before .before .row-among .result) (c .before .before .i .given .0 .0) (c .before .before .before .before .row-among .ensures .0) (c .before .before .i .given .1))
+
+clear-item-requires : tie.Need-clear-item-requires
+clear-item-requires c κs = search needs
+
+same-length-2 : tie.Need-same-length-2
+same-length-2 c = search needs
+
+returns-3 : tie.Need-returns-3
+returns-3 c =
+    let s = c .before .before .before .before .before .before .before .before .before .before .before .before .before .before in
+    let found = c .before .before .before .before .before .before .before .before .before .before .row-among in
+    let cleared = c .before .before .clear-item in
+    let i = c .before .before .before .before .before .before .before .before .i .given .0 .0 in (
+      (λ st g b new w old lie count cut slot stands gone back.
+          let e = s .args .e in
+          let at-i : rowSlot (st .rows) e ≡ suc i = found-at (rowSlot (st .rows) e) i (found .ensures .1 st lie count) (c .before .before .before .before .before .before .before .before .i .given .1) in
+          let goes : g e || b e ≡ true = sym (marks-read g b (st .rows) e i at-i (now (s .args .removed)) (now (s .args .back)) gone back) ∙ c .before .before .before .before .if2 .taken in
+          out-now lie new w old cut (λ n. g n || b n) (s .args .k) (s .args .e) (and-i (some e) (g e || b e) (pos-some e (omega (arith, c .before .before .before .before .before .before .before .before .before .before .before .before .if1 .left))) goes) (cleared .last .0)
+          (cleared .ensures .0 st (w .number) lie (slot-here lie new w old cut (s .args .j) slot))),
+      cleared .ensures .1,
+    )
+
+same-length-3 : tie.Need-same-length-3
+same-length-3 c = search needs
+
+returns-4 : tie.Need-returns-4
+returns-4 c =
+    let s = c .before .before .before .before .before .before .before .before .before .before in
+    let found = c .before .before .before .before .before .before .row-among in
+    let i = c .before .before .before .before .i .given .0 .0 in (
+      (λ st g b new w old lie count cut slot stands gone back.
+          let e = s .args .e in
+          let at-i : rowSlot (st .rows) e ≡ suc i = found-at (rowSlot (st .rows) e) i (found .ensures .1 st lie count) (c .before .before .before .before .i .given .1) in
+          let stays : g e || b e ≡ false = sym (marks-read g b (st .rows) e i at-i (now (s .args .removed)) (now (s .args .back)) gone back) ∙ c .if2 .left in
+          out-same lie new w old cut (λ n. g n || b n) (s .args .k) (s .args .e) (none-passes (some e) (g e || b e) stays)),
+      s .pre .0,
+    )
+
+pub item-out-spec : {M : Type 1} → statement M
+item-out-spec =
+    tie.close
+    (tie.spec
+    returns
+    row-among-requires
+    enum-known-i
+    enum-told
+    same-length
+    returns-2
+    element-copy-out-if2
+    element-copy-out-if2-2
+    clear-item-requires
+    same-length-2
+    returns-3
+    same-length-3
+    returns-4)

@@ -1,0 +1,85 @@
+-- `lists::items_back`: the invariant is that the first k items went back.
+use borrow.Author.Needs.{needs}
+use Prim.Native.Nat.{ℕ, _≤_, _-_}
+use native.Mathlib.Omega.{arith}
+use mathlib.Core.Bool.{Bool, _||_}
+use mathlib.Core.Path.{_≡_, sym, _∙_}
+use denote.Ref.{now}
+use lib.ListN.{length, take, length-map}
+use Rattle.rows.specs.Tables.{State}
+use Rattle.rows.specs.Lies.{Lies}
+use Rattle.closing.specs.Lists.{slotMarks, among, itemsBack, WentBack}
+use Rattle.closing.proofs.ListsBack.{back-start, back-count, back-marks, back-turn, back-end}
+use Rattle.closing.proofs.lists.items_back.Statement.{statement}
+use Rattle.closing.proofs.lists.items_back.Tie as tie
+
+abbrev Inv-loop : tie.InvT-loop
+Inv-loop t₀ n back₀ items asker k₀ t back k =
+    (k ≤ 4) × (length t ≡ 11265)
+    × ((st : State) (b : ℕ → Bool) → Lies st t₀ → n ≡ length (st .rows) → asker ≤ 64 → back₀ ≡ slotMarks b (st .rows) → WentBack b asker (take k items) st t back)
+
+abbrev μ-loop : tie.MeasureT-loop
+μ-loop t₀ n back₀ items asker k₀ t back k = 4 - k
+
+loop-holds : tie.Need-loop-holds Inv-loop μ-loop
+loop-holds c =
+    let s = c .before .before in
+    (search needs, s .pre .0, (λ st b lie count few m. back-start b (s .args .v .asker) st (now (s .args .t)) (now (s .args .back)) lie m))
+
+mul-e : tie.Need-mul-e Inv-loop μ-loop
+mul-e c = search needs
+
+array-read-e : tie.Need-array-read-e Inv-loop μ-loop
+array-read-e c = search needs
+
+item-back-requires : tie.Need-item-back-requires Inv-loop μ-loop
+item-back-requires c κs = search needs
+
+add-k : tie.Need-add-k Inv-loop μ-loop
+add-k c = search needs
+
+loop-less : tie.Need-loop-less Inv-loop μ-loop
+loop-less c = search needs
+
+loop-again : tie.Need-loop-again Inv-loop μ-loop
+loop-again c =
+    let s = c .before .before .before .before .before .before .before .before .before in
+    let l = c .before .before .before .before .before .before .loop in
+    let called = c .before .before .item-back in
+    let v = s .args .v in
+    let four : length (v .items) ≡ 4 = sym (length-map (v .items) (λ x. x)) ∙ s .good .1 .1 .0 .1 .1 .1 .1 .1 .1 .0 .1 .0 .1 in (
+      search needs,
+      called .ensures .1,
+      (λ st b lie count few m.
+          let w = l .inv .2 st b lie count few m in
+          back-turn b (v .asker) st (v .items) (l .k) (omega (arith, c .before .before .before .before .before .loop-test .taken)) (called .last .0) (called .last .1 .1 .1 .1 .0)
+          (called .ensures .0 (itemsBack b (v .asker) (take (l .k) (v .items)) st) (λ n. b n || among (take (l .k) (v .items)) n) (w .lies)
+          (back-count b (v .asker) st (take (l .k) (v .items)) (s .args .n) count) few (back-marks b (v .asker) st (take (l .k) (v .items)) (l .t) (l .back) w))),
+    )
+
+same-length : tie.Need-same-length Inv-loop μ-loop
+same-length c = search needs
+
+returns : tie.Need-returns Inv-loop μ-loop
+returns c =
+    let s = c .before .before .before .before in
+    let l = c .before .loop in
+    let v = s .args .v in
+    let four : length (v .items) ≡ 4 = sym (length-map (v .items) (λ x. x)) ∙ s .good .1 .1 .0 .1 .1 .1 .1 .1 .1 .0 .1 .0 .1 in
+    ((λ st b lie count few m. back-end b (v .asker) st (v .items) (l .k) (omega (arith, c .loop-test .left)) (l .t) (l .back) (l .inv .2 st b lie count few m)), l .inv .1)
+
+pub items-back-spec : {M : Type 1} → statement M
+items-back-spec =
+    tie.close
+    (tie.spec
+    Inv-loop
+    μ-loop
+    loop-holds
+    mul-e
+    array-read-e
+    item-back-requires
+    add-k
+    loop-less
+    loop-again
+    same-length
+    returns)

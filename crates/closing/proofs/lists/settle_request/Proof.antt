@@ -1,0 +1,56 @@
+-- `lists::settle_request`: the request that is read is the one in the slot; its mark says which of the two functions is called.
+use borrow.Author.Needs.{needs}
+use mathlib.Core.Path.{sym, _∙_}
+use denote.Ref.{now}
+use Rattle.closing.proofs.ListsPass.{closed-done, open-done}
+use Rattle.closing.proofs.lists.settle_request.Statement.{statement}
+use Rattle.closing.proofs.lists.settle_request.Tie as tie
+
+request-at-requires : tie.Need-request-at-requires
+request-at-requires c κs = search needs
+
+items-back-requires : tie.Need-items-back-requires
+items-back-requires c κs = search needs
+
+items-out-requires : tie.Need-items-out-requires
+items-out-requires c κs = search needs
+
+same-length : tie.Need-same-length
+same-length c = search needs
+
+returns : tie.Need-returns
+returns c =
+    let s = c .before .before .before .before .before .before .before .before .before in
+    let read = c .before .before .before .before .before .before .request-at in
+    let called = c .before .before .items-back in (
+      (λ st g f new v old sd count cut slot closes gone done.
+          closed-done st sd g f new v old cut (s .args .n) (s .args .j) count slot (now (s .args .t)) (now (s .args .back)) done (read .result) (read .ensures) (sym closes ∙ c .before .before .before .before .before .if1 .taken)
+          (called .last .0) (called .last .1 .1 .1 .0) (called .ensures .0)),
+      called .ensures .1,
+    )
+
+same-length-2 : tie.Need-same-length-2
+same-length-2 c = search needs
+
+returns-2 : tie.Need-returns-2
+returns-2 c =
+    let s = c .before .before .before .before .before .before .before .before .before in
+    let read = c .before .before .before .before .before .before .request-at in
+    let called = c .before .before .items-out in (
+      (λ st g f new v old sd count cut slot closes gone done.
+          open-done st sd g f new v old cut (s .args .n) (s .args .j) count slot (now (s .args .t)) (now (s .args .back)) done (read .result) (read .ensures) (sym closes ∙ c .before .before .before .before .before .if1 .left)
+          (now (s .args .removed)) gone (called .last .0) (called .ensures .0)),
+      called .ensures .1,
+    )
+
+pub settle-request-spec : {M : Type 1} → statement M
+settle-request-spec =
+    tie.close
+    (tie.spec
+    request-at-requires
+    items-back-requires
+    items-out-requires
+    same-length
+    returns
+    same-length-2
+    returns-2)
