@@ -21,7 +21,7 @@ use Rattle.rows.proofs.Slots.{lies-well, slot-number}
 use Rattle.changes.specs.Changes.{itemCleared}
 use Rattle.closing.specs.Closing.{withItems}
 use Rattle.closing.specs.Lists.{itemOut, itemsOut}
-use Rattle.closing.proofs.KeptLists.{member-nonzero}
+use Rattle.rows.proofs.Lists.{member-nonzero}
 
 -- ---- a change of one element of a list whose keys rise
 module _ {A : Type 0} (key : A → ℕ) (h : A → A) where
