@@ -7,7 +7,7 @@ use std::path::Path;
 /// Theorems in one module.
 const MODULE: usize = 25;
 
-const HELP: &str = include_str!("Help.antt");
+const HELP: &str = include_str!("help.txt");
 
 /// What every module of cases uses.
 const HEAD: &str = "-- Cases that the model wrote.
