@@ -1,5 +1,7 @@
 // The questions that go back along the sources: does a row come from a request, is it lent; and is an end on loan.
 // "A copy goes when the port under it goes, and a port goes when its operation row goes": row question and port question call each other, and the depth falls.
+use rows::codes::GREATEST_DEPTH;
+use rows::codes::is_end;
 use rows::find::requests_in;
 use rows::layout::KIND;
 use rows::layout::NUMBER;
@@ -13,26 +15,11 @@ ghost use mathlib.Core.Bool.{true};
 ghost use Prim.Native.Nat.{ℕ, suc, _<_};
 ghost use lib.ListN.{length};
 ghost use Rattle.rows.specs.Lists.{member, some};
-ghost use Rattle.rows.specs.Codes.{isEnd};
 ghost use Rattle.rows.specs.Tables.{State, onLoan, comesFrom, isLent};
 ghost use Rattle.rows.specs.Sound.{sound};
 ghost use Rattle.rows.specs.Layout.{requestAt};
 ghost use Rattle.rows.specs.Lies.{Lies, rowSlot};
 ghost use Rattle.questions.specs.Questions.{Touched, Reaches, PortReaches};
-
-// codes of kinds, and the greatest depth, as specs/Codes.antt and specs/Limits.antt define them
-const A_CLIENT_END: u32 = 3;
-
-const A_SERVER_END: u32 = 4;
-
-const GREATEST_DEPTH: u32 = 12;
-
-// Whether a kind is that of an end of a port.
-fn is_end(kind: u32) -> bool
-    ensures { λ r. ⌜ r ≡ isEnd kind ⌝ }
-{
-    (kind == A_CLIENT_END) | (kind == A_SERVER_END)
-}
 
 // Whether the request in slot j lists e.
 fn lists_item(t: &[u32], j: usize, e: u32) -> bool

@@ -12,6 +12,7 @@ use rows::codes::LAST_CLIST;
 use rows::codes::LAST_NODE;
 use rows::codes::LAST_OPERATION;
 use rows::codes::THE_SYSTEM;
+use rows::codes::is_end;
 use rows::records::listed;
 ghost use mathlib.Core.Bool.{_||_};
 ghost use mathlib.Core.List.{List};
@@ -21,7 +22,7 @@ ghost use lib.Dec.{eqb};
 ghost use lib.ListN.{length};
 ghost use Rattle.rows.specs.declared.Row.{Row};
 ghost use Rattle.rows.specs.declared.Request.{Request};
-ghost use Rattle.rows.specs.Codes.{isCopied, isEnd, isNode, isClist, within as isWithin};
+ghost use Rattle.rows.specs.Codes.{isCopied, isNode, isClist, within as isWithin};
 ghost use Rattle.rows.specs.Tables.{requestOf, lists};
 ghost use Rattle.rows.specs.Sound.{objectInRange, rightInRange, placeInRange, isOpening, isRegistered, isHeld, isPortEnd, isLentCopy, sourceRight, depthRight, copyMatches, isPairedWith, copyListed};
 ghost use Rattle.rows.specs.Layout.{recordsIn};
@@ -33,13 +34,6 @@ pub fn is_copied(kind: u32) -> bool
     ensures { λ r. ⌜ r ≡ isCopied kind ⌝ }
 {
     (kind == AN_OPERATION) | (kind == A_SUBDIRECTORY)
-}
-
-// Ruled out: a subdirectory; any other code.
-pub fn is_end(kind: u32) -> bool
-    ensures { λ r. ⌜ r ≡ isEnd kind ⌝ }
-{
-    (kind == A_CLIENT_END) | (kind == A_SERVER_END)
 }
 
 // Ruled out: place 0; place 33.
