@@ -1,10 +1,6 @@
-// Sound tables, tested on the lent words: one function a clause, and all of them on words of any length and any content.
+// Sound tables, tested on words of any length and any content: how rows and requests are laid, the process records and the next number, and all clauses together.
 
 // ---- functions
-pub mod holder_clauses;
 pub mod laid;
 pub mod record_clauses;
-pub mod request_clauses;
-pub mod row_clauses;
-pub mod rows_sound;
 pub mod sound;

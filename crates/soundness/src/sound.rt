@@ -1,12 +1,12 @@
 // Sound tables as words, of any length and any content: first that the words are laid, then the clauses, group by group.
-use crate::holder_clauses::holders_sound;
 use crate::laid::requests_laid;
 use crate::laid::rows_laid;
 use crate::record_clauses::next_sound;
 use crate::record_clauses::processes_placed;
 use crate::record_clauses::records_sound;
-use crate::request_clauses::requests_sound;
-use crate::rows_sound::rows_sound;
+use loanclauses::holder_clauses::holders_sound;
+use loanclauses::request_clauses::requests_sound;
+use rowclauses::rows_sound::rows_sound;
 use rows::find::requests_in;
 use rows::find::rows_in;
 use rows::layout::LENGTH;
