@@ -38,14 +38,14 @@ fn is_seed(t: &[u32], i: usize, s: Seed) -> bool
 }
 
 // The mark at source word s: a slot plus 1, 0 for none.
-fn mark_at(marks: &[bool; 1024], s: u32) -> bool
+fn mark_at(marks: &[bool], s: u32) -> bool
     ensures { λ r. ⌜ r ≡ markAt (now (marks .entry)) s ⌝ }
 {
     let at = s as usize;
     if at == 0 {
         return false;
     }
-    if 1024 < at {
+    if marks.len() < at {
         return false;
     }
     marks[at - 1]
