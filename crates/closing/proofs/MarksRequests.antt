@@ -1,12 +1,12 @@
 -- Marks of the requests that close: by the number, and by the mark of the port, which on sound tables is a row.
 use Prim.Native.Nat.{ℕ, suc, _+_}
 use mathlib.Core.Bool.{Bool, true, false, _||_}
-use mathlib.Core.List.{List, [], _∷_, _++_}
+use mathlib.Core.List.{List, _∷_, _++_}
 use mathlib.Core.Path.{_≡_, refl, ap, sym, subst, _∙_}
 use lib.Dec.{ltb, eqb}
 use lib.ListN.{length, getD}
 use Rattle.rows.specs.declared.Request.{Request}
-use Rattle.rows.specs.Lists.{firstWith, rises, all, member, pad}
+use Rattle.rows.specs.Lists.{rises, all, member, pad}
 use Rattle.rows.specs.Codes.{isClient}
 use Rattle.rows.specs.Tables.{State, noRequest, rowOf, numbers}
 use Rattle.rows.specs.Sound.{sound, portStands, portsStand}

@@ -1,12 +1,12 @@
 -- Marks of the rows that a closing removes: a row's words tell whether it is a seed, and at the slots of its sources stand their marks.
 use Prim.Native.Nat.{ℕ, zero, suc, _+_, _-_, _<_}
 use mathlib.Core.Bool.{Bool, true, false, _&&_, _||_}
-use mathlib.Core.List.{List, [], _∷_, _++_}
+use mathlib.Core.List.{List, _∷_, _++_}
 use mathlib.Core.Path.{_≡_, refl, ap, sym, subst, _∙_}
 use mathlib.Core.Logic.{inl, inr}
 use native.Mathlib.Omega.{arith}
 use lib.Dec.{eqb}
-use lib.ListN.{length, getD, List·getD-eq-default}
+use lib.ListN.{length, getD, set, List·getD-eq-default}
 use Rattle.rows.specs.declared.Row.{Row}
 use Rattle.rows.specs.Lists.{any, rises, member, pad}
 use Rattle.rows.specs.Limits.{rowSlots}
@@ -27,7 +27,7 @@ use Rattle.closing.specs.Lists.{slotMarks}
 use Rattle.closing.specs.Seeds.{seedOf, markAt}
 use Rattle.closing.proofs.KeptMarks.{any-source}
 use Rattle.closing.proofs.ListsMarks.{mark-read}
-use Rattle.closing.proofs.MarksPass.{member-cut, first-cut}
+use Rattle.closing.proofs.MarksPass.{member-cut, first-cut, MarkedTo, marked-turn, marked-end}
 
 -- ---- the mark at a source word
 pub mark-past : (ms : List Bool) (s : ℕ) → length ms < s → false ≡ markAt ms s
@@ -67,7 +67,7 @@ or-assoc true b c = refl
 or-assoc false b c = refl
 
 module _ {st : State} {t : List ℕ} (lie : Lies st t) (s : Seed) where
-  abbrev pub gone : List ℕ
+  abbrev gone : List ℕ
   gone = marked (seedOf s) (st .rows)
 
   none-gone : member 0 gone ≡ false
@@ -100,7 +100,7 @@ module _ {st : State} {t : List ℕ} (lie : Lies st t) (s : Seed) where
           let rise : rises (λ r. r .number) old ≡ true = rises-rest (λ r. r .number) r old (rises-old (λ r. r .number) new (r ∷ old) up) in
           ap (markAt ms) (source-rises old rise n ∙ slot) ∙ mark-read (λ n. member n gone) old n i slot ms so-far
 
-      pub row-marked : (i : ℕ) → length old ≡ i → (a b c : Bool) → a ≡ seedOf s (rawRow t i) → b ≡ markAt ms (getD t (6144 + i) 0) → c ≡ markAt ms (getD t (7168 + i) 0)
+      row-marked : (i : ℕ) → length old ≡ i → (a b c : Bool) → a ≡ seedOf s (rawRow t i) → b ≡ markAt ms (getD t (6144 + i) 0) → c ≡ markAt ms (getD t (7168 + i) 0)
           → (a || b) || c ≡ member (r .number) gone
       row-marked i long a b c p q w =
           let words = row-words-at lie new r old cut in
@@ -109,3 +109,18 @@ module _ {st : State} {t : List ℕ} (lie : Lies st t) (s : Seed) where
           let source : b ≡ member (r .source) gone = q ∙ ap (λ (j : ℕ). markAt ms (getD t (6144 + j) 0)) (sym long) ∙ ap (markAt ms) (words .source) ∙ source-mark (r .source) (among .0) in
           let via : c ≡ member (r .via) gone = w ∙ ap (λ (j : ℕ). markAt ms (getD t (7168 + j) 0)) (sym long) ∙ ap (markAt ms) (words .via) ∙ source-mark (r .via) (among .1) in
           or-assoc a b c ∙ (λ i. seed i || (source i || via i)) ∙ sym row-gone
+
+  -- ---- the pass over the rows
+  abbrev pub Gone : Row → Bool
+  Gone r = member (r .number) gone
+
+  pub rows-turn : (i : ℕ) (ms : List Bool) (a b c : Bool) → i < 1024 → MarkedTo Gone 1024 (st .rows) i ms
+      → a ≡ seedOf s (rawRow t i) → b ≡ markAt ms (getD t (6144 + i) 0) → c ≡ markAt ms (getD t (7168 + i) 0)
+      → MarkedTo Gone 1024 (st .rows) (i + 1) (set ms i ((a || b) || c))
+  unfolding marksOf
+  rows-turn i ms a b c h so-far p q w =
+      marked-turn Gone 1024 (st .rows) i ms ((a || b) || c) h so-far (λ new r old cut long m. row-marked new r old cut ms m i long a b c p q w)
+
+  pub rows-end : (i : ℕ) (ms : List Bool) → length (st .rows) ≡ i → MarkedTo Gone 1024 (st .rows) i ms → ms ≡ pad false 1024 (marksOf gone (st .rows))
+  unfolding marksOf
+  rows-end i ms e d = marked-end Gone 1024 (st .rows) i ms e d
