@@ -29,3 +29,5 @@ pub mod ListsOut
 pub mod ListsPass
 -- the pass, and then what is marked removed: what closing leaves
 pub mod ListsSettled
+-- process records that go home: one, and the loop over all
+pub mod HomesAll
