@@ -1,6 +1,6 @@
 -- One record goes home or stays, and the loop over all of them: the first records are done, the others as they were.
 use Prim.Native.Nat.{ℕ, zero, suc, _+_, _≤_, _<_}
-use mathlib.Core.Bool.{Bool, true, false, cond, _&&_}
+use mathlib.Core.Bool.{Bool, true, cond, _&&_}
 use mathlib.Core.List.{List, [], _∷_, map}
 use mathlib.Core.Path.{_≡_, refl, sym, ap, subst, _∙_}
 use mathlib.Core.Logic.{⊎-elim}
@@ -28,15 +28,10 @@ module _ (g : List ℕ) (x : Process) where
   unfolding homed some
   homed-none z = ap (λ n. cond (some n && member n g) (record { prime = x .prime; active = x .prime; through = 0 }) x) (sym z)
 
-  homed-told : (b : Bool) → some (x .through) ≡ true → member (x .through) g ≡ b → cond b (record { prime = x .prime; active = x .prime; through = 0 }) x ≡ homed g x
+  -- b tells whether the row is removed
+  pub homed-told : (b : Bool) → some (x .through) ≡ true → member (x .through) g ≡ b → cond b (record { prime = x .prime; active = x .prime; through = 0 }) x ≡ homed g x
   unfolding homed
   homed-told b sm e = rw (sm, e) refl
-
-  pub homed-gone : some (x .through) ≡ true → member (x .through) g ≡ true → record { prime = x .prime; active = x .prime; through = 0 } ≡ homed g x
-  homed-gone sm e = homed-told true sm e
-
-  pub homed-stays : some (x .through) ≡ true → member (x .through) g ≡ false → x ≡ homed g x
-  homed-stays sm e = homed-told false sm e
 
 -- ---- sound tables: the row through which a process stands in its node is there
 through-there : (rs : List Row) (p : ℕ) (x : Process) → processPlaced rs p x ≡ true → some (x .through) ≡ true → member (x .through) (numbers rs) ≡ true

@@ -31,3 +31,5 @@ pub mod ListsPass
 pub mod ListsSettled
 -- process records that go home: one, and the loop over all
 pub mod HomesAll
+-- the parts of a closing joined
+pub mod CloseParts

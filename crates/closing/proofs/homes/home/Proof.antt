@@ -1,9 +1,10 @@
 -- `homes::home`: of the three ends, the second has the row removed, the third has not.
 use borrow.Author.Needs.{needs}
 use borrow.Author.Tests.{ne-eqb}
+use mathlib.Core.Bool.{true, false}
 use mathlib.Core.Path.{sym, _∙_}
 use Rattle.rows.proofs.Bools.{not-zero}
-use Rattle.closing.proofs.HomesAll.{homed-none, homed-gone, homed-stays}
+use Rattle.closing.proofs.HomesAll.{homed-none, homed-told}
 use Rattle.closing.proofs.homes.home.Statement.{statement}
 use Rattle.closing.proofs.homes.home.Tie as tie
 
@@ -17,13 +18,13 @@ returns-2 : tie.Need-returns-2
 returns-2 c =
     let x = c .before .before .before .before .before .args .x in
     let sm = not-zero (x .through) (ne-eqb (x .through) 0 (c .before .before .if1 .left)) in
-    λ st g lie count gone there. homed-gone g x sm (sym (c .before .is-marked .ensures st g lie count gone (there sm)) ∙ c .if2 .taken)
+    λ st g lie count gone there. homed-told g x true sm (sym (c .before .is-marked .ensures st g lie count gone (there sm)) ∙ c .if2 .taken)
 
 returns-3 : tie.Need-returns-3
 returns-3 c =
     let x = c .before .before .before .before .before .args .x in
     let sm = not-zero (x .through) (ne-eqb (x .through) 0 (c .before .before .if1 .left)) in
-    λ st g lie count gone there. homed-stays g x sm (sym (c .before .is-marked .ensures st g lie count gone (there sm)) ∙ c .if2 .left)
+    λ st g lie count gone there. homed-told g x false sm (sym (c .before .is-marked .ensures st g lie count gone (there sm)) ∙ c .if2 .left)
 
 pub home-spec : {M : Type 1} → statement M
 home-spec = tie.close (tie.spec returns is-marked-requires returns-2 returns-3)
