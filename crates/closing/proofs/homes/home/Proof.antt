@@ -1,4 +1,4 @@
--- `homes::home`: of the three ends, the second has the row removed, the third has not.
+-- `homes::home`: of the three returns, the first has no row, the second a removed one, the third one that stays.
 use borrow.Author.Needs.{needs}
 use borrow.Author.Tests.{ne-eqb}
 use mathlib.Core.Bool.{true, false}
