@@ -35,3 +35,7 @@ pub mod MarksPass
 pub mod MarksRows
 -- the marks of the requests that close
 pub mod MarksRequests
+-- process records that go home: one, and the loop over all
+pub mod HomesAll
+-- the parts of a closing joined
+pub mod CloseParts
