@@ -22,7 +22,7 @@ use Rattle.closing.specs.Closing.{closes}
 use Rattle.closing.proofs.KeptFacts.{Stands, end-at, copy-at, copy-listed, lists-open, request-number}
 
 -- one of the sources is in m, which has no 0
-any-source : (m : List ℕ) → member 0 m ≡ false → (r : Row) → any (λ s. member s m) (sources r) ≡ member (r .source) m || member (r .via) m
+pub any-source : (m : List ℕ) → member 0 m ≡ false → (r : Row) → any (λ s. member s m) (sources r) ≡ member (r .source) m || member (r .via) m
 unfolding sources nonzero filter any some
 any-source m z r = pick (ltb 0 (r .source)) refl (ltb 0 (r .via)) refl
   where

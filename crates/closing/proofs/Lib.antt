@@ -29,3 +29,13 @@ pub mod ListsOut
 pub mod ListsPass
 -- the pass, and then what is marked removed: what closing leaves
 pub mod ListsSettled
+-- a pass that marks one slot more, over any list
+pub mod MarksPass
+-- the marks of the rows that a closing removes
+pub mod MarksRows
+-- the marks of the requests that close
+pub mod MarksRequests
+-- process records that go home: one, and the loop over all
+pub mod HomesAll
+-- the parts of a closing joined
+pub mod CloseParts

@@ -17,7 +17,7 @@ use Rattle.closing.specs.Closing.{closes, placedIn, returned, withItems,
 use Rattle.closing.specs.Lists.{trimmedAll, partlySettled, listsSettled}
 use Rattle.closing.proofs.KeptLookups.{returned-keeps}
 use Rattle.closing.proofs.ListsMarks.{tested-eq, tested-map}
-use Rattle.closing.proofs.ListsPass.{returned-number, length-trimmed}
+use Rattle.closing.proofs.ListsPass.{returned-number}
 
 -- a test of requests that does not look at their items, as `closes` is
 abbrev pub Blind : (Request → Bool) → Type 0
@@ -47,10 +47,6 @@ module _ (g : List ℕ) (f : Request → Bool) (st : State) where
   pub lists-rows : length (listsSettled g f st .rows) ≡ length (st .rows)
   unfolding listsSettled partlySettled
   lists-rows = length-map (st .rows) (returned f (st .requests))
-
-  pub lists-requests : length (listsSettled g f st .requests) ≡ length (st .requests)
-  unfolding listsSettled partlySettled
-  lists-requests = length-trimmed f g (st .requests)
 
   -- the same rows are marked, and the marks stay closed
   pub lists-marks : marksOf g (listsSettled g f st .rows) ≡ marksOf g (st .rows)

@@ -2,4 +2,5 @@
 pub mod Closing
 pub mod Steps
 pub mod Lists
+pub mod Seeds
 pub mod Computes

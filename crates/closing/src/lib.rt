@@ -1,4 +1,14 @@
 // Closing of a request and of a port: the definitions stand in specs/Closing.antt.
 
+// The rows that a closing starts from: those that bear a request, the two ends of a port (its client end's number), one row.
+pub enum Seed {
+    Bearing(u32),
+    EndsOf(u32),
+    Only(u32),
+}
+
 // ---- functions
+pub mod close;
+pub mod homes;
 pub mod lists;
+pub mod marks;

@@ -1,0 +1,56 @@
+-- `close::close`: the marks are those of what comes from the seeds; records and words follow from them.
+use borrow.Author.Needs.{needs}
+use mathlib.Core.List.{map}
+use mathlib.Core.Path.{sym, ap, _∙_}
+use denote.Ref.{now}
+use Rattle.rows.specs.Tables.{marked}
+use Rattle.rows.proofs.LiesWords.{lies-rows}
+use Rattle.closing.specs.Closing.{homed, settled, closing}
+use Rattle.closing.specs.Seeds.{seedOf, closingFrom}
+use Rattle.closing.proofs.CloseParts.{lies-closed}
+use Rattle.closing.proofs.close.close.Statement.{statement}
+use Rattle.closing.proofs.close.close.Tie as tie
+
+rows-in-requires : tie.Need-rows-in-requires
+rows-in-requires c κs = search needs
+
+mark-rows-requires : tie.Need-mark-rows-requires
+mark-rows-requires c κs = search needs
+
+home-all-requires : tie.Need-home-all-requires
+home-all-requires c κs = search needs
+
+take-out-requires : tie.Need-take-out-requires
+take-out-requires c κs = search needs
+
+same-length : tie.Need-same-length
+same-length c = search needs
+
+returns : tie.Need-returns
+unfolding closingFrom closing settled
+returns c =
+    let s = c .before .before .before .before .before .before .before .before .before .before .before .before .before in
+    let counted = c .before .before .before .before .before .before .before .before .before .before .rows-in in
+    let marks = c .before .before .before .before .before .before .before .before .mark-rows in
+    let home = c .before .before .before .before .before .home-all in
+    let out = c .before .before .take-out in (
+      (λ st sd lie same.
+          let g = marked (seedOf (s .args .s)) (st .rows) in
+          let count = counted .ensures .0 ∙ lies-rows lie in
+          let gone = marks .ensures st lie count in (
+            out .ensures .0 st g sd lie count gone (lies-closed (seedOf (s .args .s)) st (now (s .args .t)) lie),
+            home .ensures st g sd lie count gone same ∙ ap (map (homed g)) (sym same),
+          )),
+      out .ensures .1,
+    )
+
+pub close-spec : {M : Type 1} → statement M
+close-spec =
+    tie.close
+    (tie.spec
+    rows-in-requires
+    mark-rows-requires
+    home-all-requires
+    take-out-requires
+    same-length
+    returns)

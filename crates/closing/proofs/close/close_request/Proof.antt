@@ -1,0 +1,19 @@
+-- `close::close_request`: its seeds are those of `closeRequest`.
+use borrow.Author.Needs.{needs}
+use Rattle.closing.specs.Closing.{closeRequest}
+use Rattle.closing.specs.Seeds.{seedOf, closesOf, closingFrom}
+use Rattle.closing.proofs.close.close_request.Statement.{statement}
+use Rattle.closing.proofs.close.close_request.Tie as tie
+
+close-requires : tie.Need-close-requires
+close-requires c κs = search needs
+
+same-length : tie.Need-same-length
+same-length c = search needs
+
+returns : tie.Need-returns
+unfolding closingFrom seedOf closesOf closeRequest
+returns c = c .before .before .close .ensures
+
+pub close-request-spec : {M : Type 1} → statement M
+close-request-spec = tie.close (tie.spec close-requires same-length returns)

@@ -1,0 +1,58 @@
+-- `close::take_out`: the words that each of the four calls leaves are what the next one is told of.
+use borrow.Author.Needs.{needs}
+use mathlib.Core.Path.{_∙_}
+use denote.Ref.{now}
+use Rattle.rows.proofs.LiesWords.{lies-requests}
+use Rattle.closing.specs.Closing.{closes}
+use Rattle.closing.specs.Seeds.{closesOf}
+use Rattle.closing.proofs.ListsSettled.{closes-blind}
+use Rattle.closing.proofs.CloseParts.{taken-out}
+use Rattle.closing.proofs.close.take_out.Statement.{statement}
+use Rattle.closing.proofs.close.take_out.Tie as tie
+
+requests-in-requires : tie.Need-requests-in-requires
+requests-in-requires c κs = search needs
+
+mark-requests-requires : tie.Need-mark-requests-requires
+mark-requests-requires c κs = search needs
+
+settle-lists-requires : tie.Need-settle-lists-requires
+settle-lists-requires c κs = search needs
+
+remove-rows-requires : tie.Need-remove-rows-requires
+remove-rows-requires c κs = search needs
+
+remove-requests-requires : tie.Need-remove-requests-requires
+remove-requests-requires c κs = search needs
+
+same-length : tie.Need-same-length
+same-length c = search needs
+
+returns : tie.Need-returns
+returns c =
+    let s = c .before .before .before .before .before .before .before .before .before .before .before .before .before .before .before .before .before .before .before in
+    let counted = c .before .before .before .before .before .before .before .before .before .before .before .before .before .before .before .before .requests-in in
+    let marks = c .before .before .before .before .before .before .before .before .before .before .before .before .before .before .mark-requests in
+    let lists = c .before .before .before .before .before .before .before .before .before .before .before .settle-lists in
+    let rows = c .before .before .before .before .before .before .before .remove-rows in
+    let requests = c .before .before .remove-requests in (
+      (λ st g sd lie count gone under.
+          let f = closes (closesOf (s .args .s)) g in
+          let long = counted .ensures .0 ∙ lies-requests lie in
+          let ended = marks .ensures st g sd lie count long gone in
+          taken-out (s .args .n) (now (s .args .removed)) (marks .result) (lists .last .0) (rows .last .0) (requests .last .0) (rows .ensures) (requests .ensures) g f (closes-blind (closesOf (s .args .s)) g) st
+          count gone ended under (lists .ensures .0 st g f sd lie count long gone ended)),
+      requests .kept .0 ∙ rows .kept .0 ∙ lists .ensures .1,
+    )
+
+pub take-out-spec : {M : Type 1} → statement M
+take-out-spec =
+    tie.close
+    (tie.spec
+    requests-in-requires
+    mark-requests-requires
+    settle-lists-requires
+    remove-rows-requires
+    remove-requests-requires
+    same-length
+    returns)

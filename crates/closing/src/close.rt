@@ -1,0 +1,77 @@
+// Closing in place: of a request, of a port, and the drop of one row.
+use crate::Seed;
+use crate::homes::home_all;
+use crate::lists::settle_lists;
+use crate::marks::mark_requests;
+use crate::marks::mark_rows;
+use changes::remove;
+use rows::Process;
+use rows::find;
+ghost use mathlib.Core.Path.{_≡_};
+ghost use mathlib.Core.Bool.{true, false};
+ghost use mathlib.Core.List.{List};
+ghost use Prim.Native.Nat.{ℕ, _≤_};
+ghost use lib.ListN.{length};
+ghost use Rattle.rows.specs.Lists.{pad};
+ghost use Rattle.rows.specs.Tables.{State};
+ghost use Rattle.rows.specs.Sound.{sound};
+ghost use Rattle.rows.specs.Lies.{Lies};
+ghost use Rattle.changes.specs.Marks.{marksOf, closedUnder};
+ghost use Rattle.closing.specs.Closing.{closes, settled, closeRequest, closePort, dropRow};
+ghost use Rattle.closing.specs.Seeds.{closesOf, closingFrom};
+
+// The marked rows are removed and the requests close: lists and places first, while slots are as the marks have them.
+fn take_out(t: &mut [u32], n: usize, s: Seed, removed: &[bool; 1024])
+    requires { ⌜ (length (now t) ≡ 11265) × (n ≤ 1024) ⌝ }
+    ensures out { λ _. ⌜ ((st : State) (g : List ℕ) → sound st ≡ true → Lies st (now (t .entry)) → n ≡ length (st .rows) → now (removed .entry) ≡ pad false 1024 (marksOf g (st .rows)) → closedUnder g (st .rows) ≡ true → Lies (settled g (closes (closesOf s) g) st) (now (t .exit))) ⌝ }
+    ensures long { λ _. ⌜ length (now (t .exit)) ≡ 11265 ⌝ }
+{
+    let m = find::requests_in(t);
+    let closed = mark_requests(t, n, m, removed, s);
+    settle_lists(t, n, m, removed, &closed);
+    remove::remove_rows(t, n, removed);
+    remove::remove_requests(t, &closed);
+}
+
+// The closing from its seeds.
+fn close(t: &mut [u32], ps: [Process; 64], s: Seed) -> [Process; 64]
+    requires { ⌜ length (now t) ≡ 11265 ⌝ }
+    ensures closed { λ r. ⌜ ((st : State) → sound st ≡ true → Lies st (now (t .entry)) → st .processes ≡ ps → (Lies (closingFrom s st) (now (t .exit)) × (r ≡ closingFrom s st .processes))) ⌝ }
+    ensures long { λ _. ⌜ length (now (t .exit)) ≡ 11265 ⌝ }
+{
+    let n = find::rows_in(t);
+    let removed = mark_rows(t, n, s);
+    let homed = home_all(t, n, ps, &removed);
+    take_out(t, n, s, &removed);
+    homed
+}
+
+// Closes request q.
+// Ruled out: an end left in a newer list; the newest instead of the oldest asker; a cascade that stops after one port; a process left in a removed directory.
+pub fn close_request(t: &mut [u32], ps: [Process; 64], q: u32) -> [Process; 64]
+    requires { ⌜ length (now t) ≡ 11265 ⌝ }
+    ensures closed { λ r. ⌜ ((st : State) → sound st ≡ true → Lies st (now (t .entry)) → st .processes ≡ ps → (Lies (closeRequest q st) (now (t .exit)) × (r ≡ closeRequest q st .processes))) ⌝ }
+    ensures long { λ _. ⌜ length (now (t .exit)) ≡ 11265 ⌝ }
+{
+    close(t, ps, Seed::Bearing(q))
+}
+
+// Closes the port whose client end is c.
+// Ruled out: one end stays; the request open on the port stays.
+pub fn close_port(t: &mut [u32], ps: [Process; 64], c: u32) -> [Process; 64]
+    requires { ⌜ length (now t) ≡ 11265 ⌝ }
+    ensures closed { λ r. ⌜ ((st : State) → sound st ≡ true → Lies st (now (t .entry)) → st .processes ≡ ps → (Lies (closePort c st) (now (t .exit)) × (r ≡ closePort c st .processes))) ⌝ }
+    ensures long { λ _. ⌜ length (now (t .exit)) ≡ 11265 ⌝ }
+{
+    close(t, ps, Seed::EndsOf(c))
+}
+
+// Drops the row e.
+// Ruled out: a copy of the row stays; the row's source goes.
+pub fn drop_row(t: &mut [u32], ps: [Process; 64], e: u32) -> [Process; 64]
+    requires { ⌜ length (now t) ≡ 11265 ⌝ }
+    ensures dropped { λ r. ⌜ ((st : State) → sound st ≡ true → Lies st (now (t .entry)) → st .processes ≡ ps → (Lies (dropRow e st) (now (t .exit)) × (r ≡ dropRow e st .processes))) ⌝ }
+    ensures long { λ _. ⌜ length (now (t .exit)) ≡ 11265 ⌝ }
+{
+    close(t, ps, Seed::Only(e))
+}

@@ -1,0 +1,109 @@
+// Marks of what a closing takes: the rows that come from its seeds, and the requests that close with them.
+use crate::Seed;
+use rows::Found;
+use rows::codes::is_end;
+use rows::find;
+use rows::layout::KIND;
+use rows::layout::NUMBER;
+use rows::layout::OBJECT;
+use rows::layout::Q_NUMBER;
+use rows::layout::Q_PORT;
+use rows::layout::REQUEST;
+use rows::layout::SOURCE;
+use rows::layout::VIA;
+ghost use mathlib.Core.Path.{_≡_};
+ghost use mathlib.Core.Bool.{true, false};
+ghost use mathlib.Core.List.{List};
+ghost use Prim.Native.Nat.{ℕ, _≤_, _<_};
+ghost use lib.ListN.{length};
+ghost use Rattle.rows.specs.Lists.{pad, member};
+ghost use Rattle.rows.specs.Tables.{State, numbers, marked};
+ghost use Rattle.rows.specs.Sound.{sound};
+ghost use Rattle.rows.specs.Lies.{Lies, rawRow};
+ghost use Rattle.changes.specs.Marks.{tested, marksOf};
+ghost use Rattle.closing.specs.Closing.{closes};
+ghost use Rattle.closing.specs.Seeds.{seedOf, closesOf, markAt};
+
+// Whether the row in slot i is a seed.
+// Ruled out: an operation row whose manager's number is the port's; a row that bears the number of another request.
+fn is_seed(t: &[u32], i: usize, s: Seed) -> bool
+    requires { ⌜ (length (now t) ≡ 11265) × (i < 1024) ⌝ }
+    ensures { λ r. ⌜ r ≡ seedOf s (rawRow (now (t .entry)) i) ⌝ }
+{
+    match s {
+        Seed::Bearing(q) => t[REQUEST + i] == q,
+        Seed::EndsOf(c) => is_end(t[KIND + i]) & (t[OBJECT + i] == c),
+        Seed::Only(e) => t[NUMBER + i] == e,
+    }
+}
+
+// The mark at source word s: a slot plus 1, 0 for none.
+fn mark_at(marks: &[bool], s: u32) -> bool
+    ensures { λ r. ⌜ r ≡ markAt (now (marks .entry)) s ⌝ }
+{
+    let at = s as usize;
+    if at == 0 {
+        return false;
+    }
+    if marks.len() < at {
+        return false;
+    }
+    marks[at - 1]
+}
+
+// The rows that are removed: the seeds and all that comes from them, in one pass from the oldest row on.
+// Ruled out: a copy whose second source alone is removed stays; a row of which nothing is removed goes.
+pub fn mark_rows(t: &[u32], n: usize, s: Seed) -> [bool; 1024]
+    requires { ⌜ (length (now t) ≡ 11265) × (n ≤ 1024) ⌝ }
+    ensures { λ r. ⌜ ((st : State) → Lies st (now (t .entry)) → n ≡ length (st .rows) → r ≡ pad false 1024 (marksOf (marked (seedOf s) (st .rows)) (st .rows))) ⌝ }
+{
+    let mut removed = [false; 1024];
+    let mut i = 0;
+    while i < n {
+        let seed = is_seed(t, i, s);
+        let source = mark_at(&removed, t[SOURCE + i]);
+        let via = mark_at(&removed, t[VIA + i]);
+        removed[i] = seed | source | via;
+        i += 1;
+    }
+    removed
+}
+
+// Whether the number is that of the request that a closing starts from.
+fn closes_first(s: Seed, number: u32) -> bool
+    ensures { λ r. ⌜ r ≡ member number (closesOf s) ⌝ }
+{
+    match s {
+        Seed::Bearing(q) => number == q,
+        Seed::EndsOf(_) => false,
+        Seed::Only(_) => false,
+    }
+}
+
+// Whether the row numbered e is marked; a number that no row has is not.
+pub fn is_marked(t: &[u32], n: usize, e: u32, marks: &[bool; 1024]) -> bool
+    requires { ⌜ (length (now t) ≡ 11265) × (n ≤ 1024) ⌝ }
+    ensures { λ r. ⌜ ((st : State) (g : List ℕ) → Lies st (now (t .entry)) → n ≡ length (st .rows) → now (marks .entry) ≡ pad false 1024 (marksOf g (st .rows)) → member e (numbers (st .rows)) ≡ true → r ≡ member e g) ⌝ }
+{
+    let Found::At(i) = find::row_among(t, n, e) else {
+        return false;
+    };
+    marks[i]
+}
+
+// The requests that close: the one that the closing starts from, and those whose port is removed.
+// Ruled out: a request whose port went stays open; one closes because an item of its list is removed.
+pub fn mark_requests(t: &[u32], n: usize, m: usize, removed: &[bool; 1024], s: Seed) -> [bool; 128]
+    requires { ⌜ (length (now t) ≡ 11265) × (n ≤ 1024) × (m ≤ 128) ⌝ }
+    ensures { λ r. ⌜ ((st : State) (g : List ℕ) → sound st ≡ true → Lies st (now (t .entry)) → n ≡ length (st .rows) → m ≡ length (st .requests) → now (removed .entry) ≡ pad false 1024 (marksOf g (st .rows)) → r ≡ pad false 128 (tested (closes (closesOf s) g) (st .requests))) ⌝ }
+{
+    let mut closed = [false; 128];
+    let mut j = 0;
+    while j < m {
+        let first = closes_first(s, t[Q_NUMBER + j]);
+        let port = is_marked(t, n, t[Q_PORT + j], removed);
+        closed[j] = first | port;
+        j += 1;
+    }
+    closed
+}
