@@ -40,9 +40,9 @@ module _ (s : Seed) (n : ℕ) where
   first-row x e = rw e refl
 
 -- ---- the mark of a row, by its number
-module _ (st : State) (g : List ℕ) (n : ℕ) (there : member n (numbers (st .rows)) ≡ true) where
-  pub unmarked-absent : rowSlot (st .rows) n ≡ 0 → false ≡ member n g
-  unmarked-absent e = clash there (row-none (st .rows) n e)
+module _ (st : State) (g : List ℕ) (n : ℕ) where
+  pub unmarked-absent : member n (numbers (st .rows)) ≡ true → rowSlot (st .rows) n ≡ 0 → false ≡ member n g
+  unmarked-absent there e = clash there (row-none (st .rows) n e)
 
   pub marked-found : (ms : List Bool) → ms ≡ pad false 1024 (marksOf g (st .rows)) → (i : ℕ) → rowSlot (st .rows) n ≡ suc i → getD ms i false ≡ member n g
   unfolding slotMarks marksOf

@@ -1,6 +1,6 @@
 -- Marks of the rows that a closing removes: a row's words tell whether it is a seed, and at the slots of its sources stand their marks.
 use Prim.Native.Nat.{ℕ, zero, suc, _+_, _-_, _<_}
-use mathlib.Core.Bool.{Bool, true, false, _&&_, _||_}
+use mathlib.Core.Bool.{Bool, true, false, _&&_, _||_, or-assoc}
 use mathlib.Core.List.{List, _∷_, _++_}
 use mathlib.Core.Path.{_≡_, refl, ap, sym, subst, _∙_}
 use mathlib.Core.Logic.{inl, inr}
@@ -62,10 +62,6 @@ seed-slotted (EndsOf c) r old = refl
 seed-slotted (Only e) r old = refl
 
 -- ---- one row, over the older ones
-or-assoc : (a b c : Bool) → (a || b) || c ≡ a || (b || c)
-or-assoc true b c = refl
-or-assoc false b c = refl
-
 module _ {st : State} {t : List ℕ} (lie : Lies st t) (s : Seed) where
   abbrev gone : List ℕ
   gone = marked (seedOf s) (st .rows)

@@ -32,7 +32,7 @@ returns-2 c =
     let a = c .before .before .before .before .before .before .args in
     let found = c .before .before .before .before .row-among in
     let i = c .before .before .i .given .0 .0 in
-    λ st g lie count marked there. marked-found st g (a .e) there (now (a .marks)) marked i (found-at (rowSlot (st .rows) (a .e)) i (found .ensures .1 st lie count) (c .before .before .i .given .1))
+    λ st g lie count marked there. marked-found st g (a .e) (now (a .marks)) marked i (found-at (rowSlot (st .rows) (a .e)) i (found .ensures .1 st lie count) (c .before .before .i .given .1))
 
 pub is-marked-spec : {M : Type 1} → statement M
 is-marked-spec =
