@@ -39,7 +39,11 @@ fn comes_agrees(tables: &Tables, answers: &mut Answers) {
         for (slot, row) in tables.rows.iter().enumerate() {
             let expected = from.contains(&row.number);
             let number = row.number;
-            assert_eq!(comes(&t, slot, request), expected, "{number} from {request}");
+            assert_eq!(
+                comes(&t, slot, request),
+                expected,
+                "{number} from {request}"
+            );
             answers.count(expected);
         }
     }
