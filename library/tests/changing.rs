@@ -27,9 +27,11 @@ const CHANGES: [(&str, Change); 8] = [
     ("requests removed", requests_removed),
 ];
 
-/// A place among so many; none if there is none.
+/// A slot among so many, often the first or the last; none if there is none.
 fn one_of(rng: &mut Rng, count: usize) -> Option<usize> {
-    (count > 0).then(|| rng.below(count))
+    let last = count.checked_sub(1)?;
+    let any = rng.below(count);
+    rng.pick(&[0, last, any, any])
 }
 
 fn any_place(rng: &mut Rng) -> Place {
