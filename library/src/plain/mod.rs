@@ -1,0 +1,3 @@
+//! Plain Rust over the same words, to compare the proved functions' speed with.
+
+pub mod closing_tables;
