@@ -24,6 +24,10 @@ const CLIENT: u32 = 3;
 /// The place of a process's c-list is this and its number.
 const C_LIST: u32 = 100;
 
+/// The lent runs, of the right lengths.
+type Words = [u32; TABLES_WORDS];
+type Records = [u32; PROCESS_WORDS];
+
 /// What a closing starts from.
 #[derive(Clone, Copy)]
 enum Seed {
@@ -56,14 +60,17 @@ struct Marks {
 }
 
 fn close(t: &mut [u32], p: &mut [u32], seed: Seed) {
-    if t.len() != TABLES_WORDS || p.len() != PROCESS_WORDS {
+    let (Ok(t), Ok(p)) = (<&mut Words>::try_from(t), <&mut Records>::try_from(p)) else {
         return;
-    }
+    };
     let marks = marks(t, seed);
     send_home(t, p, &marks);
     settle_lists(t, &marks);
-    remove_rows(t, &marks);
-    remove_requests(t, &marks);
+    let (rows, requests) = t.split_at_mut(Q_NUMBER);
+    let requests = &mut requests[..REQUEST_COLUMNS * REQUESTS];
+    rename_sources(rows, &marks.removed[..marks.rows]);
+    take_out::<ROWS>(rows, &marks.removed[..marks.rows]);
+    take_out::<REQUESTS>(requests, &marks.closed[..marks.requests]);
 }
 
 /// How many slots of a column of numbers are in use: those before the first 0.
@@ -71,43 +78,51 @@ fn used(numbers: &[u32]) -> usize {
     numbers.partition_point(|number| *number != 0)
 }
 
-/// The slot of a row that stands.
-fn slot(t: &[u32], rows: usize, number: u32) -> Option<usize> {
-    t[NUMBER..NUMBER + rows].binary_search(&number).ok()
-}
-
-impl Marks {
-    fn removes(&self, t: &[u32], number: u32) -> bool {
-        slot(t, self.rows, number).is_some_and(|slot| self.removed[slot])
-    }
-}
-
 /// Sources lie in older slots, so one pass finds all that comes from the seeds.
-fn marks(t: &[u32], seed: Seed) -> Marks {
+fn marks(t: &Words, seed: Seed) -> Marks {
+    let rows = used(&t[NUMBER..NUMBER + ROWS]);
+    let requests = used(&t[Q_NUMBER..Q_NUMBER + REQUESTS]);
+    let removed = match seed {
+        Seed::Request(q) => coming_from(t, rows, |at| t[REQUEST + at] == q),
+        Seed::Port(c) => coming_from(t, rows, |at| t[KIND + at] >= CLIENT && t[OBJECT + at] == c),
+        Seed::Row(e) => coming_from(t, rows, |at| t[NUMBER + at] == e),
+    };
     let mut marks = Marks {
-        rows: used(&t[NUMBER..NUMBER + ROWS]),
-        requests: used(&t[Q_NUMBER..Q_NUMBER + REQUESTS]),
-        removed: [false; ROWS],
+        rows,
+        requests,
+        removed,
         closed: [false; REQUESTS],
     };
-    for at in 0..marks.rows {
-        let is_seed = match seed {
-            Seed::Request(q) => t[REQUEST + at] == q,
-            Seed::Port(c) => t[KIND + at] >= CLIENT && t[OBJECT + at] == c,
-            Seed::Row(e) => t[NUMBER + at] == e,
-        };
-        let from = |source: u32| source != 0 && marks.removed[source as usize - 1];
-        marks.removed[at] = is_seed || from(t[SOURCE + at]) || from(t[VIA + at]);
-    }
-    for at in 0..marks.requests {
+    for at in 0..requests {
         let is_seed = matches!(seed, Seed::Request(q) if t[Q_NUMBER + at] == q);
         marks.closed[at] = is_seed || marks.removes(t, t[Q_PORT + at]);
     }
     marks
 }
 
+fn coming_from(t: &Words, rows: usize, is_seed: impl Fn(usize) -> bool) -> [bool; ROWS] {
+    // by the words of sources: the mark of a slot is at the slot plus 1
+    let mut removed = [false; ROWS + 1];
+    for at in 0..rows {
+        let (source, via) = (t[SOURCE + at] as usize, t[VIA + at] as usize);
+        removed[at + 1] = is_seed(at) | removed[source] | removed[via];
+    }
+    std::array::from_fn(|at| removed[at + 1])
+}
+
+impl Marks {
+    /// The slot of a row that stands.
+    fn slot(&self, t: &Words, number: u32) -> Option<usize> {
+        t[NUMBER..NUMBER + self.rows].binary_search(&number).ok()
+    }
+
+    fn removes(&self, t: &Words, number: u32) -> bool {
+        self.slot(t, number).is_some_and(|slot| self.removed[slot])
+    }
+}
+
 /// Who went through a removed row goes to its prime node.
-fn send_home(t: &[u32], p: &mut [u32], marks: &Marks) {
+fn send_home(t: &Words, p: &mut Records, marks: &Marks) {
     for record in p.chunks_exact_mut(3) {
         if record[2] != 0 && marks.removes(t, record[2]) {
             record[1] = record[0];
@@ -119,12 +134,14 @@ fn send_home(t: &[u32], p: &mut [u32], marks: &Marks) {
 /// From the oldest request on: an end listed in one that closes goes to its
 /// asker, if it did not go to an older one; it and what is removed leave the
 /// lists of the others.
-fn settle_lists(t: &mut [u32], marks: &Marks) {
+fn settle_lists(t: &mut Words, marks: &Marks) {
     let mut returned = [false; ROWS];
     for at in 0..marks.requests {
-        for item in 0..ITEMS {
-            let word = Q_ITEMS + item * REQUESTS + at;
-            let Some(slot) = slot(t, marks.rows, t[word]) else {
+        for item in (Q_ITEMS + at..).step_by(REQUESTS).take(ITEMS) {
+            if t[item] == 0 {
+                continue;
+            }
+            let Some(slot) = marks.slot(t, t[item]) else {
                 continue;
             };
             let left = marks.removed[slot] || returned[slot];
@@ -133,26 +150,15 @@ fn settle_lists(t: &mut [u32], marks: &Marks) {
                     t[PLACE + slot] = C_LIST + t[Q_ASKER + at];
                     returned[slot] = true;
                 }
-                (false, true) => t[word] = 0,
+                (false, true) => t[item] = 0,
                 _ => {}
             }
         }
     }
 }
 
-fn remove_rows(t: &mut [u32], marks: &Marks) {
-    let removed = &marks.removed[..marks.rows];
-    let Some(first) = removed.iter().position(|removed| *removed) else {
-        return;
-    };
-    rename_sources(t, removed, first);
-    for column in t[..Q_NUMBER].chunks_exact_mut(ROWS) {
-        take_out(column, removed, first);
-    }
-}
-
 /// The words of sources come to stand for the slots after the removal.
-fn rename_sources(t: &mut [u32], removed: &[bool], first: usize) {
+fn rename_sources(rows: &mut [u32], removed: &[bool]) {
     let mut slot_after = [0; ROWS + 1];
     let mut kept = 0;
     for (word, removed) in slot_after[1..].iter_mut().zip(removed) {
@@ -160,32 +166,28 @@ fn rename_sources(t: &mut [u32], removed: &[bool], first: usize) {
         *word = kept;
     }
     for start in [SOURCE, VIA] {
-        for source in &mut t[start + first..start + removed.len()] {
+        for source in &mut rows[start..start + removed.len()] {
             *source = slot_after[*source as usize];
         }
     }
 }
 
-fn remove_requests(t: &mut [u32], marks: &Marks) {
-    let closed = &marks.closed[..marks.requests];
-    let Some(first) = closed.iter().position(|closed| *closed) else {
-        return;
-    };
-    let words = REQUEST_COLUMNS * REQUESTS;
-    for column in t[Q_NUMBER..Q_NUMBER + words].chunks_exact_mut(REQUESTS) {
-        take_out(column, closed, first);
-    }
-}
-
-/// Takes the marked words out of a column, of which the first is given; the
-/// others move down, and 0 follows.
-fn take_out(column: &mut [u32], marked: &[bool], first: usize) {
-    let mut to = first;
-    for from in first..marked.len() {
-        if !marked[from] {
-            column[to] = column[from];
-            to += 1;
+/// Takes the marked slots out of columns of so many: each run of others moves
+/// down, and 0 follows.
+fn take_out<const SLOTS: usize>(columns: &mut [u32], marked: &[bool]) {
+    let (mut from, mut to) = (0, 0);
+    for run in marked.chunk_by(|one, next| one == next) {
+        if !run[0] {
+            if to < from {
+                for column in columns.chunks_exact_mut(SLOTS) {
+                    column.copy_within(from..from + run.len(), to);
+                }
+            }
+            to += run.len();
         }
+        from += run.len();
     }
-    column[to..marked.len()].fill(0);
+    for column in columns.chunks_exact_mut(SLOTS) {
+        column[to..from].fill(0);
+    }
 }
