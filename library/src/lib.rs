@@ -4,6 +4,8 @@
 mod raw;
 
 pub mod changing;
+pub mod closing;
+pub mod plain;
 pub mod reading;
 pub mod rights;
 

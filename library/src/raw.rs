@@ -38,4 +38,9 @@ extern "C" {
     pub fn kernel_append_request(t: *mut u32, t_len: usize, count: usize, w: *const RequestFields);
     pub fn kernel_remove_rows(t: *mut u32, t_len: usize, count: usize, marks: *const RowMarks);
     pub fn kernel_remove_requests(t: *mut u32, t_len: usize, marks: *const RequestMarks);
+
+    // closings.rt
+    pub fn kernel_close_request(t: *mut u32, t_len: usize, p: *mut u32, p_len: usize, q: u32);
+    pub fn kernel_close_port(t: *mut u32, t_len: usize, p: *mut u32, p_len: usize, c: u32);
+    pub fn kernel_drop_row(t: *mut u32, t_len: usize, p: *mut u32, p_len: usize, e: u32);
 }

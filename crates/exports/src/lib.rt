@@ -3,6 +3,7 @@
 // ---- functions
 pub mod asking;
 pub mod changing;
+pub mod closings;
 pub mod lookups;
 pub mod reading;
 pub mod rights;

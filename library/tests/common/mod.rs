@@ -1,6 +1,10 @@
 //! Sound tables for the tests: small ones of random sessions, and full ones.
 #![allow(dead_code)]
 
+pub mod built;
+pub mod closings;
+pub mod features;
+
 use model::compare::full::{with_requests, with_rows};
 use model::limits::{REQUESTS, ROWS};
 use model::random::{self, Profile, PROFILES};
