@@ -72,6 +72,14 @@ module _ {A : Type 0} where
   keep-take d (true ∷ ms) (x ∷ l) (suc i) h e = keep-take d ms l i (le-of-suc-le-suc h) e
   keep-take d (false ∷ ms) (x ∷ l) (suc i) h e = ap (λ (t : List A). x ∷ t) (keep-take d ms l i (le-of-suc-le-suc h) e)
 
+  keep-unmarked : (ms : List Bool) (l : List A) (n : ℕ) → ((i : ℕ) → i < n → getD ms i false ≡ false) → keep ms (take n l) ≡ take n l
+  unfolding keep
+  keep-unmarked [] l n f = refl
+  keep-unmarked (m ∷ ms) l zero f = refl
+  keep-unmarked (m ∷ ms) [] (suc n) f = refl
+  keep-unmarked (true ∷ ms) (x ∷ l) (suc n) f = absurd (true≢false (f 0 (suc-le-suc zero-le)))
+  keep-unmarked (false ∷ ms) (x ∷ l) (suc n) f = ap (λ (t : List A). x ∷ t) (keep-unmarked ms l n (λ i h. f (suc i) (suc-le-suc h)))
+
   -- marks that are padded with false mark nothing more
   pub keep-pad : (n : ℕ) (ms : List Bool) (l : List A) → keep (pad false n ms) l ≡ keep ms l
   unfolding keep pad
@@ -112,8 +120,8 @@ module _ {A : Type 0} (d : A) (ms : List Bool) (l₀ : List A) where
     pub front : take j l ≡ keep ms (take i l₀)
     pub rest : drop i l ≡ drop i l₀
 
-  pub gather-start : Passed l₀ 0 0
-  gather-start = record { len = refl; back = zero-le; front = sym (keep-nil ms); rest = refl }
+  pub gather-start : (n : ℕ) → ((i : ℕ) → i < n → getD ms i false ≡ false) → Passed l₀ n n
+  gather-start n f = record { len = refl; back = le-refl n; front = sym (keep-unmarked ms l₀ n f); rest = refl }
 
   module _ (l : List A) (i j : ℕ) (p : Passed l i j) (h : i < length l₀) where
     rest-more : drop (i + 1) (set l j (getD l i d)) ≡ drop (i + 1) l₀

@@ -1,4 +1,5 @@
 // Removal of marked rows and of marked requests, in place: what is left moves to the front, 0 comes after it.
+use rows::find::requests_in;
 use rows::layout::DEPTH;
 use rows::layout::NEXT;
 use rows::layout::Q_NUMBER;
@@ -17,15 +18,32 @@ ghost use Rattle.rows.specs.Tables.{State};
 ghost use Rattle.rows.specs.Lies.{Lies, withRows, withRequests};
 ghost use Rattle.changes.specs.Marks.{tested, keep, marksOf, closedUnder, compacted, compactedParts, movedTo, remapped};
 
-// Moves what is not marked of the first words to the front, and says how many that are.
-fn gather(column: &mut [u32], marks: &[bool], count: usize) -> usize
-    requires { ⌜ (count ≤ length (now column)) × (count ≤ length (now marks)) ⌝ }
+// How many marks stand before the first that is set.
+fn unmarked(marks: &[bool], count: usize) -> usize
+    requires { ⌜ count ≤ length (now marks) ⌝ }
+    ensures few { λ r. ⌜ r ≤ count ⌝ }
+    ensures clear { λ r. ⌜ ((i : ℕ) → i < r → getD (now (marks .entry)) i false ≡ false) ⌝ }
+{
+    let mut i = 0;
+    while i < count {
+        if marks[i] {
+            return i;
+        }
+        i += 1;
+    }
+    i
+}
+
+// Moves what is not marked of the first words to the front, and says how many that are. Nothing is marked before the place from.
+fn gather(column: &mut [u32], marks: &[bool], from: usize, count: usize) -> usize
+    requires sizes { ⌜ (from ≤ count) × (count ≤ length (now column)) × (count ≤ length (now marks)) ⌝ }
+    requires clear { ⌜ ((i : ℕ) → i < from → getD (now marks) i false ≡ false) ⌝ }
     ensures few { λ r. ⌜ r ≤ count ⌝ }
     ensures front { λ r. ⌜ take r (now (column .exit)) ≡ keep (now (marks .entry)) (take count (now (column .entry))) ⌝ }
     ensures rest { λ _. ⌜ drop count (now (column .exit)) ≡ drop count (now (column .entry)) ⌝ }
 {
-    let mut i = 0;
-    let mut j = 0;
+    let mut i = from;
+    let mut j = from;
     while i < count {
         column[j] = column[i];
         if !marks[i] {
@@ -48,11 +66,13 @@ fn clear(column: &mut [u32], from: usize, to: usize)
     }
 }
 
-fn compact_column(column: &mut [u32], marks: &[bool], count: usize)
-    requires { ⌜ (count ≤ length (now column)) × (count ≤ length (now marks)) ⌝ }
+// Nothing is marked before the place from.
+fn compact_column(column: &mut [u32], marks: &[bool], from: usize, count: usize)
+    requires sizes { ⌜ (from ≤ count) × (count ≤ length (now column)) × (count ≤ length (now marks)) ⌝ }
+    requires clear { ⌜ ((i : ℕ) → i < from → getD (now marks) i false ≡ false) ⌝ }
     ensures { λ _. ⌜ now (column .exit) ≡ compacted (now (marks .entry)) count (now (column .entry)) ⌝ }
 {
-    let left = gather(column, marks, count);
+    let left = gather(column, marks, from, count);
     clear(column, left, count);
 }
 
@@ -61,11 +81,12 @@ fn compact_columns(part: &mut [u32], size: usize, columns: usize, marks: &[bool]
     requires { ⌜ (length (now part) ≡ columns * size) × (count ≤ size) × (count ≤ length (now marks)) ⌝ }
     ensures { λ _. ⌜ now (part .exit) ≡ compactedParts (now (marks .entry)) count size columns (now (part .entry)) ⌝ }
 {
+    let from = unmarked(marks, count);
     let mut c = 0;
     while c < columns {
         let a = c * size;
         let e = a + size;
-        compact_column(&mut part[a..e], marks, count);
+        compact_column(&mut part[a..e], marks, from, count);
         c += 1;
     }
 }
@@ -129,5 +150,6 @@ pub fn remove_requests(t: &mut [u32], marks: &[bool; 128])
     requires { ⌜ length (now t) ≡ 11265 ⌝ }
     ensures { λ _. ⌜ ((st : State) (f : Request → Bool) → Lies st (now (t .entry)) → now (marks .entry) ≡ pad false 128 (tested f (st .requests)) → Lies (withRequests (filter (λ v. not (f v)) (st .requests)) st) (now (t .exit))) ⌝ }
 {
-    compact_columns(&mut t[Q_NUMBER..NEXT], REQUESTS, 8, marks, REQUESTS);
+    let count = requests_in(t);
+    compact_columns(&mut t[Q_NUMBER..NEXT], REQUESTS, 8, marks, count);
 }

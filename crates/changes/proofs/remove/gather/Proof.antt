@@ -12,13 +12,13 @@ use Rattle.changes.proofs.remove.gather.Statement.{statement}
 use Rattle.changes.proofs.remove.gather.Tie as tie
 
 abbrev Inv-loop : tie.InvT-loop
-Inv-loop column₀ marks count i₀ j₀ column i j = (i ≤ count) × (j ≤ i) × Passed 0 marks column₀ column i j
+Inv-loop column₀ marks from count i₀ j₀ column i j = (i ≤ count) × (j ≤ i) × Passed 0 marks column₀ column i j
 
 abbrev μ-loop : tie.MeasureT-loop
-μ-loop column₀ marks count i₀ j₀ column i j = count - i
+μ-loop column₀ marks from count i₀ j₀ column i j = count - i
 
 loop-holds : tie.Need-loop-holds Inv-loop μ-loop
-loop-holds c = (search needs, search needs, gather-start 0 _ _)
+loop-holds c = (search needs, search needs, gather-start 0 _ _ _ (c .pre .1))
 
 mul-column : tie.Need-mul-column Inv-loop μ-loop
 mul-column c = search needs
