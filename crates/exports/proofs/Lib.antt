@@ -1,0 +1,3 @@
+-- Laws behind the exported functions. One line a file:
+-- answers as C passes them
+pub mod Answers
