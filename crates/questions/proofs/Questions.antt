@@ -17,17 +17,13 @@ use Rattle.rows.specs.Tables.{State, noRow, rowOf, numbers, sources, depthOver,
 use Rattle.rows.specs.Sound.{rowsRise, sound, isOpening, isRegistered, isHeld, isPortEnd, isLentCopy, sourceRight, sourcesRight, depthRight, depthsRight}
 use Rattle.rows.specs.Lies.{Lies, rowSlot}
 use Rattle.questions.specs.Questions.{touches, Touched, Reaches, ViaReaches, PortReaches}
-use Rattle.rows.proofs.Bools.{false-of, clash, and-l, and-r, or-r, some-pos, pos-some, any-eq}
+use Rattle.rows.proofs.Bools.{false-of, clash, and-l, and-r, or-r, or-false, some-pos, pos-some, any-eq}
 use Rattle.rows.proofs.Keyed.{olderOf, each-first, older-first, older-key, rises-range}
 use Rattle.rows.proofs.Sound.{Sound, sound-open}
 use Rattle.rows.proofs.RowSources.{Among, Shape, opening, registered, held, port-end, lent-copy, shape, shape-sources}
 use Rattle.rows.proofs.Marking.{marked-stands, marked-reaches, marked-closed}
 use Rattle.rows.proofs.Standing.{standing-shape, sources-older}
 use Rattle.rows.proofs.Slots.{slot-le, slot-there, lies-well, row-found, row-words, source-of, via-of}
-
-or-none : (b : Bool) → b || false ≡ b
-or-none true = refl
-or-none false = refl
 
 -- ---- what is asked of the row in slot i, in its words
 module _ (t : List ℕ) (i q : ℕ) where
@@ -59,7 +55,7 @@ module _ (t : List ℕ) (i q : ℕ) where
       (λ st n lie e.
       let w = row-words lie n i e in
       let none : rowOf (st .rows) n .request ≡ 0 = sym (w .request) ∙ h in
-      rw (none, ← w .kind) (d st n lie e ∙ sym (or-none (isEnd (getD t (1024 + i) 0) && onLoan (st .requests) (rowOf (st .rows) n .number)))))
+      rw (none, ← w .kind) (d st n lie e ∙ sym (or-false (isEnd (getD t (1024 + i) 0) && onLoan (st .requests) (rowOf (st .rows) n .number)))))
 
   pub touched-loan : (r : Bool) → q ≡ 0 → getD t (9216 + i) 0 ≡ 0 → isEnd (getD t (1024 + i) 0) ≡ true
       → ((st : State) → Lies st t → some (getD t (0 + i) 0) ≡ true → r ≡ onLoan (st .requests) (getD t (0 + i) 0))
@@ -88,7 +84,7 @@ any-nonzero P z (suc a) ns = rw (pos-some (suc a) (suc-le-suc zero-le)) refl
 
 any-sources : (P : ℕ → Bool) → P 0 ≡ false → (r : Row) → any P (sources r) ≡ P (r .source) || P (r .via)
 unfolding sources any nonzero filter
-any-sources P z r = any-nonzero P z (r .source) (r .via ∷ []) ∙ ap (λ (b : Bool). P (r .source) || b) (any-nonzero P z (r .via) [] ∙ or-none (P (r .via)))
+any-sources P z r = any-nonzero P z (r .source) (r .via ∷ []) ∙ ap (λ (b : Bool). P (r .source) || b) (any-nonzero P z (r .via) [] ∙ or-false (P (r .via)))
 
 -- an end is no copy
 no-copy : (k : ℕ) → isClient k ≡ true → isCopied k ≡ true → ⊥
@@ -266,7 +262,7 @@ module _ (t : List ℕ) (i q d : ℕ) where
         sym
         (step st n so lie (e ∙ at) deep
         ∙ rw (← itself st n so lie (e ∙ at) deep false h, ← via st n so lie (e ∙ at) deep false g)
-        (or-none (reaches (touches st q) (st .rows) (rowOf (st .rows) n .source)) ∙ sym (source st n so lie (e ∙ at) deep r k)))
+        (or-false (reaches (touches st q) (st .rows) (rowOf (st .rows) n .source)) ∙ sym (source st n so lie (e ∙ at) deep r k)))
 
     pub port-source : Touched t i q false → (r : Bool) → Reaches t (getD t (6144 + i) 0) q (d - 1) r → PortReaches t s q d r
     unfolding PortReaches
@@ -274,7 +270,7 @@ module _ (t : List ℕ) (i q d : ℕ) where
         sym
         (step st n so lie (e ∙ at) deep
         ∙ rw (← itself st n so lie (e ∙ at) deep false h, client-via st (whole st n so lie (e ∙ at) deep) n (there st n so lie (e ∙ at) deep) client, reaches-zero st (whole st n so lie (e ∙ at) deep) (touches st q))
-        (or-none (reaches (touches st q) (st .rows) (rowOf (st .rows) n .source)) ∙ sym (source st n so lie (e ∙ at) deep r g)))
+        (or-false (reaches (touches st q) (st .rows) (rowOf (st .rows) n .source)) ∙ sym (source st n so lie (e ∙ at) deep r g)))
 
 -- ---- the two questions
 module _ (t : List ℕ) (e : ℕ) (st : State) (n : ℕ) (so : sound st ≡ true) (lie : Lies st t) (at : rowSlot (st .rows) n ≡ suc e) where
