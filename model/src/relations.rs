@@ -23,13 +23,16 @@ pub fn on_loan(tables: &Tables, row: &Row) -> bool {
 /// "A row is *lent* if it is on loan, bears a request's number, or has a lent
 /// source."
 pub fn lent(tables: &Tables, row: u32) -> bool {
-    let by_itself = |r: &Row| r.request != 0 || on_loan(tables, r);
-    least_set(tables, by_itself).contains(&row)
+    lent_rows(tables).contains(&row)
+}
+
+pub fn lent_rows(tables: &Tables) -> BTreeSet<u32> {
+    least_set(tables, |r| r.request != 0 || on_loan(tables, r))
 }
 
 /// The rows that pass the test, the rows with one of these as a source, and
 /// so on until no row is added.
-fn least_set(tables: &Tables, test: impl Fn(&Row) -> bool) -> BTreeSet<u32> {
+pub fn least_set(tables: &Tables, test: impl Fn(&Row) -> bool) -> BTreeSet<u32> {
     let mut set: BTreeSet<u32> = BTreeSet::new();
     let by_test = tables.rows.iter().filter(|r| test(r));
     set.extend(by_test.map(|r| r.number));

@@ -6,7 +6,7 @@ use crate::session::{call, open};
 use crate::tables::{Kind, Place, Process, Request, Row, Tables};
 
 /// The columns of the rows, 1,024 words each, in this order.
-const ROW_COLUMNS: usize = 10;
+pub const ROW_COLUMNS: usize = 10;
 const NUMBER: usize = 0;
 const KIND: usize = 1;
 const OBJECT: usize = 2;
@@ -20,7 +20,7 @@ const REQUEST: usize = 9;
 
 /// The columns of the requests, 128 words each: number, port, asker, fetched
 /// and the items.
-const REQUEST_COLUMNS: usize = 4 + ITEMS;
+pub const REQUEST_COLUMNS: usize = 4 + ITEMS;
 const REQUEST_START: usize = ROW_COLUMNS * ROWS;
 
 /// The next number is the last word.
@@ -64,21 +64,25 @@ pub fn encode(tables: &Tables) -> Option<(Vec<u32>, Vec<u32>)> {
     Some((words, processes.collect()))
 }
 
-fn row_words(tables: &Tables, row: &Row) -> Option<[u32; ROW_COLUMNS]> {
+pub fn place_word(place: Place) -> Option<u32> {
+    match place {
+        Place::Node(n) if n < C_LIST => Some(n),
+        Place::CList(p) if p < SYSTEM - C_LIST => Some(C_LIST + p),
+        Place::System => Some(SYSTEM),
+        _ => None,
+    }
+}
+
+/// The words of a row's slot, column by column.
+pub fn row_words(tables: &Tables, row: &Row) -> Option<[u32; ROW_COLUMNS]> {
     let (kind, _) = KINDS.into_iter().find(|(_, kind)| *kind == row.kind)?;
-    let place = match row.place {
-        Place::Node(n) if n < C_LIST => n,
-        Place::CList(p) if p < SYSTEM - C_LIST => C_LIST + p,
-        Place::System => SYSTEM,
-        _ => return None,
-    };
     let mut words = [0; ROW_COLUMNS];
     words[NUMBER] = row.number;
     words[KIND] = kind;
     words[OBJECT] = row.object;
     words[OPERATION] = row.operation;
     words[RIGHTS] = row.rights;
-    words[PLACE] = place;
+    words[PLACE] = place_word(row.place)?;
     words[SOURCE] = slot_word(tables, row.source)?;
     words[VIA] = slot_word(tables, row.via)?;
     words[DEPTH] = row.depth;
@@ -96,7 +100,7 @@ fn slot_word(tables: &Tables, source: u32) -> Option<u32> {
 }
 
 /// An item that left the list is 0, so a listed item 0 cannot be written.
-fn request_words(q: &Request) -> Option<[u32; REQUEST_COLUMNS]> {
+pub fn request_words(q: &Request) -> Option<[u32; REQUEST_COLUMNS]> {
     if q.lists(0) {
         return None;
     }

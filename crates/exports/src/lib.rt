@@ -1,4 +1,8 @@
 // The proved functions under C names, for the tests and the benchmark from Rust.
 
 // ---- functions
-pub mod reads;
+pub mod asking;
+pub mod changing;
+pub mod lookups;
+pub mod reading;
+pub mod rights;

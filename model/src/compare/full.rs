@@ -34,7 +34,7 @@ fn without_sound(case: Case) -> Case {
 
 /// Row 1 in node 1, row 2 held from it by process 1, and so many rows in all,
 /// the others in node 2.
-fn with_rows(count: usize) -> Tables {
+pub fn with_rows(count: usize) -> Tables {
     let mut tables = Tables::empty();
     tables.set_process(1, Process::in_prime_node(1));
     while tables.rows.len() < count {
@@ -60,7 +60,7 @@ fn with_rows(count: usize) -> Tables {
 }
 
 /// A port that is free, and so many with an open request each.
-fn with_requests(count: usize) -> Tables {
+pub fn with_requests(count: usize) -> Tables {
     let mut tables = with_rows(2);
     call_sound(&mut tables, b"(1 port 2)\n");
     for _ in 0..count {

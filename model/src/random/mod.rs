@@ -10,6 +10,7 @@ pub mod prng;
 pub use prng::Rng;
 
 use crate::session::{call_sound, open};
+use crate::tables::Tables;
 
 /// What a random session is rich in.
 #[derive(Clone, Copy, PartialEq, Eq, Debug)]
@@ -40,6 +41,15 @@ pub const PROFILES: [Profile; 6] = [
 /// A whole session: an opening that is accepted, then this many call lines,
 /// most of which are accepted.
 pub fn session(seed: u64, profile: Profile, calls: usize) -> Vec<u8> {
+    played(seed, profile, calls).0
+}
+
+/// The tables at the end of that session.
+pub fn tables(seed: u64, profile: Profile, calls: usize) -> Tables {
+    played(seed, profile, calls).1
+}
+
+fn played(seed: u64, profile: Profile, calls: usize) -> (Vec<u8>, Tables) {
     let mut rng = Rng::new(seed);
     let mut text = openings::opening(&mut rng, profile);
     let (mut tables, _, _) = open(&text);
@@ -48,5 +58,5 @@ pub fn session(seed: u64, profile: Profile, calls: usize) -> Vec<u8> {
         call_sound(&mut tables, &line);
         text.extend(line);
     }
-    text
+    (text, tables)
 }

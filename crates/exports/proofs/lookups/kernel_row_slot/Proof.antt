@@ -1,16 +1,17 @@
--- `reads::kernel_row_slot` meets its contract: words of another length hold no state; else the look-up's answer, plus 1.
+-- `lookups::kernel_row_slot` meets its contract: words of another length hold no state; else the look-up's answer, plus 1.
 use borrow.Author.Needs.{needs}
 use native.Mathlib.Omega.{arith}
-use mathlib.Core.Path.{sym}
+use mathlib.Core.Path.{refl, sym}
 use denote.Ref.{now}
+use Rattle.rows.specs.Layout.{rowsIn}
 use Rattle.rows.specs.Lies.{rowSlot}
-use Rattle.rows.proofs.Slots.{found-nothing, row-below, lies-length}
+use Rattle.rows.proofs.Slots.{at-below, found-nothing, row-below, lies-length}
 use Rattle.exports.proofs.Answers.{plus-one}
-use Rattle.exports.proofs.reads.kernel_row_slot.Statement.{statement}
-use Rattle.exports.proofs.reads.kernel_row_slot.Tie as tie
+use Rattle.exports.proofs.lookups.kernel_row_slot.Statement.{statement}
+use Rattle.exports.proofs.lookups.kernel_row_slot.Tie as tie
 
 returns : tie.Need-returns
-returns c = (search needs, (λ st lie. absurd (c .if1 .taken (lies-length lie))))
+returns c = (search needs, ((λ st lie. absurd (c .if1 .taken (lies-length lie))), (λ not. refl)))
 
 row-slot-requires : tie.Need-row-slot-requires
 row-slot-requires c κs = search needs
@@ -25,7 +26,7 @@ returns-2 : tie.Need-returns-2
 returns-2 c =
     let a = c .before .before .before .before .before .args in
     let found = c .before .before .row-slot in
-    (search needs, (λ st lie. sym (found-nothing (rowSlot (st .rows) (a .n)) (found .ensures .1 st lie) (c .enum-told .given .1))))
+    (search needs, ((λ st lie. sym (found-nothing (rowSlot (st .rows) (a .n)) (found .ensures .1 st lie) (c .enum-told .given .1))), (λ not. refl)))
 
 add-result : tie.Need-add-result
 add-result c =
@@ -37,8 +38,10 @@ returns-3 : tie.Need-returns-3
 returns-3 c =
     let a = c .before .before .before .before .before .before .args in
     let found = c .before .before .before .row-slot in
-    let i = c .before .i .given .0 .0 in
-    (omega (arith, row-below (now (a .t)) (found .result) i (found .ensures .0) (c .before .i .given .1)), (λ st lie. plus-one (rowSlot (st .rows) (a .n)) i (found .ensures .1 st lie) (c .before .i .given .1)))
+    let i = c .before .i .given .0 .0 in (
+      omega (arith, at-below (rowsIn (now (a .t))) (found .result) i (found .ensures .0) (c .before .i .given .1)),
+      ((λ st lie. plus-one (rowSlot (st .rows) (a .n)) i (found .ensures .1 st lie) (c .before .i .given .1)), (λ not. absurd (not (c .before .before .before .before .if1 .left)))),
+    )
 
 pub kernel-row-slot-spec : {M : Type 1} → statement M
 kernel-row-slot-spec = tie.close (tie.spec returns row-slot-requires enum-known-i enum-told returns-2 add-result returns-3)

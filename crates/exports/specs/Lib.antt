@@ -1,0 +1,2 @@
+-- Definitions that the contracts of exports cite.
+pub mod Fields

@@ -1,0 +1,34 @@
+//! Sound tables for the tests: small ones of random sessions, and full ones.
+#![allow(dead_code)]
+
+use model::compare::full::{with_requests, with_rows};
+use model::limits::{REQUESTS, ROWS};
+use model::random::{self, Profile, PROFILES};
+use model::words::encode;
+use model::{sound, Tables};
+
+/// The two lent runs of words.
+pub type Lent = (Vec<u32>, Vec<u32>);
+
+pub fn words(tables: &Tables) -> Lent {
+    encode(tables).expect("tables that fit")
+}
+
+/// The tables at the end of so many random sessions, of each profile in turn.
+pub fn small(sessions: u64, calls: usize) -> impl Iterator<Item = Tables> {
+    let profile = |seed: u64| PROFILES[seed as usize % 5];
+    (0..sessions).map(move |seed| random::tables(seed, profile(seed), calls))
+}
+
+/// Tables with 1,024 rows and no request, tables with 128 requests, and three
+/// of random sessions with both.
+pub fn full() -> Vec<Tables> {
+    let mut all = vec![with_rows(ROWS), with_requests(REQUESTS)];
+    for seed in 1..4 {
+        let tables = random::tables(seed, Profile::Full, 2_000);
+        assert_eq!((tables.rows.len(), tables.requests.len()), (ROWS, REQUESTS));
+        all.push(tables);
+    }
+    assert!(all.iter().all(sound));
+    all
+}
