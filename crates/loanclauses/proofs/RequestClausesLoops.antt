@@ -21,6 +21,7 @@ use Rattle.rows.specs.Lies.{Lies, rowSlot}
 use Rattle.loanclauses.specs.Clauses.{requestRight, standingPort, portsRight, isFree, withMark}
 use Rattle.rows.proofs.Bools.{clash, and-l, and-r, eqb-sym}
 use Rattle.rows.proofs.Slots.{row-absent}
+use Rattle.loanclauses.proofs.RowClauses.{and-false}
 use Rattle.loanclauses.proofs.RequestClauses.{slot-test, all-both}
 
 -- ---- ports
@@ -71,10 +72,6 @@ pub ports-start : (rs : List Row) → Ports rs [] (replicate 1024 false) true
 unfolding portsRight any all distinct
 ports-start rs = record { long = length-replicate 1024 false; told = refl; held = λ i h. getD-replicate 1024 i false false h }
 
-and-none : (b : Bool) → b && false ≡ false
-and-none true = refl
-and-none false = refl
-
 pub ports-turn : {st : State} {t : List ℕ} → Lies st t → (vs : List Request) (marks : List Bool) (right : Bool) (v : Request) (s : ℕ) → s ≡ standingPort (st .rows) v → s ≤ 1024
     → Ports (st .rows) vs marks right → Ports (st .rows) (v ∷ vs) (withMark marks s) (isFree marks s && right)
 unfolding portsRight any all distinct withMark isFree
@@ -98,7 +95,7 @@ ports-turn {st} lie vs marks right v (suc i) e h p =
     joined : rowSlot (st .rows) (v .port) ≡ suc i → (b : Bool) → all (portStands (st .rows)) vs ≡ b
         → not (taken (st .rows) (suc i) vs) && (b && distinct ports) ≡ b && (not (member (v .port) ports) && distinct ports)
     joined at true q = ap (λ (b : Bool). not b && distinct ports) (taken-port lie (v .port) i at vs q)
-    joined at false q = and-none (not (taken (st .rows) (suc i) vs))
+    joined at false q = and-false (not (taken (st .rows) (suc i) vs))
 
     marked : (k : ℕ) → k < 1024 → getD (set marks i true) k false ≡ eqb (standingPort (st .rows) v) (suc k) || taken (st .rows) (suc k) vs
     marked k lt =
@@ -156,4 +153,4 @@ requests-joined st =
     join true true true false e f g = refl
     join true true true true false f g = refl
     join true true true true true f g = refl
-    join true true false d e f g = and-none (d && (e && f))
+    join true true false d e f g = and-false (d && (e && f))

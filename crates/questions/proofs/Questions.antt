@@ -6,7 +6,7 @@ use mathlib.Core.Path.{_≡_, refl, ap, sym, _∙_}
 use mathlib.Core.Logic.{inl, inr}
 use native.Mathlib.Numerals.{add-one}
 use native.Mathlib.Omega.{arith}
-use borrow.Author.Tests.{eqb-true, leb-true}
+use borrow.Author.Tests.{eqb-true, eq-eqb, ne-eqb, leb-true}
 use lib.Dec.{leb, eqb}
 use lib.ListN.{getD}
 use Rattle.rows.specs.declared.Row.{Row}
@@ -16,18 +16,14 @@ use Rattle.rows.specs.Codes.{operation, subdirectory, clientEnd, isOperation, i
 use Rattle.rows.specs.Tables.{State, noRow, rowOf, numbers, sources, depthOver, reaches, marked, bears, comesFrom, onLoan, lentItself, isLent}
 use Rattle.rows.specs.Sound.{rowsRise, sound, isOpening, isRegistered, isHeld, isPortEnd, isLentCopy, sourceRight, sourcesRight, depthRight, depthsRight}
 use Rattle.rows.specs.Lies.{Lies, rowSlot}
-use Rattle.questions.specs.Questions.{touches, Touched, Reaches, PortReaches}
-use Rattle.rows.proofs.Bools.{false-of, clash, and-l, and-r, or-r, pos-some, any-eq}
+use Rattle.questions.specs.Questions.{touches, Touched, Reaches, ViaReaches, PortReaches}
+use Rattle.rows.proofs.Bools.{false-of, clash, and-l, and-r, or-r, or-false, some-pos, pos-some, any-eq}
 use Rattle.rows.proofs.Keyed.{olderOf, each-first, older-first, older-key, rises-range}
 use Rattle.rows.proofs.Sound.{Sound, sound-open}
 use Rattle.rows.proofs.RowSources.{Among, Shape, opening, registered, held, port-end, lent-copy, shape, shape-sources}
 use Rattle.rows.proofs.Marking.{marked-stands, marked-reaches, marked-closed}
 use Rattle.rows.proofs.Standing.{standing-shape, sources-older}
 use Rattle.rows.proofs.Slots.{slot-le, slot-there, lies-well, row-found, row-words, source-of, via-of}
-
-or-none : (b : Bool) → b || false ≡ b
-or-none true = refl
-or-none false = refl
 
 -- ---- what is asked of the row in slot i, in its words
 module _ (t : List ℕ) (i q : ℕ) where
@@ -59,7 +55,7 @@ module _ (t : List ℕ) (i q : ℕ) where
       (λ st n lie e.
       let w = row-words lie n i e in
       let none : rowOf (st .rows) n .request ≡ 0 = sym (w .request) ∙ h in
-      rw (none, ← w .kind) (d st n lie e ∙ sym (or-none (isEnd (getD t (1024 + i) 0) && onLoan (st .requests) (rowOf (st .rows) n .number)))))
+      rw (none, ← w .kind) (d st n lie e ∙ sym (or-false (isEnd (getD t (1024 + i) 0) && onLoan (st .requests) (rowOf (st .rows) n .number)))))
 
   pub touched-loan : (r : Bool) → q ≡ 0 → getD t (9216 + i) 0 ≡ 0 → isEnd (getD t (1024 + i) 0) ≡ true
       → ((st : State) → Lies st t → some (getD t (0 + i) 0) ≡ true → r ≡ onLoan (st .requests) (getD t (0 + i) 0))
@@ -88,7 +84,7 @@ any-nonzero P z (suc a) ns = rw (pos-some (suc a) (suc-le-suc zero-le)) refl
 
 any-sources : (P : ℕ → Bool) → P 0 ≡ false → (r : Row) → any P (sources r) ≡ P (r .source) || P (r .via)
 unfolding sources any nonzero filter
-any-sources P z r = any-nonzero P z (r .source) (r .via ∷ []) ∙ ap (λ (b : Bool). P (r .source) || b) (any-nonzero P z (r .via) [] ∙ or-none (P (r .via)))
+any-sources P z r = any-nonzero P z (r .source) (r .via ∷ []) ∙ ap (λ (b : Bool). P (r .source) || b) (any-nonzero P z (r .via) [] ∙ or-false (P (r .via)))
 
 -- an end is no copy
 no-copy : (k : ℕ) → isClient k ≡ true → isCopied k ≡ true → ⊥
@@ -198,87 +194,115 @@ module _ (t : List ℕ) (s q d : ℕ) where
   unfolding Reaches PortReaches
   row-port r h st n so lie e deep client = h st n so lie e deep
 
-  module _ (i : ℕ) (at : s ≡ suc i) where
-    -- the row itself
-    module _ (st : State) (n : ℕ) (so : sound st ≡ true) (lie : Lies st t) (e : rowSlot (st .rows) n ≡ s) (deep : rowOf (st .rows) n .depth ≤ d) where
-      whole : Sound st
-      whole = sound-open st so
+module _ (t : List ℕ) (i q d : ℕ) where
+  -- the row itself
+  module _ (st : State) (n : ℕ) (so : sound st ≡ true) (lie : Lies st t) (e : rowSlot (st .rows) n ≡ suc i) (deep : rowOf (st .rows) n .depth ≤ d) where
+    whole : Sound st
+    whole = sound-open st so
 
-      there : member n (numbers (st .rows)) ≡ true
-      there = row-found (st .rows) n i (e ∙ at) .0
+    there : member n (numbers (st .rows)) ≡ true
+    there = row-found (st .rows) n i e .0
 
-      step : reaches (touches st q) (st .rows) n
-          ≡ touches st q (rowOf (st .rows) n) || (reaches (touches st q) (st .rows) (rowOf (st .rows) n .source) || reaches (touches st q) (st .rows) (rowOf (st .rows) n .via))
-      step = reaches-step st whole (touches st q) n there
+    step : reaches (touches st q) (st .rows) n
+        ≡ touches st q (rowOf (st .rows) n) || (reaches (touches st q) (st .rows) (rowOf (st .rows) n .source) || reaches (touches st q) (st .rows) (rowOf (st .rows) n .via))
+    step = reaches-step st whole (touches st q) n there
 
-      itself : (r : Bool) → Touched t i q r → r ≡ touches st q (rowOf (st .rows) n)
-      unfolding Touched
-      itself r h = h st n lie (e ∙ at)
+    itself : (r : Bool) → Touched t i q r → r ≡ touches st q (rowOf (st .rows) n)
+    unfolding Touched
+    itself r h = h st n lie e
 
-      source : (r : Bool) → Reaches t (getD t (6144 + i) 0) q (d - 1) r → r ≡ reaches (touches st q) (st .rows) (rowOf (st .rows) n .source)
-      unfolding Reaches
-      source r h =
-          let (a, b, c) = depth-falls st whole n there in
-          h st (rowOf (st .rows) n .source) so lie
-          (sym (row-words lie n i (e ∙ at) .source ∙ source-of st (lies-well lie) n i (e ∙ at) .0)) (omega arith)
+    source : (r : Bool) → Reaches t (getD t (6144 + i) 0) q (d - 1) r → r ≡ reaches (touches st q) (st .rows) (rowOf (st .rows) n .source)
+    unfolding Reaches
+    source r h =
+        let (a, b, c) = depth-falls st whole n there in
+        h st (rowOf (st .rows) n .source) so lie
+        (sym (row-words lie n i e .source ∙ source-of st (lies-well lie) n i e .0)) (omega arith)
 
-      via-slot : rowSlot (st .rows) (rowOf (st .rows) n .via) ≡ getD t (7168 + i) 0
-      via-slot = sym (row-words lie n i (e ∙ at) .via ∙ via-of st (lies-well lie) n i (e ∙ at) .0)
+    via : (r : Bool) → ViaReaches t i q d r → r ≡ reaches (touches st q) (st .rows) (rowOf (st .rows) n .via)
+    unfolding ViaReaches
+    via r h = h st n so lie e deep
 
-      via : (r : Bool) → Reaches t (getD t (7168 + i) 0) q (d - 1) r → r ≡ reaches (touches st q) (st .rows) (rowOf (st .rows) n .via)
-      unfolding Reaches
-      via r h = let (a, b, c) = depth-falls st whole n there in h st (rowOf (st .rows) n .via) so lie via-slot (omega arith)
+    via-slot : rowSlot (st .rows) (rowOf (st .rows) n .via) ≡ getD t (7168 + i) 0
+    via-slot = sym (row-words lie n i e .via ∙ via-of st (lies-well lie) n i e .0)
 
-      port : (getD t (9216 + i) 0 ≡ 0 → ⊥) → (r : Bool) → PortReaches t (getD t (7168 + i) 0) q (d - 1) r → r ≡ reaches (touches st q) (st .rows) (rowOf (st .rows) n .via)
-      unfolding PortReaches
-      port bears r h =
-          let (a, b, c) = depth-falls st whole n there in
-          h st (rowOf (st .rows) n .via) so lie via-slot (omega arith)
-          (copy-port st whole n there (λ z. bears (row-words lie n i (e ∙ at) .request ∙ z)))
+  -- the second source: none, a row, a port under a copy
+  pub via-row : (r : Bool) → Reaches t (getD t (7168 + i) 0) q (d - 1) r → ViaReaches t i q d r
+  unfolding Reaches ViaReaches
+  via-row r h st n so lie e deep =
+      let (a, b, c) = depth-falls st (whole st n so lie e deep) n (there st n so lie e deep) in
+      h st (rowOf (st .rows) n .via) so lie (via-slot st n so lie e deep) (omega arith)
 
+  pub via-none : getD t (7168 + i) 0 ≡ 0 → ViaReaches t i q d false
+  via-none z = via-row false (question-none t (getD t (7168 + i) 0) q (d - 1) (λ x y w. omega arith))
+
+  pub via-port : (getD t (9216 + i) 0 ≡ 0 → ⊥) → (r : Bool) → PortReaches t (getD t (7168 + i) 0) q (d - 1) r → ViaReaches t i q d r
+  unfolding PortReaches ViaReaches
+  via-port bears r h st n so lie e deep =
+      let (a, b, c) = depth-falls st (whole st n so lie e deep) n (there st n so lie e deep) in
+      h st (rowOf (st .rows) n .via) so lie (via-slot st n so lie e deep) (omega arith)
+      (copy-port st (whole st n so lie e deep) n (there st n so lie e deep) (λ z. bears (row-words lie n i e .request ∙ z)))
+
+  module _ (s : ℕ) (at : s ≡ suc i) where
     pub question-touched : Touched t i q true → Reaches t s q d true
     unfolding Reaches
-    question-touched h st n so lie e deep = sym (step st n so lie e deep ∙ rw (← itself st n so lie e deep true h) refl)
+    question-touched h st n so lie e deep = sym (step st n so lie (e ∙ at) deep ∙ rw (← itself st n so lie (e ∙ at) deep true h) refl)
 
-    pub question-source : Touched t i q false → Reaches t (getD t (6144 + i) 0) q (d - 1) true → Reaches t s q d true
+    pub question-via : Touched t i q false → ViaReaches t i q d true → Reaches t s q d true
     unfolding Reaches
-    question-source h g st n so lie e deep =
-        sym (step st n so lie e deep ∙ rw (← itself st n so lie e deep false h, ← source st n so lie e deep true g) refl)
+    question-via h g st n so lie e deep =
+        sym
+        (step st n so lie (e ∙ at) deep
+        ∙ rw (← itself st n so lie (e ∙ at) deep false h, ← via st n so lie (e ∙ at) deep true g)
+        (or-r (reaches (touches st q) (st .rows) (rowOf (st .rows) n .source)) true refl))
 
-    pub question-via : Touched t i q false → Reaches t (getD t (6144 + i) 0) q (d - 1) false → (r : Bool) → Reaches t (getD t (7168 + i) 0) q (d - 1) r → Reaches t s q d r
+    -- the first source decides
+    pub question-source : Touched t i q false → ViaReaches t i q d false → (r : Bool) → Reaches t (getD t (6144 + i) 0) q (d - 1) r → Reaches t s q d r
     unfolding Reaches
-    question-via h g r k st n so lie e deep =
-        sym (step st n so lie e deep ∙ rw (← itself st n so lie e deep false h, ← source st n so lie e deep false g) (sym (via st n so lie e deep r k)))
-
-    pub question-port : Touched t i q false → Reaches t (getD t (6144 + i) 0) q (d - 1) false → (getD t (9216 + i) 0 ≡ 0 → ⊥) → (r : Bool)
-        → PortReaches t (getD t (7168 + i) 0) q (d - 1) r → Reaches t s q d r
-    unfolding Reaches
-    question-port h g bears r k st n so lie e deep =
-        sym (step st n so lie e deep ∙ rw (← itself st n so lie e deep false h, ← source st n so lie e deep false g) (sym (port st n so lie e deep bears r k)))
+    question-source h g r k st n so lie e deep =
+        sym
+        (step st n so lie (e ∙ at) deep
+        ∙ rw (← itself st n so lie (e ∙ at) deep false h, ← via st n so lie (e ∙ at) deep false g)
+        (or-false (reaches (touches st q) (st .rows) (rowOf (st .rows) n .source)) ∙ sym (source st n so lie (e ∙ at) deep r k)))
 
     pub port-source : Touched t i q false → (r : Bool) → Reaches t (getD t (6144 + i) 0) q (d - 1) r → PortReaches t s q d r
     unfolding PortReaches
     port-source h r g st n so lie e deep client =
-        let (a, b, c) = depth-falls st (whole st n so lie e deep) n (there st n so lie e deep) in
         sym
-        (step st n so lie e deep
-        ∙ rw (← itself st n so lie e deep false h, client-via st (whole st n so lie e deep) n (there st n so lie e deep) client, reaches-zero st (whole st n so lie e deep) (touches st q))
-        (or-none (reaches (touches st q) (st .rows) (rowOf (st .rows) n .source)) ∙ sym (source st n so lie e deep r g)))
+        (step st n so lie (e ∙ at) deep
+        ∙ rw (← itself st n so lie (e ∙ at) deep false h, client-via st (whole st n so lie (e ∙ at) deep) n (there st n so lie (e ∙ at) deep) client, reaches-zero st (whole st n so lie (e ∙ at) deep) (touches st q))
+        (or-false (reaches (touches st q) (st .rows) (rowOf (st .rows) n .source)) ∙ sym (source st n so lie (e ∙ at) deep r g)))
 
 -- ---- the two questions
-module _ (t : List ℕ) (e : ℕ) (r : Bool) (st : State) (n : ℕ) (so : sound st ≡ true) (lie : Lies st t) (at : rowSlot (st .rows) n ≡ suc e) where
+module _ (t : List ℕ) (e : ℕ) (st : State) (n : ℕ) (so : sound st ≡ true) (lie : Lies st t) (at : rowSlot (st .rows) n ≡ suc e) where
   -- twelve steps suffice
-  asked : (q : ℕ) → Reaches t (e + 1) q 12 r → r ≡ reaches (touches st q) (st .rows) n
+  asked : (r : Bool) (q : ℕ) → Reaches t (e + 1) q 12 r → r ≡ reaches (touches st q) (st .rows) n
   unfolding Reaches
-  asked q h = h st n so lie (at ∙ sym (add-one e)) (depth-falls st (sound-open st so) n (row-found (st .rows) n e at .0) .2)
+  asked r q h = h st n so lie (at ∙ sym (add-one e)) (depth-falls st (sound-open st so) n (row-found (st .rows) n e at .0) .2)
 
-  pub comes-answer : (q : ℕ) → Reaches t (e + 1) q 12 r → some q ≡ true → r ≡ comesFrom (st .rows) q n
-  unfolding comesFrom touches
-  comes-answer q h pos = asked q h ∙ ap (λ (f : Row → Bool). reaches f (st .rows) n) (λ i x. bears-only x i)
-    where
-      bears-only : (x : Row) → touches st q x ≡ bears q x
-      bears-only x = rw pos refl
+  module _ (q : ℕ) (pos : some q ≡ true) where
+    pub comes-answer : (r : Bool) → Reaches t (e + 1) q 12 r → r ≡ comesFrom (st .rows) q n
+    unfolding comesFrom touches
+    comes-answer r h = asked r q h ∙ ap (λ (f : Row → Bool). reaches f (st .rows) n) (λ i x. bears-only x i)
+      where
+        bears-only : (x : Row) → touches st q x ≡ bears q x
+        bears-only x = rw pos refl
 
-  pub lent-answer : Reaches t (e + 1) 0 12 r → r ≡ isLent st n
+    bearing : (r : Bool) → eqb (getD t (9216 + e) 0) q ≡ r → Touched t e q r
+    bearing r h = rw h at (touched-bears t e q (λ z. let p : 0 < q = some-pos q pos in omega arith))
+
+    -- a row that bears the request itself
+    pub comes-bearing : getD t (9216 + e) 0 ≡ q → true ≡ comesFrom (st .rows) q n
+    comes-bearing h = comes-answer true (question-touched t e q 12 (e + 1) (add-one e) (bearing true (eq-eqb (getD t (9216 + e) 0) q h)))
+
+    -- a row that has no source and bears another or none
+    pub comes-first : (getD t (9216 + e) 0 ≡ q → ⊥) → eqb (getD t (6144 + e) 0) 0 && eqb (getD t (7168 + e) 0) 0 ≡ true → false ≡ comesFrom (st .rows) q n
+    comes-first h z =
+        let no-source = eqb-true (getD t (6144 + e) 0) 0 (and-l (eqb (getD t (6144 + e) 0) 0) (eqb (getD t (7168 + e) 0) 0) z) in
+        let no-via = eqb-true (getD t (7168 + e) 0) 0 (and-r (eqb (getD t (6144 + e) 0) 0) (eqb (getD t (7168 + e) 0) 0) z) in
+        comes-answer false
+        (question-source t e q 12 (e + 1) (add-one e) (bearing false (ne-eqb (getD t (9216 + e) 0) q h)) (via-none t e q 12 no-via) false
+        (question-none t (getD t (6144 + e) 0) q 11 (λ x y w. omega arith)))
+
+  pub lent-answer : (r : Bool) → Reaches t (e + 1) 0 12 r → r ≡ isLent st n
   unfolding isLent touches some
-  lent-answer h = asked 0 h
+  lent-answer r h = asked r 0 h

@@ -23,6 +23,12 @@ unfoldable pub Reaches : List ℕ → ℕ → ℕ → ℕ → Bool → Type 0
 Reaches t s q d r =
     (st : State) (n : ℕ) → sound st ≡ true → Lies st t → rowSlot (st .rows) n ≡ s → rowOf (st .rows) n .depth ≤ d → r ≡ reaches (touches st q) (st .rows) n
 
+-- the same of the second source of the row in slot i, which is of depth d at most
+unfoldable pub ViaReaches : List ℕ → ℕ → ℕ → ℕ → Bool → Type 0
+ViaReaches t i q d r =
+    (st : State) (n : ℕ) → sound st ≡ true → Lies st t → rowSlot (st .rows) n ≡ suc i → rowOf (st .rows) n .depth ≤ d
+    → r ≡ reaches (touches st q) (st .rows) (rowOf (st .rows) n .via)
+
 -- the same of a port, by its client end
 unfoldable pub PortReaches : List ℕ → ℕ → ℕ → ℕ → Bool → Type 0
 PortReaches t c q d r =

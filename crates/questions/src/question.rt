@@ -19,7 +19,10 @@ ghost use Rattle.rows.specs.Tables.{State, onLoan, comesFrom, isLent};
 ghost use Rattle.rows.specs.Sound.{sound};
 ghost use Rattle.rows.specs.Layout.{requestAt};
 ghost use Rattle.rows.specs.Lies.{Lies, rowSlot};
-ghost use Rattle.questions.specs.Questions.{Touched, Reaches, PortReaches};
+ghost use Rattle.questions.specs.Questions.{Touched, Reaches, ViaReaches, PortReaches};
+
+// the greatest source word: the last slot plus 1
+const LAST_WORD: u32 = 1024;
 
 // Whether the request in slot j lists e.
 fn lists_item(t: &[u32], j: usize, e: u32) -> bool
@@ -68,32 +71,48 @@ fn touched(t: &[u32], i: usize, q: u32) -> bool
 }
 
 // Whether the row at source word s (its slot plus 1, 0 for none) or a row that it comes from is touched, d steps back at most.
+// It goes along the first sources, and asks of a second source where there is one.
 // Ruled out: no, where the second source alone is touched; yes for a word 0, where there is no row.
 fn row_question(t: &[u32], s: u32, q: u32, d: u32) -> bool
     requires { ⌜ length (now t) ≡ 11265 ⌝ }
     ensures { λ r. ⌜ Reaches (now (t .entry)) s q d r ⌝ }
 {
-    let at = s as usize;
-    if at == 0 {
+    let mut word = s;
+    let mut left = d;
+    while 0 < left {
+        if word == 0 {
+            return false;
+        }
+        if LAST_WORD < word {
+            return false;
+        }
+        let i = word as usize - 1;
+        if touched(t, i, q) {
+            return true;
+        }
+        if via_question(t, i, q, left) {
+            return true;
+        }
+        word = t[SOURCE + i];
+        left -= 1;
+    }
+    false
+}
+
+// The same of the second source of the row in slot i, d - 1 steps back at most: of a copy it is the port that it was lent over.
+// Ruled out: yes, where there is no second source; no, where a copy's port has gone.
+fn via_question(t: &[u32], i: usize, q: u32, d: u32) -> bool
+    requires { ⌜ (length (now t) ≡ 11265) × (i < 1024) × (0 < d) ⌝ }
+    ensures { λ r. ⌜ ViaReaches (now (t .entry)) i q d r ⌝ }
+{
+    let via = t[VIA + i];
+    if via == 0 {
         return false;
-    }
-    if ROWS < at {
-        return false;
-    }
-    if d == 0 {
-        return false;
-    }
-    let i = at - 1;
-    if touched(t, i, q) {
-        return true;
-    }
-    if row_question(t, t[SOURCE + i], q, d - 1) {
-        return true;
     }
     if t[REQUEST + i] == 0 {
-        return row_question(t, t[VIA + i], q, d - 1);
+        return row_question(t, via, q, d - 1);
     }
-    port_question(t, t[VIA + i], q, d - 1)
+    port_question(t, via, q, d - 1)
 }
 
 // The same of the port whose client end is at source word c: the end itself, or its operation row.
@@ -119,12 +138,18 @@ fn port_question(t: &[u32], c: u32, q: u32, d: u32) -> bool
     row_question(t, t[SOURCE + i], q, d - 1)
 }
 
-// Whether the row in slot e comes from request q.
+// Whether the row in slot e comes from request q. Most rows say it themselves: they bear q, or have no source.
 // Ruled out: no, where the port under a copy comes from q; the answer for the row in the next slot.
 pub fn comes(t: &[u32], e: usize, q: u32) -> bool
     requires { ⌜ (length (now t) ≡ 11265) × (e < 1024) ⌝ }
     ensures { λ r. ⌜ ((st : State) (n : ℕ) → sound st ≡ true → Lies st (now (t .entry)) → rowSlot (st .rows) n ≡ suc e → some q ≡ true → r ≡ comesFrom (st .rows) q n) ⌝ }
 {
+    if t[REQUEST + e] == q {
+        return true;
+    }
+    if (t[SOURCE + e] == 0) & (t[VIA + e] == 0) {
+        return false;
+    }
     row_question(t, (e + 1) as u32, q, GREATEST_DEPTH)
 }
 

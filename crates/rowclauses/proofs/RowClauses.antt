@@ -1,6 +1,6 @@
 -- Laws of the clauses of one row, where its slot's words and its sources are at hand.
 use Prim.Native.Nat.{ℕ, suc, max, _-_, _<_, _≤_}
-use mathlib.Core.Bool.{Bool, true, false, _&&_, _||_}
+use mathlib.Core.Bool.{Bool, true, false, not, _&&_, _||_}
 use mathlib.Core.List.{List}
 use mathlib.Core.Path.{_≡_, refl, sym, _∙_}
 use native.Mathlib.Nat.{max-eq-left, max-eq-right}
@@ -9,16 +9,34 @@ use borrow.Author.Tests.{le-leb, lt-leb, ne-eqb}
 use lib.Dec.{leb, eqb}
 use Rattle.rows.specs.declared.Row.{Row}
 use Rattle.rows.specs.declared.Process.{Process}
-use Rattle.rows.specs.Lists.{between}
-use Rattle.rows.specs.Limits.{processes, nodes}
-use Rattle.rows.specs.Codes.{withSystem, inClist, isNode, isClist, isSystem, ownerOf}
-use Rattle.rows.specs.Tables.{isListed}
-use Rattle.rows.specs.Sound.{placeInRange, isOpening}
+use Rattle.rows.specs.declared.Request.{Request}
+use Rattle.rows.specs.Lists.{between, some}
+use Rattle.rows.specs.Limits.{processes, nodes, greatestOperation}
+use Rattle.rows.specs.Codes.{operation, subdirectory, clientEnd, serverEnd, isClient, isServer, withSystem, inClist, isNode, isClist, isSystem, isEnd, isCopied, isOperation, isSubdirectory, ownerOf}
+use Rattle.rows.specs.Tables.{isListed, rowOf}
+use Rattle.rows.specs.Sound.{objectInRange, placeInRange, isOpening, isRegistered, isHeld, isPortEnd, isLentCopy, sourceRight}
 use Rattle.rowclauses.specs.Seen.{Seen}
+use Rattle.rows.proofs.Bools.{false-of, clash, or-false}
+use Rattle.rows.proofs.Places.{copied-no-end}
 
-or-false : (b : Bool) → b || false ≡ b
-or-false true = refl
-or-false false = refl
+-- ---- objects, kind by kind
+module _ (ps : List Process) (x : Row) where
+  pub object-operation : x .kind ≡ 1 → isListed ps (x .object) && leb (x .operation) 255 ≡ objectInRange ps x
+  unfolding objectInRange isOperation isSubdirectory isClient isServer operation subdirectory clientEnd serverEnd greatestOperation
+  object-operation k = rw k (sym (or-false (isListed ps (x .object) && leb (x .operation) 255)))
+
+  pub object-subdirectory : x .kind ≡ 2 → isNode (x .object) && eqb (x .operation) 0 ≡ objectInRange ps x
+  unfolding objectInRange isOperation isSubdirectory isClient isServer operation subdirectory clientEnd serverEnd isNode
+  object-subdirectory k = rw k (sym (or-false (isNode (x .object) && eqb (x .operation) 0)))
+
+  pub object-client : x .kind ≡ 3 → eqb (x .object) (x .number) && eqb (x .operation) 0 ≡ objectInRange ps x
+  unfolding objectInRange isOperation isSubdirectory isClient isServer operation subdirectory clientEnd serverEnd
+  object-client k = rw k (sym (or-false (eqb (x .object) (x .number) && eqb (x .operation) 0)))
+
+  pub object-other : (x .kind ≡ 1 → ⊥) → (x .kind ≡ 2 → ⊥) → (x .kind ≡ 3 → ⊥)
+      → eqb (x .kind) 4 && (eqb (suc (x .object)) (x .number) && eqb (x .operation) 0) ≡ objectInRange ps x
+  unfolding objectInRange isOperation isSubdirectory isClient isServer operation subdirectory clientEnd serverEnd
+  object-other a b c = rw (ne-eqb (x .kind) 1 a, ne-eqb (x .kind) 2 b, ne-eqb (x .kind) 3 c) refl
 
 -- ---- places
 -- a place before the c-lists, and one from there on
@@ -34,6 +52,48 @@ place-far ps x h = rw (le-leb 1 (x .place) (omega arith), lt-leb (x .place) 32 (
 pub opening-seen : {x s v y : Row} {rs : List Row} → Seen x s v y rs → isOpening x ≡ isOpening y
 unfolding isOpening
 opening-seen h = rw (h .own .place, h .own .kind, h .source-none, h .via-none, h .own .request) refl
+
+-- each shape but the lent copy's has this form, and asks for no request
+unborne : (a b c d : Bool) → a && (b && (c && (d && false))) ≡ false
+unborne false b c d = refl
+unborne true false c d = refl
+unborne true true false d = refl
+unborne true true true false = refl
+unborne true true true true = refl
+
+pub and-false : (a : Bool) → a && false ≡ false
+and-false true = refl
+and-false false = refl
+
+module _ (vs : List Request) (rs : List Row) (y : Row) where
+  -- what bears a request is a lent copy, or nothing
+  pub source-lent : (y .request ≡ 0 → ⊥) → isLentCopy vs rs y ≡ sourceRight vs y rs
+  unfolding sourceRight isOpening isRegistered isHeld isPortEnd
+  source-lent h =
+      rw (ne-eqb (y .request) 0 h)
+      (rw (
+        unborne (isNode (y .place)) (isCopied (y .kind)) (eqb (y .source) 0) (eqb (y .via) 0),
+        unborne (isNode (y .place)) (isCopied (y .kind)) (isNode (rowOf rs (y .source) .place)) (eqb (y .via) 0),
+        unborne (isClist (y .place)) (isCopied (y .kind)) (isNode (rowOf rs (y .source) .place)) (eqb (y .via) 0 || isSubdirectory (rowOf rs (y .via) .kind)),
+        unborne (isEnd (y .kind)) (not (isNode (y .place))) (isOperation (rowOf rs (y .source) .kind)) (eqb (y .via) 0),
+      )
+      refl)
+
+  module _ (z : y .request ≡ 0) where
+    not-lent : isLentCopy vs rs y ≡ false
+    unfolding isLentCopy some
+    not-lent = rw z refl
+
+    -- an end is no copy
+    pub source-end : isEnd (y .kind) ≡ true → isPortEnd rs y ≡ sourceRight vs y rs
+    unfolding sourceRight isOpening isRegistered isHeld
+    source-end e =
+        let not-copied : isCopied (y .kind) ≡ false = false-of (isCopied (y .kind)) (λ c. clash e (copied-no-end (y .kind) c)) in
+        rw (not-lent, not-copied) (rw (and-false (isNode (y .place)), and-false (isClist (y .place))) (sym (or-false (isPortEnd rs y))))
+
+    pub source-own : isEnd (y .kind) ≡ false → isOpening y || (isRegistered rs y || isHeld rs y) ≡ sourceRight vs y rs
+    unfolding sourceRight isPortEnd
+    source-own e = rw (not-lent, e) (rw (or-false (isHeld rs y)) refl)
 
 -- the greater of two, by a test
 pub greater-second : (a b top : ℕ) → a < b → top ≡ b → top ≡ max a b

@@ -17,19 +17,13 @@ use Rattle.rows.specs.Layout.{requestAt}
 use Rattle.rows.specs.Lies.{Lies, requestSlot, rawRow}
 use Rattle.rowclauses.specs.AtSlot.{AtSlot}
 use Rattle.rowclauses.specs.Seen.{Same, Seen, slotRow, rowSound}
+use Rattle.rows.proofs.Bools.{or-false}
 use Rattle.rows.proofs.Slots.{lies-well, slot-zero, request-absent, request-words, raw-request, request-read}
 use Rattle.rowclauses.proofs.SlotLoops.{each-join, each-all}
+use Rattle.rowclauses.proofs.RowClauses.{and-false}
 use Rattle.rowclauses.proofs.RowsSeen.{seen-at, same-at}
 
 -- ---- the request that a row bears
-and-false : (b : Bool) → b && false ≡ false
-and-false true = refl
-and-false false = refl
-
-or-false : (b : Bool) → b || false ≡ b
-or-false true = refl
-or-false false = refl
-
 -- the four items one by one
 pub lists-words : (t : List ℕ) (j e : ℕ)
     → ltb 0 e && (eqb e (getD t (10752 + j) 0) || (eqb e (getD t (10880 + j) 0) || (eqb e (getD t (11008 + j) 0) || eqb e (getD t (11136 + j) 0)))) ≡ lists e (requestAt t j)

@@ -50,14 +50,11 @@ fn is_clist(place: u32) -> bool
     (FIRST_CLIST <= place) & (place <= LAST_CLIST)
 }
 
-// Each right of a is one of b. Ruled out: a right that b lacks; the sides swapped.
+// Each right of a is one of b: the three low bits decide. Ruled out: a right that b lacks; the sides swapped.
 fn within(a: u32, b: u32) -> bool
     ensures { λ r. ⌜ r ≡ isWithin a b ⌝ }
 {
-    let hold = a % 2 <= b % 2;
-    let transfer = a / 2 % 2 <= b / 2 % 2;
-    let register = a / 4 % 2 <= b / 4 % 2;
-    hold & (transfer & register)
+    (a & b) % 8 == a % 8
 }
 
 // The next number. Ruled out: the same number; a sum that wraps to 0.
@@ -74,15 +71,19 @@ pub fn object_in_range(x: Row, p: &[u32]) -> bool
     requires { ⌜ length (now p) ≡ 192 ⌝ }
     ensures { λ r. ⌜ r ≡ objectInRange (recordsIn (now (p .entry))) x ⌝ }
 {
-    let manager = listed(p, x.object);
-    let after = follows(x.object, x.number);
-    let node = is_node(x.object);
+    if x.kind == AN_OPERATION {
+        let manager = listed(p, x.object);
+        return manager & (x.operation <= LAST_OPERATION);
+    }
     let none = x.operation == 0;
-    let operation = (x.kind == AN_OPERATION) & (manager & (x.operation <= LAST_OPERATION));
-    let subdirectory = (x.kind == A_SUBDIRECTORY) & (node & none);
-    let client = (x.kind == A_CLIENT_END) & ((x.object == x.number) & none);
-    let server = (x.kind == A_SERVER_END) & (after & none);
-    operation | (subdirectory | (client | server))
+    if x.kind == A_SUBDIRECTORY {
+        return is_node(x.object) & none;
+    }
+    if x.kind == A_CLIENT_END {
+        return (x.object == x.number) & none;
+    }
+    let after = follows(x.object, x.number);
+    (x.kind == A_SERVER_END) & (after & none)
 }
 
 // Ruled out: an end with a right; rights of 8.
@@ -160,16 +161,27 @@ fn is_lent_copy(x: Row, s: Row, v: Row, port: u32) -> bool
     (0 < x.request) & (!node & (copied & (from & (client & (port == v.number)))))
 }
 
-// One of the five. Ruled out: a row that is none of them; an opening row alone.
-pub fn source_right(x: Row, s: Row, v: Row, port: u32) -> bool
-    ensures { λ r. ⌜ ((y : Row) (rs : List Row) (vs : List Request) → Seen x s v y rs → port ≡ requestOf vs (y .request) .port → r ≡ sourceRight vs y rs) ⌝ }
+// A row that was not lent and is no end. Ruled out: a row that is none of the three; an opening row alone.
+fn is_own(x: Row, s: Row, v: Row) -> bool
+    ensures { λ r. ⌜ ((y : Row) (rs : List Row) → Seen x s v y rs → r ≡ isOpening y || (isRegistered rs y || isHeld rs y)) ⌝ }
 {
     let opening = is_opening(x);
     let registered = is_registered(x, s, v);
     let held = is_held(x, s, v);
-    let end = is_port_end(x, s, v);
-    let copy = is_lent_copy(x, s, v, port);
-    opening | (registered | (held | (end | copy)))
+    opening | (registered | held)
+}
+
+// One of the five, by what the row itself is. Ruled out: a row that is none of them; an opening row alone.
+pub fn source_right(x: Row, s: Row, v: Row, port: u32) -> bool
+    ensures { λ r. ⌜ ((y : Row) (rs : List Row) (vs : List Request) → Seen x s v y rs → port ≡ requestOf vs (y .request) .port → r ≡ sourceRight vs y rs) ⌝ }
+{
+    if x.request != 0 {
+        return is_lent_copy(x, s, v, port);
+    }
+    if is_end(x.kind) {
+        return is_port_end(x, s, v);
+    }
+    is_own(x, s, v)
 }
 
 // Ruled out: the depth of the first source alone decides; depth 13.

@@ -1,23 +1,42 @@
--- `question::comes` meets its contract: it asks the row question, twelve steps back.
+-- `question::comes` meets its contract: the row says it itself, or the row question is asked, twelve steps back.
 use borrow.Author.Needs.{needs}
 use denote.Ref.{now}
-use Rattle.questions.proofs.Questions.{comes-answer}
+use Rattle.questions.proofs.Questions.{comes-answer, comes-bearing, comes-first}
 use Rattle.questions.proofs.question.comes.Statement.{statement}
 use Rattle.questions.proofs.question.comes.Tie as tie
 
-add-row-question : tie.Need-add-row-question
-add-row-question c = search needs
-
-cast-row-question : tie.Need-cast-row-question
-cast-row-question c = search needs
-
-row-question-requires : tie.Need-row-question-requires
-row-question-requires c κs = search needs
-
 returns : tie.Need-returns
 returns c =
-    let a = c .before .before .args in
-    λ st n so lie at pos. comes-answer (now (a .t)) (a .e) (c .row-question .result) st n so lie at (a .q) (c .row-question .ensures) pos
+    let a = c .before .before .before .args in
+    λ st n so lie at pos. comes-bearing (now (a .t)) (a .e) st n so lie at (a .q) pos (c .if1 .taken)
+
+returns-2 : tie.Need-returns-2
+returns-2 c =
+    let b = c .before .before .before in
+    let a = b .before .before .before .args in
+    λ st n so lie at pos. comes-first (now (a .t)) (a .e) st n so lie at (a .q) pos (b .if1 .left) (c .if2 .taken)
+
+returns-3 : tie.Need-returns-3
+returns-3 c =
+    let a = c .before .before .before .before .before .before .before .args in
+    λ st n so lie at pos. comes-answer (now (a .t)) (a .e) st n so lie at (a .q) pos (c .row-question .result) (c .row-question .ensures)
 
 pub comes-spec : {M : Type 1} → statement M
-comes-spec = tie.close (tie.spec add-row-question cast-row-question row-question-requires returns)
+comes-spec =
+    tie.close
+    (tie.spec
+    (λ c. search needs)
+    (λ c. search needs)
+    (λ c. search needs)
+    returns
+    (λ c. search needs)
+    (λ c. search needs)
+    (λ c. search needs)
+    (λ c. search needs)
+    (λ c. search needs)
+    (λ c. search needs)
+    returns-2
+    (λ c. search needs)
+    (λ c. search needs)
+    (λ c κs. search needs)
+    returns-3)

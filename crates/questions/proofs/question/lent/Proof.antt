@@ -17,7 +17,7 @@ row-question-requires c κs = search needs
 returns : tie.Need-returns
 returns c =
     let a = c .before .before .args in
-    λ st n so lie at. lent-answer (now (a .t)) (a .e) (c .row-question .result) st n so lie at (c .row-question .ensures)
+    λ st n so lie at. lent-answer (now (a .t)) (a .e) st n so lie at (c .row-question .result) (c .row-question .ensures)
 
 pub lent-spec : {M : Type 1} → statement M
 lent-spec = tie.close (tie.spec add-row-question cast-row-question row-question-requires returns)

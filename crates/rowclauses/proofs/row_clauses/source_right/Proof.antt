@@ -1,32 +1,39 @@
--- `row_clauses::source_right` meets its contract: one of the five shapes.
+-- `row_clauses::source_right` meets its contract: a lent copy, an end, or one of the others, as the row itself says.
 use borrow.Author.Needs.{needs}
-use mathlib.Core.Path.{refl, _∙_}
-use Rattle.rows.specs.Sound.{sourceRight}
-use Rattle.rowclauses.proofs.RowClauses.{opening-seen}
+use mathlib.Core.Path.{sym, ap, _∙_}
+use Rattle.rows.specs.Codes.{isEnd}
+use Rattle.rowclauses.proofs.RowClauses.{source-lent, source-end, source-own}
 use Rattle.rowclauses.proofs.row_clauses.source_right.Statement.{statement}
 use Rattle.rowclauses.proofs.row_clauses.source_right.Tie as tie
-
-is-opening-requires : tie.Need-is-opening-requires
-is-opening-requires c κs = search needs
-
-is-registered-requires : tie.Need-is-registered-requires
-is-registered-requires c κs = search needs
-
-is-held-requires : tie.Need-is-held-requires
-is-held-requires c κs = search needs
-
-is-port-end-requires : tie.Need-is-port-end-requires
-is-port-end-requires c κs = search needs
 
 is-lent-copy-requires : tie.Need-is-lent-copy-requires
 is-lent-copy-requires c κs = search needs
 
 returns : tie.Need-returns
-unfolding sourceRight
 returns c =
     λ y rs vs h e.
+    c .is-lent-copy .ensures y rs vs h e ∙ source-lent vs rs y (λ z. c .before .if1 .taken (h .own .request ∙ z))
+
+is-end-requires : tie.Need-is-end-requires
+is-end-requires c κs = search needs
+
+is-port-end-requires : tie.Need-is-port-end-requires
+is-port-end-requires c κs = search needs
+
+returns-2 : tie.Need-returns-2
+returns-2 c =
+    λ y rs vs h e.
     let b = c .before .before in
-    rw (b .before .before .is-opening .ensures ∙ opening-seen h, b .before .is-registered .ensures y rs h, b .is-held .ensures y rs h, c .before .is-port-end .ensures y rs h, c .is-lent-copy .ensures y rs vs h e) refl
+    c .is-port-end .ensures y rs h ∙ source-end vs rs y (sym (h .own .request) ∙ b .before .if1 .left) (ap isEnd (sym (h .own .kind)) ∙ sym (b .is-end .ensures) ∙ c .before .if2 .taken)
+
+is-own-requires : tie.Need-is-own-requires
+is-own-requires c κs = search needs
+
+returns-3 : tie.Need-returns-3
+returns-3 c =
+    λ y rs vs h e.
+    let b = c .before .before in
+    c .is-own .ensures y rs h ∙ source-own vs rs y (sym (h .own .request) ∙ b .before .if1 .left) (ap isEnd (sym (h .own .kind)) ∙ sym (b .is-end .ensures) ∙ c .before .if2 .left)
 
 pub source-right-spec : {M : Type 1} → statement M
-source-right-spec = tie.close (tie.spec is-opening-requires is-registered-requires is-held-requires is-port-end-requires is-lent-copy-requires returns)
+source-right-spec = tie.close (tie.spec is-lent-copy-requires returns is-end-requires is-port-end-requires returns-2 is-own-requires returns-3)
