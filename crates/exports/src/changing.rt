@@ -75,28 +75,24 @@ pub extern "C" fn kernel_set_next(t: &mut [u32], n: u32)
     change::set_next(t, n);
 }
 
-fn row_of(w: &[u32; 10]) -> Row
-    ensures { λ r. ⌜ r ≡ rowOf (now (w .entry)) ⌝ }
-{
-    Row {
-        number: w[0],
-        kind: w[1],
-        object: w[2],
-        operation: w[3],
-        rights: w[4],
-        place: w[5],
-        source: w[6],
-        via: w[7],
-        depth: w[8],
-        request: w[9],
-    }
-}
-
-// The row is given by the ten words of its columns.
+// The row is given field by field.
 #[no_mangle]
-pub extern "C" fn kernel_append_row(t: &mut [u32], count: usize, w: &[u32; 10])
-    ensures lies { λ _. ⌜ ((st : State) → (count < 1024) × (rowOf (now (w .entry)) .source ≤ count) × (rowOf (now (w .entry)) .via ≤ count) → Lies st (now (t .entry)) → count ≡ length (st .rows) → topOf (λ r. r .number) (st .rows) < rowOf (now (w .entry)) .number → Lies (withRows (named (st .rows) (rowOf (now (w .entry))) ∷ st .rows) st) (now (t .exit))) ⌝ }
-    ensures other { λ _. ⌜ (((length (now (t .entry)) ≡ 11265) × (count < 1024) × (rowOf (now (w .entry)) .source ≤ count) × (rowOf (now (w .entry)) .via ≤ count) → ⊥) → now (t .exit) ≡ now (t .entry)) ⌝ }
+pub extern "C" fn kernel_append_row(
+    t: &mut [u32],
+    count: usize,
+    number: u32,
+    kind: u32,
+    object: u32,
+    operation: u32,
+    rights: u32,
+    place: u32,
+    source: u32,
+    via: u32,
+    depth: u32,
+    request: u32,
+)
+    ensures lies { λ _. ⌜ ((st : State) → (count < 1024) × (source ≤ count) × (via ≤ count) → Lies st (now (t .entry)) → count ≡ length (st .rows) → topOf (λ r. r .number) (st .rows) < number → Lies (withRows (named (st .rows) (rowOf number kind object operation rights place source via depth request) ∷ st .rows) st) (now (t .exit))) ⌝ }
+    ensures other { λ _. ⌜ (((length (now (t .entry)) ≡ 11265) × (count < 1024) × (source ≤ count) × (via ≤ count) → ⊥) → now (t .exit) ≡ now (t .entry)) ⌝ }
 {
     if t.len() != LENGTH {
         return;
@@ -104,33 +100,42 @@ pub extern "C" fn kernel_append_row(t: &mut [u32], count: usize, w: &[u32; 10])
     if ROWS <= count {
         return;
     }
-    let row = row_of(w);
-    if count < row.source as usize {
+    if count < source as usize {
         return;
     }
-    if count < row.via as usize {
+    if count < via as usize {
         return;
     }
+    let row = Row {
+        number: number,
+        kind: kind,
+        object: object,
+        operation: operation,
+        rights: rights,
+        place: place,
+        source: source,
+        via: via,
+        depth: depth,
+        request: request,
+    };
     change::append_row(t, count, row);
 }
 
-fn request_of(w: &[u32; 8]) -> Request
-    ensures { λ r. ⌜ r ≡ requestOf (now (w .entry)) ⌝ }
-{
-    let items = [w[4], w[5], w[6], w[7]];
-    Request {
-        number: w[0],
-        port: w[1],
-        asker: w[2],
-        fetched: w[3],
-        items: items,
-    }
-}
-
-// The request is given by the eight words of its columns.
+// The request is given field by field, its items last.
 #[no_mangle]
-pub extern "C" fn kernel_append_request(t: &mut [u32], count: usize, w: &[u32; 8])
-    ensures lies { λ _. ⌜ ((st : State) → count < 128 → Lies st (now (t .entry)) → count ≡ length (st .requests) → topOf (λ v. v .number) (st .requests) < requestOf (now (w .entry)) .number → Lies (withRequests (requestOf (now (w .entry)) ∷ st .requests) st) (now (t .exit))) ⌝ }
+pub extern "C" fn kernel_append_request(
+    t: &mut [u32],
+    count: usize,
+    number: u32,
+    port: u32,
+    asker: u32,
+    fetched: u32,
+    a: u32,
+    b: u32,
+    c: u32,
+    d: u32,
+)
+    ensures lies { λ _. ⌜ ((st : State) → count < 128 → Lies st (now (t .entry)) → count ≡ length (st .requests) → topOf (λ v. v .number) (st .requests) < number → Lies (withRequests ((requestOf number port asker fetched a b c d) ∷ st .requests) st) (now (t .exit))) ⌝ }
     ensures other { λ _. ⌜ (((length (now (t .entry)) ≡ 11265) × (count < 128) → ⊥) → now (t .exit) ≡ now (t .entry)) ⌝ }
 {
     if t.len() != LENGTH {
@@ -139,7 +144,14 @@ pub extern "C" fn kernel_append_request(t: &mut [u32], count: usize, w: &[u32; 8
     if REQUESTS <= count {
         return;
     }
-    let request = request_of(w);
+    let items = [a, b, c, d];
+    let request = Request {
+        number: number,
+        port: port,
+        asker: asker,
+        fetched: fetched,
+        items: items,
+    };
     change::append_request(t, count, request);
 }
 
