@@ -23,43 +23,11 @@ pub fn set_next(tables: &mut [u32], next: u32) {
 
 /// Stores a row in the slot after so many.
 pub fn append_row(tables: &mut [u32], count: usize, row: &RowFields) {
-    let [number, kind, object, operation, rights, place, source, via, depth, request] = *row;
-    unsafe {
-        raw::kernel_append_row(
-            tables.as_mut_ptr(),
-            tables.len(),
-            count,
-            number,
-            kind,
-            object,
-            operation,
-            rights,
-            place,
-            source,
-            via,
-            depth,
-            request,
-        )
-    }
+    unsafe { raw::kernel_append_row(tables.as_mut_ptr(), tables.len(), count, row) }
 }
 
 pub fn append_request(tables: &mut [u32], count: usize, request: &RequestFields) {
-    let [number, port, asker, fetched, a, b, c, d] = *request;
-    unsafe {
-        raw::kernel_append_request(
-            tables.as_mut_ptr(),
-            tables.len(),
-            count,
-            number,
-            port,
-            asker,
-            fetched,
-            a,
-            b,
-            c,
-            d,
-        )
-    }
+    unsafe { raw::kernel_append_request(tables.as_mut_ptr(), tables.len(), count, request) }
 }
 
 /// Removes the marked rows of the first so many.

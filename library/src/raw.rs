@@ -34,34 +34,8 @@ extern "C" {
     pub fn kernel_clear_item(t: *mut u32, t_len: usize, j: usize, k: usize);
     pub fn kernel_set_fetched(t: *mut u32, t_len: usize, j: usize);
     pub fn kernel_set_next(t: *mut u32, t_len: usize, n: u32);
-    pub fn kernel_append_row(
-        t: *mut u32,
-        t_len: usize,
-        count: usize,
-        number: u32,
-        kind: u32,
-        object: u32,
-        operation: u32,
-        rights: u32,
-        place: u32,
-        source: u32,
-        via: u32,
-        depth: u32,
-        request: u32,
-    );
-    pub fn kernel_append_request(
-        t: *mut u32,
-        t_len: usize,
-        count: usize,
-        number: u32,
-        port: u32,
-        asker: u32,
-        fetched: u32,
-        a: u32,
-        b: u32,
-        c: u32,
-        d: u32,
-    );
+    pub fn kernel_append_row(t: *mut u32, t_len: usize, count: usize, w: *const RowFields);
+    pub fn kernel_append_request(t: *mut u32, t_len: usize, count: usize, w: *const RequestFields);
     pub fn kernel_remove_rows(t: *mut u32, t_len: usize, count: usize, marks: *const RowMarks);
     pub fn kernel_remove_requests(t: *mut u32, t_len: usize, marks: *const RequestMarks);
 }

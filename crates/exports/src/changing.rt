@@ -10,7 +10,7 @@ ghost use mathlib.Core.Path.{_≡_};
 ghost use mathlib.Core.Bool.{Bool, true, false, not};
 ghost use mathlib.Core.List.{List, _∷_};
 ghost use Prim.Native.Nat.{ℕ, suc, _<_, _≤_};
-ghost use lib.ListN.{length, getD};
+ghost use lib.ListN.{length};
 ghost use Rattle.rows.specs.declared.Request.{Request};
 ghost use Rattle.rows.specs.Lists.{topOf, filter, pad, member};
 ghost use Rattle.rows.specs.Tables.{State};
@@ -75,24 +75,28 @@ pub extern "C" fn kernel_set_next(t: &mut [u32], n: u32)
     change::set_next(t, n);
 }
 
-// The row is given field by field.
+fn row_of(w: &[u32; 10]) -> Row
+    ensures { λ r. ⌜ r ≡ rowOf (now (w .entry)) ⌝ }
+{
+    Row {
+        number: w[0],
+        kind: w[1],
+        object: w[2],
+        operation: w[3],
+        rights: w[4],
+        place: w[5],
+        source: w[6],
+        via: w[7],
+        depth: w[8],
+        request: w[9],
+    }
+}
+
+// The row is given by the ten words of its columns.
 #[no_mangle]
-pub extern "C" fn kernel_append_row(
-    t: &mut [u32],
-    count: usize,
-    number: u32,
-    kind: u32,
-    object: u32,
-    operation: u32,
-    rights: u32,
-    place: u32,
-    source: u32,
-    via: u32,
-    depth: u32,
-    request: u32,
-)
-    ensures lies { λ _. ⌜ ((st : State) → (count < 1024) × (source ≤ count) × (via ≤ count) → Lies st (now (t .entry)) → count ≡ length (st .rows) → topOf (λ r. r .number) (st .rows) < number → Lies (withRows (named (st .rows) (rowOf number kind object operation rights place source via depth request) ∷ st .rows) st) (now (t .exit))) ⌝ }
-    ensures other { λ _. ⌜ (((length (now (t .entry)) ≡ 11265) × (count < 1024) × (source ≤ count) × (via ≤ count) → ⊥) → now (t .exit) ≡ now (t .entry)) ⌝ }
+pub extern "C" fn kernel_append_row(t: &mut [u32], count: usize, w: &[u32; 10])
+    ensures lies { λ _. ⌜ ((st : State) → (count < 1024) × (rowOf (now (w .entry)) .source ≤ count) × (rowOf (now (w .entry)) .via ≤ count) → Lies st (now (t .entry)) → count ≡ length (st .rows) → topOf (λ r. r .number) (st .rows) < rowOf (now (w .entry)) .number → Lies (withRows (named (st .rows) (rowOf (now (w .entry))) ∷ st .rows) st) (now (t .exit))) ⌝ }
+    ensures other { λ _. ⌜ (((length (now (t .entry)) ≡ 11265) × (count < 1024) × (rowOf (now (w .entry)) .source ≤ count) × (rowOf (now (w .entry)) .via ≤ count) → ⊥) → now (t .exit) ≡ now (t .entry)) ⌝ }
 {
     if t.len() != LENGTH {
         return;
@@ -100,42 +104,33 @@ pub extern "C" fn kernel_append_row(
     if ROWS <= count {
         return;
     }
-    if count < source as usize {
+    let row = row_of(w);
+    if count < row.source as usize {
         return;
     }
-    if count < via as usize {
+    if count < row.via as usize {
         return;
     }
-    let row = Row {
-        number: number,
-        kind: kind,
-        object: object,
-        operation: operation,
-        rights: rights,
-        place: place,
-        source: source,
-        via: via,
-        depth: depth,
-        request: request,
-    };
     change::append_row(t, count, row);
 }
 
-// The request is given field by field, its items last.
+fn request_of(w: &[u32; 8]) -> Request
+    ensures { λ r. ⌜ r ≡ requestOf (now (w .entry)) ⌝ }
+{
+    let items = [w[4], w[5], w[6], w[7]];
+    Request {
+        number: w[0],
+        port: w[1],
+        asker: w[2],
+        fetched: w[3],
+        items: items,
+    }
+}
+
+// The request is given by the eight words of its columns.
 #[no_mangle]
-pub extern "C" fn kernel_append_request(
-    t: &mut [u32],
-    count: usize,
-    number: u32,
-    port: u32,
-    asker: u32,
-    fetched: u32,
-    a: u32,
-    b: u32,
-    c: u32,
-    d: u32,
-)
-    ensures lies { λ _. ⌜ ((st : State) → count < 128 → Lies st (now (t .entry)) → count ≡ length (st .requests) → topOf (λ v. v .number) (st .requests) < number → Lies (withRequests ((requestOf number port asker fetched a b c d) ∷ st .requests) st) (now (t .exit))) ⌝ }
+pub extern "C" fn kernel_append_request(t: &mut [u32], count: usize, w: &[u32; 8])
+    ensures lies { λ _. ⌜ ((st : State) → count < 128 → Lies st (now (t .entry)) → count ≡ length (st .requests) → topOf (λ v. v .number) (st .requests) < requestOf (now (w .entry)) .number → Lies (withRequests (requestOf (now (w .entry)) ∷ st .requests) st) (now (t .exit))) ⌝ }
     ensures other { λ _. ⌜ (((length (now (t .entry)) ≡ 11265) × (count < 128) → ⊥) → now (t .exit) ≡ now (t .entry)) ⌝ }
 {
     if t.len() != LENGTH {
@@ -144,14 +139,7 @@ pub extern "C" fn kernel_append_request(
     if REQUESTS <= count {
         return;
     }
-    let items = [a, b, c, d];
-    let request = Request {
-        number: number,
-        port: port,
-        asker: asker,
-        fetched: fetched,
-        items: items,
-    };
+    let request = request_of(w);
     change::append_request(t, count, request);
 }
 

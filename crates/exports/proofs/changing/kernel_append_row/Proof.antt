@@ -1,8 +1,12 @@
 -- `changing::kernel_append_row` meets its contract: where the length, the slot and the sources fit, the change's own; else nothing changes.
 use borrow.Author.Needs.{needs}
 use native.Mathlib.Omega.{arith}
-use mathlib.Core.Path.{refl}
-use Rattle.exports.specs.Fields.{rowOf}
+use Prim.Native.Nat.{ℕ, _<_, _≤_}
+use mathlib.Core.List.{_∷_}
+use mathlib.Core.Path.{refl, ap, subst}
+use Rattle.rows.specs.declared.Row.{Row}
+use Rattle.rows.specs.Lists.{topOf}
+use Rattle.rows.specs.Lies.{Lies, named, withRows}
 use Rattle.rows.proofs.Slots.{lies-length}
 use Rattle.exports.proofs.changing.kernel_append_row.Statement.{statement}
 use Rattle.exports.proofs.changing.kernel_append_row.Tie as tie
@@ -13,11 +17,24 @@ returns c = ((λ st h lie e top. absurd (c .if1 .taken (lies-length lie))), (λ 
 returns-2 : tie.Need-returns-2
 returns-2 c = ((λ st h lie e top. absurd (omega (arith, h .0, c .if2 .taken))), (λ not. refl))
 
+row-of-requires : tie.Need-row-of-requires
+row-of-requires c κs = search needs
+
+cast-if3 : tie.Need-cast-if3
+cast-if3 c = search needs
+
 returns-3 : tie.Need-returns-3
-returns-3 c = ((λ st h lie e top. absurd (omega (arith, h .1, c .if3 .taken))), (λ not. refl))
+returns-3 c =
+    let row = c .before .before .row-of .ensures in
+    ((λ st h lie e top. absurd (omega (arith, h .1, ap (λ (r : Row). r .source) row, c .if3 .taken))), (λ not. refl))
+
+cast-if4 : tie.Need-cast-if4
+cast-if4 c = search needs
 
 returns-4 : tie.Need-returns-4
-returns-4 c = ((λ st h lie e top. absurd (omega (arith, h .2, c .if4 .taken))), (λ not. refl))
+returns-4 c =
+    let row = c .before .before .before .before .row-of .ensures in
+    ((λ st h lie e top. absurd (omega (arith, h .2, ap (λ (r : Row). r .via) row, c .if4 .taken))), (λ not. refl))
 
 append-row-requires : tie.Need-append-row-requires
 append-row-requires c κs = search needs
@@ -26,10 +43,14 @@ same-length : tie.Need-same-length
 same-length c = search needs
 
 returns-5 : tie.Need-returns-5
-unfolding rowOf
 returns-5 c =
     let s = c .before .before in
-    ((λ st h lie e top. s .append-row .ensures .0 st lie e top), (λ not. absurd (not (s .before .before .before .before .before .if1 .left, s .before .before .before .before .if2 .left, s .before .before .before .if3 .left, s .before .before .if4 .left))))
+    let r = s .before .before .before .before .before .before in
+    let count = r .before .before .before .before .args .count in
+    let same = r .row-of .ensures in (
+      (λ st h lie e. subst (λ (w : Row). topOf (λ r. r .number) (st .rows) < w .number → Lies (withRows (named (st .rows) w ∷ st .rows) st) (s .append-row .last .0)) same (s .append-row .ensures .0 st lie e)),
+      (λ not. absurd (not (r .before .before .if1 .left, r .before .if2 .left, subst (λ (w : Row). w .source ≤ count) same (s .before .before .before .before .if3 .left), subst (λ (w : Row). w .via ≤ count) same (s .before .before .if4 .left)))),
+    )
 
 pub kernel-append-row-spec : {M : Type 1} → statement M
-kernel-append-row-spec = tie.close (tie.spec returns returns-2 returns-3 returns-4 append-row-requires same-length returns-5)
+kernel-append-row-spec = tie.close (tie.spec returns returns-2 row-of-requires cast-if3 returns-3 cast-if4 returns-4 append-row-requires same-length returns-5)
