@@ -12,7 +12,7 @@ use lib.Seq.{getD-at, set-at, set-append-left}
 use Rattle.rows.specs.declared.Row.{Row}
 use Rattle.rows.specs.Lists.{rises, member, pad, some}
 use Rattle.rows.specs.Lies.{slotWith, rowSlot}
-use Rattle.rows.proofs.Bools.{eqb-sym-f, or-fl, or-fr}
+use Rattle.rows.proofs.Bools.{eqb-sym-f, or-fl, or-fr, and-false}
 use Rattle.rows.proofs.Keyed.{rises-rest, rises-fresh}
 use Rattle.rows.proofs.KeySlots.{slot-le, slot-none}
 use Rattle.changes.specs.Marks.{tested}
@@ -103,22 +103,18 @@ module _ {A : Type 0} (key : A → ℕ) (b : ℕ → Bool) (n : ℕ) where
           ∙ (λ j. ih e j ++ ((or-false (b (key x)) ∙ ap (λ (c : Bool). b (key x) || c) (sym q)) j ∷ []))
 
 -- ---- one item
-and-none : (c : Bool) → c && false ≡ false
-and-none true = refl
-and-none false = refl
-
 pub among-one : (e n : ℕ) → some e ≡ true → among (e ∷ []) n ≡ eqb n e
 unfolding among member
 among-one e n h = pick (eqb n e) refl
   where
     pick : (c : Bool) → eqb n e ≡ c → some n && (c || false) ≡ c
     pick true q = rw (ap some (eqb-true n e q) ∙ h) refl
-    pick false q = and-none (some n)
+    pick false q = and-false (some n)
 
 pub among-zero : (n : ℕ) → among (0 ∷ []) n ≡ false
 unfolding among member some
 among-zero zero = refl
-among-zero (suc n) = rw (ne-eqb (suc n) 0 (λ e. omega arith)) (and-none (some (suc n)))
+among-zero (suc n) = rw (ne-eqb (suc n) 0 (λ e. omega arith)) (and-false (some (suc n)))
 
 -- ---- marks of rows
 module _ (b : ℕ → Bool) where

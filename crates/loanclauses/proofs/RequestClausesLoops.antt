@@ -19,9 +19,8 @@ use Rattle.rows.specs.Sound.{numbersApart, fetchedInRange, portStands, portsSta
 use Rattle.rows.specs.Layout.{requestAt, requestsTo}
 use Rattle.rows.specs.Lies.{Lies, rowSlot}
 use Rattle.loanclauses.specs.Clauses.{requestRight, standingPort, portsRight, isFree, withMark}
-use Rattle.rows.proofs.Bools.{clash, and-l, and-r, eqb-sym}
+use Rattle.rows.proofs.Bools.{clash, and-l, and-r, and-false, eqb-sym}
 use Rattle.rows.proofs.Slots.{row-absent}
-use Rattle.loanclauses.proofs.RowClauses.{and-false}
 use Rattle.loanclauses.proofs.RequestClauses.{slot-test, all-both}
 
 -- ---- ports

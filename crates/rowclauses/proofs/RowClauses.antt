@@ -16,7 +16,7 @@ use Rattle.rows.specs.Codes.{operation, subdirectory, clientEnd, serverEnd, isC
 use Rattle.rows.specs.Tables.{isListed, rowOf}
 use Rattle.rows.specs.Sound.{objectInRange, placeInRange, isOpening, isRegistered, isHeld, isPortEnd, isLentCopy, sourceRight}
 use Rattle.rowclauses.specs.Seen.{Seen}
-use Rattle.rows.proofs.Bools.{false-of, clash, or-false}
+use Rattle.rows.proofs.Bools.{false-of, clash, and-false, or-false}
 use Rattle.rows.proofs.Places.{copied-no-end}
 
 -- ---- objects, kind by kind
@@ -60,10 +60,6 @@ unborne true false c d = refl
 unborne true true false d = refl
 unborne true true true false = refl
 unborne true true true true = refl
-
-pub and-false : (a : Bool) → a && false ≡ false
-and-false true = refl
-and-false false = refl
 
 module _ (vs : List Request) (rs : List Row) (y : Row) where
   -- what bears a request is a lent copy, or nothing

@@ -17,10 +17,9 @@ use Rattle.rows.specs.Layout.{requestAt}
 use Rattle.rows.specs.Lies.{Lies, requestSlot, rawRow}
 use Rattle.rowclauses.specs.AtSlot.{AtSlot}
 use Rattle.rowclauses.specs.Seen.{Same, Seen, slotRow, rowSound}
-use Rattle.rows.proofs.Bools.{or-false}
+use Rattle.rows.proofs.Bools.{or-false, and-false}
 use Rattle.rows.proofs.Slots.{lies-well, slot-zero, request-absent, request-words, raw-request, request-read}
 use Rattle.rowclauses.proofs.SlotLoops.{each-join, each-all}
-use Rattle.rowclauses.proofs.RowClauses.{and-false}
 use Rattle.rowclauses.proofs.RowsSeen.{seen-at, same-at}
 
 -- ---- the request that a row bears

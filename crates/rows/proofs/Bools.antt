@@ -87,6 +87,10 @@ pub and-true : (a : Bool) → a && true ≡ a
 and-true true = refl
 and-true false = refl
 
+pub and-false : (b : Bool) → b && false ≡ false
+and-false true = refl
+and-false false = refl
+
 pub or-false : (a : Bool) → a || false ≡ a
 or-false true = refl
 or-false false = refl
