@@ -1,10 +1,8 @@
 -- What the requests list, in their words: the items of a slot, and whether an open request lists an end.
-use Prim.Native.Nat.{ℕ, zero, suc, _+_, _*_, _<_}
+use Prim.Native.Nat.{ℕ, _+_, _*_}
 use mathlib.Core.Bool.{Bool, true, false, _||_}
 use mathlib.Core.List.{List}
-use mathlib.Core.Path.{_≡_, refl, ap, sym, _∙_}
-use mathlib.Core.Logic.{⊎-elim}
-use native.Mathlib.Nat.{eq-or-lt-of-le, le-of-suc-le-suc}
+use mathlib.Core.Path.{_≡_, refl, ap, _∙_}
 use native.Mathlib.Numerals.{add-one}
 use native.Mathlib.Omega.{arith}
 use lib.Dec.{eqb}
@@ -16,7 +14,7 @@ use Rattle.rows.specs.Tables.{State, lists, onLoan}
 use Rattle.rows.specs.Sound.{itemsFew}
 use Rattle.rows.specs.Layout.{rowColumns, requestColumns, requestsAt, requestField, requestAt, requestsTo, requestsIn}
 use Rattle.rows.specs.Lies.{Lies}
-use Rattle.rows.proofs.Bools.{or-l, or-r, any-eq}
+use Rattle.rows.proofs.Bools.{any-eq}
 use Rattle.rows.proofs.LayoutRequests.{requests-back}
 use Rattle.rows.proofs.LiesWords.{lies-well, lies-requests, lies-request}
 
@@ -44,37 +42,22 @@ items-tested t j e =
     rw (at-column t 4 j (10752 + j) (omega arith), at-column t 5 j (10880 + j) (omega arith), at-column t 6 j (11008 + j) (omega arith), at-column t 7 j (11136 + j) (omega arith))
     (four-tests (eqb e (getD t (10752 + j) 0)) (eqb e (getD t (10880 + j) 0)) (eqb e (getD t (11008 + j) 0)) (eqb e (getD t (11136 + j) 0)))
 
-any-at : (P : Request → Bool) (t : List ℕ) (j k : ℕ) → j < k → P (requestAt t j) ≡ true → any P (requestsTo t k) ≡ true
-unfolding any requestsTo
-any-at P t j zero h e = absurd (omega arith)
-any-at P t j (suc k) h e =
-    ⊎-elim (λ d. or-l (P (requestAt t k)) (any P (requestsTo t k)) (ap (λ (i : ℕ). P (requestAt t i)) (sym d) ∙ e))
-    (λ lt. or-r (P (requestAt t k)) (any P (requestsTo t k)) (any-at P t j k lt e))
-    (eq-or-lt-of-le (le-of-suc-le-suc h))
-
 module _ (t : List ℕ) (e : ℕ) where
   abbrev listed : Request → Bool
   listed v = member e (v .items)
 
-  -- none of the first j requests lists e
-  unfoldable pub Unlisted : ℕ → Type 0
-  Unlisted j = any listed (requestsTo t j) ≡ false
+  -- one of the first j requests lists e
+  unfoldable pub listedTo : ℕ → Bool
+  listedTo j = any listed (requestsTo t j)
 
-  pub unlisted-none : Unlisted 0
-  unfolding Unlisted any requestsTo
-  unlisted-none = refl
+  pub listed-none : false ≡ listedTo 0
+  unfolding listedTo any requestsTo
+  listed-none = refl
 
-  pub unlisted-more : (j : ℕ) → Unlisted j → member e (requestAt t j .items) ≡ false → Unlisted (j + 1)
-  unfolding Unlisted any requestsTo
-  unlisted-more j u h = rw (add-one j, h) u
+  pub listed-more : (j : ℕ) (here found : Bool) → here ≡ member e (requestAt t j .items) → found ≡ listedTo j → here || found ≡ listedTo (j + 1)
+  unfolding listedTo any requestsTo
+  listed-more j here found h f = rw (add-one j, h, f) refl
 
-  on-loan : (st : State) → Lies st t → some e ≡ true → any listed (requestsTo t (requestsIn t)) ≡ onLoan (st .requests) e
-  unfolding onLoan lists
-  on-loan st lie pos = rw (requests-read lie) (any-eq listed (lists e) (λ v. rw pos refl) (st .requests))
-
-  pub loan-here : (j : ℕ) → j < requestsIn t → member e (requestAt t j .items) ≡ true → (st : State) → Lies st t → some e ≡ true → true ≡ onLoan (st .requests) e
-  loan-here j h m st lie pos = sym (any-at listed t j (requestsIn t) h m) ∙ on-loan st lie pos
-
-  pub loan-none : Unlisted (requestsIn t) → (st : State) → Lies st t → some e ≡ true → false ≡ onLoan (st .requests) e
-  unfolding Unlisted
-  loan-none u st lie pos = sym u ∙ on-loan st lie pos
+  pub listed-loan : (found : Bool) → found ≡ listedTo (requestsIn t) → (st : State) → Lies st t → some e ≡ true → found ≡ onLoan (st .requests) e
+  unfolding listedTo onLoan lists
+  listed-loan found f st lie pos = f ∙ rw (requests-read lie) (any-eq listed (lists e) (λ v. rw pos refl) (st .requests))

@@ -264,6 +264,14 @@ module _ (t : List ℕ) (i q d : ℕ) where
         ∙ rw (← itself st n so lie (e ∙ at) deep false h, ← via st n so lie (e ∙ at) deep false g)
         (or-false (reaches (touches st q) (st .rows) (rowOf (st .rows) n .source)) ∙ sym (source st n so lie (e ∙ at) deep r k)))
 
+    -- a row that has no source answers itself
+    pub question-alone : eqb (getD t (6144 + i) 0) 0 && eqb (getD t (7168 + i) 0) 0 ≡ true → (r : Bool) → Touched t i q r → Reaches t s q d r
+    question-alone z true h = question-touched h
+    question-alone z false h =
+        let no-source = eqb-true (getD t (6144 + i) 0) 0 (and-l (eqb (getD t (6144 + i) 0) 0) (eqb (getD t (7168 + i) 0) 0) z) in
+        let no-via = eqb-true (getD t (7168 + i) 0) 0 (and-r (eqb (getD t (6144 + i) 0) 0) (eqb (getD t (7168 + i) 0) 0) z) in
+        question-source h (via-none no-via) false (question-none t (getD t (6144 + i) 0) q (d - 1) (λ x y w. omega arith))
+
     pub port-source : Touched t i q false → (r : Bool) → Reaches t (getD t (6144 + i) 0) q (d - 1) r → PortReaches t s q d r
     unfolding PortReaches
     port-source h r g st n so lie e deep client =
@@ -296,13 +304,11 @@ module _ (t : List ℕ) (e : ℕ) (st : State) (n : ℕ) (so : sound st ≡ true
 
     -- a row that has no source and bears another or none
     pub comes-first : (getD t (9216 + e) 0 ≡ q → ⊥) → eqb (getD t (6144 + e) 0) 0 && eqb (getD t (7168 + e) 0) 0 ≡ true → false ≡ comesFrom (st .rows) q n
-    comes-first h z =
-        let no-source = eqb-true (getD t (6144 + e) 0) 0 (and-l (eqb (getD t (6144 + e) 0) 0) (eqb (getD t (7168 + e) 0) 0) z) in
-        let no-via = eqb-true (getD t (7168 + e) 0) 0 (and-r (eqb (getD t (6144 + e) 0) 0) (eqb (getD t (7168 + e) 0) 0) z) in
-        comes-answer false
-        (question-source t e q 12 (e + 1) (add-one e) (bearing false (ne-eqb (getD t (9216 + e) 0) q h)) (via-none t e q 12 no-via) false
-        (question-none t (getD t (6144 + e) 0) q 11 (λ x y w. omega arith)))
+    comes-first h z = comes-answer false (question-alone t e q 12 (e + 1) (add-one e) z false (bearing false (ne-eqb (getD t (9216 + e) 0) q h)))
 
   pub lent-answer : (r : Bool) → Reaches t (e + 1) 0 12 r → r ≡ isLent st n
   unfolding isLent touches some
   lent-answer r h = asked r 0 h
+
+  pub lent-first : eqb (getD t (6144 + e) 0) 0 && eqb (getD t (7168 + e) 0) 0 ≡ true → (r : Bool) → Touched t e 0 r → r ≡ isLent st n
+  lent-first z r h = lent-answer r (question-alone t e 0 12 (e + 1) (add-one e) z r h)

@@ -11,9 +11,10 @@ use rows::layout::ROWS;
 use rows::layout::SOURCE;
 use rows::layout::VIA;
 ghost use mathlib.Core.Path.{_≡_};
-ghost use mathlib.Core.Bool.{true};
-ghost use Prim.Native.Nat.{ℕ, suc, _<_};
-ghost use lib.ListN.{length};
+ghost use mathlib.Core.Bool.{true, _&&_};
+ghost use Prim.Native.Nat.{ℕ, suc, _+_, _<_};
+ghost use lib.Dec.{eqb};
+ghost use lib.ListN.{length, getD};
 ghost use Rattle.rows.specs.Lists.{member, some};
 ghost use Rattle.rows.specs.Tables.{State, onLoan, comesFrom, isLent};
 ghost use Rattle.rows.specs.Sound.{sound};
@@ -35,21 +36,20 @@ fn lists_item(t: &[u32], j: usize, e: u32) -> bool
         | (e == t[Q_ITEMS + 384 + j])
 }
 
-// Whether an open request lists e.
+// Whether an open request lists e. Every list is looked at, with no way out early, so that the loop runs over many words at once.
 // Ruled out: no, where the last item of the newest request is e; yes, where e is only a request's port.
 pub fn on_loan(t: &[u32], e: u32) -> bool
     requires { ⌜ length (now t) ≡ 11265 ⌝ }
     ensures { λ r. ⌜ ((st : State) → Lies st (now (t .entry)) → some e ≡ true → r ≡ onLoan (st .requests) e) ⌝ }
 {
     let count = requests_in(t);
+    let mut found = false;
     let mut j = 0;
     while j < count {
-        if lists_item(t, j, e) {
-            return true;
-        }
+        found = lists_item(t, j, e) | found;
         j += 1;
     }
-    false
+    found
 }
 
 // What a question asks of the row in slot i itself: for a request q whether it bears q, for 0 whether it is lent itself.
@@ -138,6 +138,14 @@ fn port_question(t: &[u32], c: u32, q: u32, d: u32) -> bool
     row_question(t, t[SOURCE + i], q, d - 1)
 }
 
+// Ruled out: yes for a row that has one source.
+fn has_no_source(t: &[u32], e: usize) -> bool
+    requires { ⌜ (length (now t) ≡ 11265) × (e < 1024) ⌝ }
+    ensures { λ r. ⌜ r ≡ (eqb (getD (now (t .entry)) (6144 + e) 0) 0 && eqb (getD (now (t .entry)) (7168 + e) 0) 0) ⌝ }
+{
+    (t[SOURCE + e] == 0) & (t[VIA + e] == 0)
+}
+
 // Whether the row in slot e comes from request q. Most rows say it themselves: they bear q, or have no source.
 // Ruled out: no, where the port under a copy comes from q; the answer for the row in the next slot.
 pub fn comes(t: &[u32], e: usize, q: u32) -> bool
@@ -147,17 +155,20 @@ pub fn comes(t: &[u32], e: usize, q: u32) -> bool
     if t[REQUEST + e] == q {
         return true;
     }
-    if (t[SOURCE + e] == 0) & (t[VIA + e] == 0) {
+    if has_no_source(t, e) {
         return false;
     }
     row_question(t, (e + 1) as u32, q, GREATEST_DEPTH)
 }
 
-// Whether the row in slot e is lent.
+// Whether the row in slot e is lent. A row that has no source says it itself.
 // Ruled out: no, where the oldest of twelve rows in a line is lent; yes, where a row bears no request and no end is on loan.
 pub fn lent(t: &[u32], e: usize) -> bool
     requires { ⌜ (length (now t) ≡ 11265) × (e < 1024) ⌝ }
     ensures { λ r. ⌜ ((st : State) (n : ℕ) → sound st ≡ true → Lies st (now (t .entry)) → rowSlot (st .rows) n ≡ suc e → r ≡ isLent st n) ⌝ }
 {
+    if has_no_source(t, e) {
+        return touched(t, e, 0);
+    }
     row_question(t, (e + 1) as u32, 0, GREATEST_DEPTH)
 }

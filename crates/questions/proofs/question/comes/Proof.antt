@@ -1,5 +1,6 @@
 -- `question::comes` meets its contract: the row says it itself, or the row question is asked, twelve steps back.
 use borrow.Author.Needs.{needs}
+use mathlib.Core.Path.{sym, _∙_}
 use denote.Ref.{now}
 use Rattle.questions.proofs.Questions.{comes-answer, comes-bearing, comes-first}
 use Rattle.questions.proofs.question.comes.Statement.{statement}
@@ -12,13 +13,13 @@ returns c =
 
 returns-2 : tie.Need-returns-2
 returns-2 c =
-    let b = c .before .before .before in
+    let b = c .before .before in
     let a = b .before .before .before .args in
-    λ st n so lie at pos. comes-first (now (a .t)) (a .e) st n so lie at (a .q) pos (b .if1 .left) (c .if2 .taken)
+    λ st n so lie at pos. comes-first (now (a .t)) (a .e) st n so lie at (a .q) pos (b .if1 .left) (sym (c .before .has-no-source .ensures) ∙ c .if2 .taken)
 
 returns-3 : tie.Need-returns-3
 returns-3 c =
-    let a = c .before .before .before .before .before .before .before .args in
+    let a = c .before .before .before .before .before .before .args in
     λ st n so lie at pos. comes-answer (now (a .t)) (a .e) st n so lie at (a .q) pos (c .row-question .result) (c .row-question .ensures)
 
 pub comes-spec : {M : Type 1} → statement M
@@ -29,12 +30,7 @@ comes-spec =
     (λ c. search needs)
     (λ c. search needs)
     returns
-    (λ c. search needs)
-    (λ c. search needs)
-    (λ c. search needs)
-    (λ c. search needs)
-    (λ c. search needs)
-    (λ c. search needs)
+    (λ c κs. search needs)
     returns-2
     (λ c. search needs)
     (λ c. search needs)
