@@ -4,6 +4,7 @@
 mod raw;
 
 pub mod changing;
+pub mod plain;
 pub mod reading;
 pub mod rights;
 
