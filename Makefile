@@ -1,5 +1,5 @@
-# make run: the example session. make test: the whole gate.
-.PHONY: run test
+# make run: the example session. make test: the whole gate. make bench: the benchmark, which is not in the gate.
+.PHONY: run test bench
 
 # until the proved program stands, the prover computes the definition of a session
 run:
@@ -7,3 +7,6 @@ run:
 
 test:
 	@tools/gate
+
+bench:
+	@cargo run --quiet --offline --profile bench --bin bench --manifest-path library/Cargo.toml

@@ -31,6 +31,7 @@ pub fn append_request(tables: &mut [u32], count: usize, request: &RequestFields)
 }
 
 /// Removes the marked rows of the first so many.
+#[inline]
 pub fn remove_rows(tables: &mut [u32], count: usize, marks: &RowMarks) {
     unsafe { raw::kernel_remove_rows(tables.as_mut_ptr(), tables.len(), count, marks) }
 }

@@ -12,14 +12,17 @@ pub fn requests_in(tables: &[u32]) -> usize {
 }
 
 /// A slot plus 1, or 0 for none.
+#[inline]
 fn slot(answer: usize) -> Option<usize> {
     answer.checked_sub(1)
 }
 
+#[inline]
 pub fn row_slot(tables: &[u32], number: u32) -> Option<usize> {
     slot(unsafe { raw::kernel_row_slot(tables.as_ptr(), tables.len(), number) })
 }
 
+#[inline]
 pub fn request_slot(tables: &[u32], number: u32) -> Option<usize> {
     slot(unsafe { raw::kernel_request_slot(tables.as_ptr(), tables.len(), number) })
 }
@@ -51,6 +54,7 @@ pub fn records(from: &[u32], to: &mut [u32]) {
     unsafe { raw::kernel_records(from.as_ptr(), from.len(), to.as_mut_ptr(), to.len()) }
 }
 
+#[inline]
 pub fn sound(tables: &[u32], processes: &[u32]) -> bool {
     let (t, p) = (tables, processes);
     unsafe { raw::kernel_sound(t.as_ptr(), t.len(), p.as_ptr(), p.len()) }
@@ -62,11 +66,13 @@ pub fn on_loan(tables: &[u32], number: u32) -> bool {
 }
 
 /// Whether the row in a slot comes from a request.
+#[inline]
 pub fn comes(tables: &[u32], slot: usize, request: u32) -> bool {
     unsafe { raw::kernel_comes(tables.as_ptr(), tables.len(), slot, request) }
 }
 
 /// Whether the row in a slot is lent.
+#[inline]
 pub fn lent(tables: &[u32], slot: usize) -> bool {
     unsafe { raw::kernel_lent(tables.as_ptr(), tables.len(), slot) }
 }

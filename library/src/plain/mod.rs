@@ -1,4 +1,29 @@
-//! Plain Rust over the same words, to compare the proved functions' speed with.
+//! The same functions in plain Rust over the same words, for the benchmark: what the proved code is measured against.
 
 pub mod closing;
 pub mod closing_tables;
+pub mod find;
+mod holders;
+mod laid;
+pub mod questions;
+pub mod removal;
+mod request_clauses;
+mod row_clauses;
+mod view;
+
+use view::{processes_of, View};
+
+/// Whether the words are sound tables, as `kernel_sound` answers.
+#[inline(never)]
+pub fn sound(tables: &[u32], processes: &[u32]) -> bool {
+    let (Some(tables), Some(processes)) = (View::of(tables), processes_of(processes)) else {
+        return false;
+    };
+    laid::laid(&tables)
+        && laid::next_sound(&tables)
+        && laid::records_sound(processes)
+        && row_clauses::rows_sound(&tables, processes)
+        && request_clauses::requests_sound(&tables, processes)
+        && holders::holders_sound(&tables)
+        && holders::processes_placed(&tables, processes)
+}

@@ -1,0 +1,229 @@
+//! The operations, each proved and in plain Rust, with the bytes that it
+//! touches: the words of the lent runs (and marks) that it reads or writes,
+//! each once.
+
+use crate::tables::Benched;
+use kernel::{changing, plain, reading, RowMarks};
+use model::limits::{REQUESTS, ROWS};
+use std::hint::black_box as hidden;
+
+const KIND: usize = ROWS;
+const SOURCE: usize = 6 * ROWS;
+const VIA: usize = 7 * ROWS;
+const DEPTH: usize = 8 * ROWS;
+const REQUEST: usize = 9 * ROWS;
+const REQUEST_START: usize = 10 * ROWS;
+
+/// One operation: so many calls of the proved function, or of the plain one.
+pub trait Operation {
+    /// Makes ready for so many calls; it is not measured.
+    fn prepare(&mut self) {}
+    fn proved(&mut self, calls: usize);
+    fn plain(&mut self, calls: usize);
+}
+
+pub struct About {
+    pub name: String,
+    pub bytes: usize,
+    /// How many calls a batch has.
+    pub calls: usize,
+}
+
+/// What is done with an operation: it is timed, or its instructions are counted.
+pub trait Measured {
+    fn measure(&mut self, tables: &Benched, about: About, operation: &mut dyn Operation);
+}
+
+/// Two closures, a call each.
+struct Reads<A, B>(A, B);
+
+impl<R, A: Fn() -> R, B: Fn() -> R> Operation for Reads<A, B> {
+    fn proved(&mut self, calls: usize) {
+        for _ in 0..calls {
+            hidden((self.0)());
+        }
+    }
+
+    fn plain(&mut self, calls: usize) {
+        for _ in 0..calls {
+            hidden((self.1)());
+        }
+    }
+}
+
+pub fn on_tables(b: &Benched, by: &mut dyn Measured) {
+    sound(b, by);
+    look_up_row(b, by);
+    look_up_request(b, by);
+    for slot in [b.first, b.line, b.loan] {
+        comes(b, by, slot);
+    }
+    for slot in [b.first, b.line, b.end] {
+        lent(b, by, slot);
+    }
+    for gone in [1, b.rows / 2, b.rows] {
+        removal(b, by, gone);
+    }
+}
+
+fn sound(b: &Benched, by: &mut dyn Measured) {
+    let (t, p) = (b.words.as_slice(), b.processes.as_slice());
+    assert!(reading::sound(t, p) && plain::sound(t, p));
+    let about = About {
+        name: "sound".into(),
+        bytes: 4 * (t.len() + p.len()),
+        calls: 2 + 1_000 / b.rows,
+    };
+    let proved = || reading::sound(hidden(t), hidden(p));
+    let plain = || plain::sound(hidden(t), hidden(p));
+    by.measure(b, about, &mut Reads(proved, plain));
+}
+
+/// The newest row by its number. The rows are counted first.
+fn look_up_row(b: &Benched, by: &mut dyn Measured) {
+    let t = b.words.as_slice();
+    let newest = b.rows - 1;
+    let row = t[newest];
+    assert_eq!(reading::row_slot(t, row), Some(newest));
+    assert_eq!(plain::find::row_slot(t, row), Some(newest));
+    let about = About {
+        name: "look-up of a row".into(),
+        bytes: 4 * (b.rows + 1).min(ROWS),
+        calls: 100,
+    };
+    let proved = || reading::row_slot(hidden(t), hidden(row));
+    let plain = || plain::find::row_slot(hidden(t), hidden(row));
+    by.measure(b, about, &mut Reads(proved, plain));
+}
+
+fn look_up_request(b: &Benched, by: &mut dyn Measured) {
+    let t = b.words.as_slice();
+    let newest = b.requests - 1;
+    let request = t[REQUEST_START + newest];
+    assert_eq!(reading::request_slot(t, request), Some(newest));
+    assert_eq!(plain::find::request_slot(t, request), Some(newest));
+    let about = About {
+        name: "look-up of a request".into(),
+        bytes: 4 * (b.requests + 1).min(REQUESTS),
+        calls: 300,
+    };
+    let proved = || reading::request_slot(hidden(t), hidden(request));
+    let plain = || plain::find::request_slot(hidden(t), hidden(request));
+    by.measure(b, about, &mut Reads(proved, plain));
+}
+
+/// The slots that a question goes through from a slot, each once.
+fn slots_from(t: &[u32], slot: usize) -> Vec<usize> {
+    let mut slots = vec![slot];
+    let mut at = 0;
+    while at < slots.len() {
+        for column in [SOURCE, VIA] {
+            let source = t[column + slots[at]] as usize;
+            if source != 0 && !slots.contains(&(source - 1)) {
+                slots.push(source - 1);
+            }
+        }
+        at += 1;
+    }
+    slots
+}
+
+/// What row is asked about.
+fn row(t: &[u32], slot: usize) -> String {
+    let depth = t[DEPTH + slot];
+    let shape = match (t[KIND + slot], t[REQUEST + slot]) {
+        (3.., _) => "an end",
+        (_, 1..) => "a copy lent on and on",
+        _ => "a line of rows",
+    };
+    match depth {
+        1 => "depth 1".into(),
+        _ => format!("depth {depth}, {shape}"),
+    }
+}
+
+/// Of a request that no row comes from, so that the question goes to the end.
+fn comes(b: &Benched, by: &mut dyn Measured, slot: usize) {
+    let t = b.words.as_slice();
+    let none = 1_000_001;
+    assert!(!reading::comes(t, slot, none));
+    assert!(!plain::questions::comes(t, slot, none));
+    let about = About {
+        name: format!("comes, {}", row(t, slot)),
+        bytes: 12 * slots_from(t, slot).len(),
+        calls: 300,
+    };
+    let proved = || reading::comes(hidden(t), hidden(slot), hidden(none));
+    let plain = || plain::questions::comes(hidden(t), hidden(slot), hidden(none));
+    by.measure(b, about, &mut Reads(proved, plain));
+}
+
+/// Of a row that is not lent, so that the question goes to the end.
+fn lent(b: &Benched, by: &mut dyn Measured, slot: usize) {
+    let t = b.words.as_slice();
+    assert!(!reading::lent(t, slot) && !plain::questions::lent(t, slot));
+    let slots = slots_from(t, slot);
+    let ends = slots.iter().filter(|i| t[KIND + **i] >= 3).count();
+    let numbers = (b.requests + 1).min(REQUESTS);
+    let listings = ends.min(1) * (numbers + 4 * b.requests);
+    let about = About {
+        name: format!("lent, {}", row(t, slot)),
+        bytes: 16 * slots.len() + 4 * ends + 4 * listings,
+        calls: 300,
+    };
+    let proved = || reading::lent(hidden(t), hidden(slot));
+    let plain = || plain::questions::lent(hidden(t), hidden(slot));
+    by.measure(b, about, &mut Reads(proved, plain));
+}
+
+/// Removal of the newest rows. Each call has tables of its own.
+struct Removal<'a> {
+    benched: &'a Benched,
+    marks: RowMarks,
+    tables: Vec<Vec<u32>>,
+}
+
+impl Operation for Removal<'_> {
+    fn prepare(&mut self) {
+        for words in &mut self.tables {
+            words.copy_from_slice(&self.benched.words);
+        }
+    }
+
+    fn proved(&mut self, calls: usize) {
+        let (count, marks) = (self.benched.rows, &self.marks);
+        for words in &mut self.tables[..calls] {
+            changing::remove_rows(hidden(words), hidden(count), hidden(marks));
+        }
+    }
+
+    fn plain(&mut self, calls: usize) {
+        let (count, marks) = (self.benched.rows, &self.marks);
+        for words in &mut self.tables[..calls] {
+            plain::removal::remove_rows(hidden(words), hidden(count), hidden(marks));
+        }
+    }
+}
+
+fn removal(b: &Benched, by: &mut dyn Measured, gone: usize) {
+    let mut marks: RowMarks = [false; ROWS];
+    marks[b.rows - gone..b.rows].fill(true);
+    let calls = 10;
+    let tables = vec![b.words.clone(); calls];
+    let mut operation = Removal {
+        benched: b,
+        marks,
+        tables,
+    };
+    operation.proved(calls);
+    let proved = operation.tables.clone();
+    operation.prepare();
+    operation.plain(calls);
+    assert!(proved == operation.tables, "the same words");
+    let about = About {
+        name: format!("removal of {gone} of {} rows", b.rows),
+        bytes: b.rows + 40 * b.rows,
+        calls,
+    };
+    by.measure(b, about, &mut operation);
+}

@@ -1,0 +1,55 @@
+//! Does a row come from a request, is it lent.
+
+use super::view::{used, CLIENT, REQUESTS, ROWS, SERVER, TABLES_WORDS};
+
+const KIND: usize = ROWS;
+const SOURCE: usize = 6 * ROWS;
+const VIA: usize = 7 * ROWS;
+const REQUEST: usize = 9 * ROWS;
+const REQUEST_START: usize = 10 * ROWS;
+const ITEMS: usize = REQUEST_START + 4 * REQUESTS;
+
+/// Whether the row in the slot comes from the request; no for other lengths and slots.
+#[inline(never)]
+pub fn comes(tables: &[u32], slot: usize, request: u32) -> bool {
+    let Ok(words) = tables.try_into() else {
+        return false;
+    };
+    slot < ROWS && reaches(words, slot, 12, &|i| words[REQUEST + i] == request)
+}
+
+/// Whether the row in the slot is lent; no for other lengths and slots.
+#[inline(never)]
+pub fn lent(tables: &[u32], slot: usize) -> bool {
+    let Ok(words) = tables.try_into() else {
+        return false;
+    };
+    slot < ROWS && reaches(words, slot, 12, &|i| lent_itself(words, i))
+}
+
+/// Whether the row or one that it comes from passes the test.
+fn reaches(
+    words: &[u32; TABLES_WORDS],
+    slot: usize,
+    depth: u32,
+    test: &impl Fn(usize) -> bool,
+) -> bool {
+    let from = |word: u32| match word as usize {
+        0 => false,
+        at if at > ROWS || depth == 1 => false,
+        at => reaches(words, at - 1, depth - 1, test),
+    };
+    test(slot) || from(words[SOURCE + slot]) || from(words[VIA + slot])
+}
+
+fn lent_itself(words: &[u32; TABLES_WORDS], slot: usize) -> bool {
+    let end = matches!(words[KIND + slot], CLIENT | SERVER);
+    words[REQUEST + slot] != 0 || (end && on_loan(words, words[slot]))
+}
+
+/// Whether an open request lists the row.
+fn on_loan(words: &[u32; TABLES_WORDS], number: u32) -> bool {
+    let open = used(&words[REQUEST_START..REQUEST_START + REQUESTS]);
+    let mut items = words[ITEMS..ITEMS + 4 * REQUESTS].chunks_exact(REQUESTS);
+    items.any(|column| column[..open].contains(&number))
+}
