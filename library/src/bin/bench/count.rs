@@ -2,7 +2,7 @@
 //! operation and written to a file after it. Outside valgrind this does nothing.
 
 use crate::operations::{About, Measured, Operation};
-use crate::tables::Benched;
+use crate::tables::Size;
 use std::arch::asm;
 use std::ffi::CString;
 
@@ -17,16 +17,16 @@ const STOP: u64 = BASE + 5;
 pub struct Counted;
 
 impl Measured for Counted {
-    fn measure(&mut self, tables: &Benched, about: About, operation: &mut dyn Operation) {
+    fn measure(&mut self, size: Size, about: About, operation: &mut dyn Operation) {
         let calls = about.calls;
         operation.prepare();
         counted(
-            &format!("{}; {}; proved; {calls}", tables.rows, about.name),
+            &format!("{}; {}; proved; {calls}", size.rows, about.name),
             || operation.proved(calls),
         );
         operation.prepare();
         counted(
-            &format!("{}; {}; plain; {calls}", tables.rows, about.name),
+            &format!("{}; {}; plain; {calls}", size.rows, about.name),
             || operation.plain(calls),
         );
     }

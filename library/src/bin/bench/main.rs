@@ -3,6 +3,7 @@
 //! run under callgrind, has the instructions counted (tools/count-instructions).
 
 mod allocations;
+mod closings;
 mod count;
 mod operations;
 mod stack;
@@ -10,7 +11,7 @@ mod tables;
 mod time;
 
 use operations::{on_tables, About, Measured, Operation};
-use tables::{tables, Benched};
+use tables::{tables, Benched, Size};
 
 /// 10, 100 and 1,024 rows; the last tables are full.
 const SIZES: [usize; 3] = [10, 100, 1024];
@@ -20,6 +21,7 @@ fn main() {
     let all: Vec<Benched> = SIZES.into_iter().map(tables).collect();
     if counting {
         all.iter().for_each(|b| on_tables(b, &mut count::Counted));
+        closings::on_closings(&mut count::Counted);
         return;
     }
     println!("{}\n", machine());
@@ -30,6 +32,7 @@ fn main() {
     println!("|---:|---:|---|---:|---:|---:|---:|---:|---:|");
     let mut printed = Printed { allocations: 0 };
     all.iter().for_each(|b| on_tables(b, &mut printed));
+    closings::on_closings(&mut printed);
     println!("\nallocations in the operations: {}", printed.allocations);
 }
 
@@ -39,7 +42,7 @@ struct Printed {
 }
 
 impl Measured for Printed {
-    fn measure(&mut self, tables: &Benched, about: About, operation: &mut dyn Operation) {
+    fn measure(&mut self, size: Size, about: About, operation: &mut dyn Operation) {
         let (proved, plain) = time::medians(about.calls, operation);
         let before = allocations::made();
         operation.prepare();
@@ -50,8 +53,8 @@ impl Measured for Printed {
         let plain_stack = stack::used(&mut || operation.plain(1));
         println!(
             "| {} | {} | {} | {proved:.1} | {plain:.1} | {:.2} | {} | {proved_stack} | {plain_stack} |",
-            tables.rows,
-            tables.requests,
+            size.rows,
+            size.requests,
             about.name,
             proved / plain,
             about.bytes,

@@ -2,7 +2,7 @@
 //! touches: the words of the lent runs (and marks) that it reads or writes,
 //! each once.
 
-use crate::tables::Benched;
+use crate::tables::{Benched, Size};
 use kernel::{changing, plain, reading, RowMarks};
 use model::limits::{REQUESTS, ROWS};
 use std::hint::black_box as hidden;
@@ -31,7 +31,7 @@ pub struct About {
 
 /// What is done with an operation: it is timed, or its instructions are counted.
 pub trait Measured {
-    fn measure(&mut self, tables: &Benched, about: About, operation: &mut dyn Operation);
+    fn measure(&mut self, size: Size, about: About, operation: &mut dyn Operation);
 }
 
 /// Two closures, a call each.
@@ -76,7 +76,7 @@ fn sound(b: &Benched, by: &mut dyn Measured) {
     };
     let proved = || reading::sound(hidden(t), hidden(p));
     let plain = || plain::sound(hidden(t), hidden(p));
-    by.measure(b, about, &mut Reads(proved, plain));
+    by.measure(b.size(), about, &mut Reads(proved, plain));
 }
 
 /// The newest row by its number. The rows are counted first.
@@ -93,7 +93,7 @@ fn look_up_row(b: &Benched, by: &mut dyn Measured) {
     };
     let proved = || reading::row_slot(hidden(t), hidden(row));
     let plain = || plain::find::row_slot(hidden(t), hidden(row));
-    by.measure(b, about, &mut Reads(proved, plain));
+    by.measure(b.size(), about, &mut Reads(proved, plain));
 }
 
 fn look_up_request(b: &Benched, by: &mut dyn Measured) {
@@ -109,7 +109,7 @@ fn look_up_request(b: &Benched, by: &mut dyn Measured) {
     };
     let proved = || reading::request_slot(hidden(t), hidden(request));
     let plain = || plain::find::request_slot(hidden(t), hidden(request));
-    by.measure(b, about, &mut Reads(proved, plain));
+    by.measure(b.size(), about, &mut Reads(proved, plain));
 }
 
 /// The slots that a question goes through from a slot, each once.
@@ -155,7 +155,7 @@ fn comes(b: &Benched, by: &mut dyn Measured, slot: usize) {
     };
     let proved = || reading::comes(hidden(t), hidden(slot), hidden(none));
     let plain = || plain::questions::comes(hidden(t), hidden(slot), hidden(none));
-    by.measure(b, about, &mut Reads(proved, plain));
+    by.measure(b.size(), about, &mut Reads(proved, plain));
 }
 
 /// Of a row that is not lent, so that the question goes to the end.
@@ -173,7 +173,7 @@ fn lent(b: &Benched, by: &mut dyn Measured, slot: usize) {
     };
     let proved = || reading::lent(hidden(t), hidden(slot));
     let plain = || plain::questions::lent(hidden(t), hidden(slot));
-    by.measure(b, about, &mut Reads(proved, plain));
+    by.measure(b.size(), about, &mut Reads(proved, plain));
 }
 
 /// Removal of the newest rows. Each call has tables of its own.
@@ -225,5 +225,5 @@ fn removal(b: &Benched, by: &mut dyn Measured, gone: usize) {
         bytes: b.rows + 40 * b.rows,
         calls,
     };
-    by.measure(b, about, &mut operation);
+    by.measure(b.size(), about, &mut operation);
 }

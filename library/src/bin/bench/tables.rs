@@ -21,6 +21,22 @@ pub struct Benched {
     pub end: usize,
 }
 
+/// How large tables are.
+#[derive(Clone, Copy)]
+pub struct Size {
+    pub rows: usize,
+    pub requests: usize,
+}
+
+impl Benched {
+    pub fn size(&self) -> Size {
+        Size {
+            rows: self.rows,
+            requests: self.requests,
+        }
+    }
+}
+
 pub fn tables(rows: usize) -> Benched {
     let mut tables = Tables::empty();
     for process in 1..=8 {
