@@ -9,7 +9,7 @@ use native.Mathlib.Omega.{arith}
 use lib.ListN.{length, getD, take, drop, set, length-append, length-set, take-append-drop}
 use lib.Seq.{take-suc, take-at, drop-at, drop-cons, drop-drop, take-suc-set, take-set-le, drop-set-lt, getD-drop, set-at, length-take-le}
 use Rattle.rows.specs.Lists.{filter, pad, laid}
-use Rattle.changes.specs.Marks.{tested, keep, compacted, lefts}
+use Rattle.changes.specs.Marks.{tested, keep, compacted}
 
 -- ---- pad
 module _ {A : Type 0} (d : A) where
@@ -111,12 +111,6 @@ module _ {A : Type 0} where
   keep-snoc (true ∷ ms) m (y ∷ l) x e = keep-snoc ms m l x (omega arith)
   keep-snoc (false ∷ ms) m (y ∷ l) x e = ap (λ (t : List A). y ∷ t) (keep-snoc ms m l x (omega arith))
 
--- ---- how many are kept
-lefts-unmarked : (ms : List Bool) (n : ℕ) → ((i : ℕ) → i < n → getD ms i false ≡ false) → lefts ms n ≡ n
-unfolding lefts
-lefts-unmarked ms zero f = refl
-lefts-unmarked ms (suc n) f = ap (λ (b : Bool). cond b (lefts ms n) (suc (lefts ms n))) (f n (le-refl (suc n))) ∙ ap suc (lefts-unmarked ms n (λ i h. f i (le-step h)))
-
 -- ---- the loop that moves what is kept to the front
 module _ {A : Type 0} (d : A) (ms : List Bool) (l₀ : List A) where
   -- i elements are passed, and the first j are those of them that are kept
@@ -126,8 +120,8 @@ module _ {A : Type 0} (d : A) (ms : List Bool) (l₀ : List A) where
     pub front : take j l ≡ keep ms (take i l₀)
     pub rest : drop i l ≡ drop i l₀
 
-  pub spread-start : (n : ℕ) → ((i : ℕ) → i < n → getD ms i false ≡ false) → Passed l₀ n (lefts ms n)
-  spread-start n f = rw (lefts-unmarked ms n f) (record { len = refl; back = le-refl n; front = sym (keep-unmarked ms l₀ n f); rest = refl })
+  pub gather-start : (n : ℕ) → ((i : ℕ) → i < n → getD ms i false ≡ false) → Passed l₀ n n
+  gather-start n f = record { len = refl; back = le-refl n; front = sym (keep-unmarked ms l₀ n f); rest = refl }
 
   module _ (l : List A) (i j : ℕ) (p : Passed l i j) (h : i < length l₀) where
     rest-more : drop (i + 1) (set l j (getD l i d)) ≡ drop (i + 1) l₀
@@ -136,7 +130,7 @@ module _ {A : Type 0} (d : A) (ms : List Bool) (l₀ : List A) where
     same-at : getD l i d ≡ getD l₀ i d
     same-at = sym (rw add-zero at (getD-drop i l 0 d)) ∙ ap (λ (t : List A). getD t 0 d) (p .rest) ∙ (rw add-zero at (getD-drop i l₀ 0 d))
 
-    gather-marked : getD ms i false ≡ true → Passed (set l j (getD l i d)) (i + 1) j
+    pub gather-marked : getD ms i false ≡ true → Passed (set l j (getD l i d)) (i + 1) j
     gather-marked e =
         record {
           len = length-set l j (getD l i d) ∙ p .len;
@@ -145,7 +139,7 @@ module _ {A : Type 0} (d : A) (ms : List Bool) (l₀ : List A) where
           rest = rest-more;
         }
 
-    gather-left : getD ms i false ≡ false → Passed (set l j (getD l i d)) (i + 1) (j + 1)
+    pub gather-left : getD ms i false ≡ false → Passed (set l j (getD l i d)) (i + 1) (j + 1)
     gather-left e =
         record {
           len = length-set l j (getD l i d) ∙ p .len;
@@ -158,15 +152,6 @@ module _ {A : Type 0} (d : A) (ms : List Bool) (l₀ : List A) where
               ∙ sym (keep-take d ms l₀ i h e));
           rest = rest-more;
         }
-
-    -- the word goes to the place of the next that is kept
-    pub spread-turn : j ≡ lefts ms i → Passed (set l j (getD l i d)) (i + 1) (lefts ms (i + 1))
-    unfolding lefts
-    spread-turn e = rw (add-one i) (pick (getD ms i false) refl)
-      where
-        pick : (b : Bool) → getD ms i false ≡ b → Passed (set l j (getD l i d)) (suc i) (cond b (lefts ms i) (suc (lefts ms i)))
-        pick true q = subst (λ (k : ℕ). Passed (set l j (getD l i d)) (suc i) k) e (rw (add-one i) at (gather-marked q))
-        pick false q = subst (λ (k : ℕ). Passed (set l j (getD l i d)) (suc i) (suc k)) e (rw (add-one i, add-one j) at (gather-left q))
 
 -- ---- the loop that clears what lies between two places
 module _ {A : Type 0} (d : A) (l₀ : List A) (from : ℕ) (room : from ≤ length l₀) where

@@ -10,13 +10,13 @@ use rows::layout::VIA;
 ghost use mathlib.Core.Path.{_≡_};
 ghost use mathlib.Core.Bool.{Bool, true, false, not};
 ghost use mathlib.Core.List.{List, _++_};
-ghost use Prim.Native.Nat.{ℕ, _+_, _≤_, _<_, _*_};
+ghost use Prim.Native.Nat.{ℕ, _≤_, _<_, _*_};
 ghost use lib.ListN.{length, getD, take, drop};
 ghost use Rattle.rows.specs.declared.Request.{Request};
 ghost use Rattle.rows.specs.Lists.{filter, pad, member};
 ghost use Rattle.rows.specs.Tables.{State};
 ghost use Rattle.rows.specs.Lies.{Lies, withRows, withRequests};
-ghost use Rattle.changes.specs.Marks.{tested, keep, marksOf, closedUnder, compacted, compactedParts, lefts, movedTo, remapped};
+ghost use Rattle.changes.specs.Marks.{tested, keep, marksOf, closedUnder, compacted, compactedParts, movedTo, remapped};
 
 // How many marks stand before the first that is set.
 fn unmarked(marks: &[bool], count: usize) -> usize
@@ -34,19 +34,24 @@ fn unmarked(marks: &[bool], count: usize) -> usize
     i
 }
 
-// Moves each of the first words, from one place on, to the slot that a table has for its own: slots are given plus 1.
-// A word that is marked goes where the next word that is not will go.
-fn spread(column: &mut [u32], to: &[u32], from: usize, count: usize)
-    requires sizes { ⌜ (from ≤ count) × (count ≤ length (now column)) × (count < length (now to)) ⌝ }
-    requires places { ⌜ ((i : ℕ) → i < count → (0 < getD (now to) (i + 1) 0) × (getD (now to) (i + 1) 0 ≤ i + 1)) ⌝ }
-    ensures { λ _. ⌜ ((ms : List Bool) → ((s : ℕ) → s ≤ count → getD (now (to .entry)) s 0 ≡ movedTo ms s) → ((i : ℕ) → i < from → getD ms i false ≡ false) → (take (lefts ms count) (now (column .exit)) ≡ keep ms (take count (now (column .entry)))) × (drop count (now (column .exit)) ≡ drop count (now (column .entry)))) ⌝ }
+// Moves what is not marked of the first words to the front, and says how many that are. Nothing is marked before the place from.
+fn gather(column: &mut [u32], marks: &[bool], from: usize, count: usize) -> usize
+    requires sizes { ⌜ (from ≤ count) × (count ≤ length (now column)) × (count ≤ length (now marks)) ⌝ }
+    requires clear { ⌜ ((i : ℕ) → i < from → getD (now marks) i false ≡ false) ⌝ }
+    ensures few { λ r. ⌜ r ≤ count ⌝ }
+    ensures front { λ r. ⌜ take r (now (column .exit)) ≡ keep (now (marks .entry)) (take count (now (column .entry))) ⌝ }
+    ensures rest { λ _. ⌜ drop count (now (column .exit)) ≡ drop count (now (column .entry)) ⌝ }
 {
     let mut i = from;
+    let mut j = from;
     while i < count {
-        let j = to[i + 1] as usize - 1;
         column[j] = column[i];
+        if !marks[i] {
+            j += 1;
+        }
         i += 1;
     }
+    j
 }
 
 // Sets the words from one place up to another to 0.
@@ -61,28 +66,19 @@ fn clear(column: &mut [u32], from: usize, to: usize)
     }
 }
 
-// The words that are not marked come first, 0 after them. Nothing is marked before the place from.
-fn compact_column(column: &mut [u32], to: &[u32], from: usize, count: usize)
-    requires sizes { ⌜ (from ≤ count) × (count ≤ length (now column)) × (count + 1 < length (now to)) ⌝ }
-    requires places { ⌜ ((i : ℕ) → i ≤ count → (0 < getD (now to) (i + 1) 0) × (getD (now to) (i + 1) 0 ≤ i + 1)) ⌝ }
-    ensures { λ _. ⌜ ((ms : List Bool) → ((s : ℕ) → s ≤ count + 1 → getD (now (to .entry)) s 0 ≡ movedTo ms s) → ((i : ℕ) → i < from → getD ms i false ≡ false) → now (column .exit) ≡ compacted ms count (now (column .entry))) ⌝ }
+// Nothing is marked before the place from.
+fn compact_column(column: &mut [u32], marks: &[bool], from: usize, count: usize)
+    requires sizes { ⌜ (from ≤ count) × (count ≤ length (now column)) × (count ≤ length (now marks)) ⌝ }
+    requires clear { ⌜ ((i : ℕ) → i < from → getD (now marks) i false ≡ false) ⌝ }
+    ensures { λ _. ⌜ now (column .exit) ≡ compacted (now (marks .entry)) count (now (column .entry)) ⌝ }
 {
-    let left = to[count + 1] as usize - 1;
-    spread(column, to, from, count);
+    let left = gather(column, marks, from, count);
     clear(column, left, count);
 }
 
 // Compacts columns of the same size that stand one after the other.
-fn compact_columns(
-    part: &mut [u32],
-    size: usize,
-    columns: usize,
-    marks: &[bool],
-    to: &[u32],
-    count: usize,
-)
-    requires sizes { ⌜ (length (now part) ≡ columns * size) × (count ≤ size) × (count ≤ length (now marks)) × (count + 1 < length (now to)) ⌝ }
-    requires ranked { ⌜ ((s : ℕ) → s ≤ count + 1 → getD (now to) s 0 ≡ movedTo (now marks) s) ⌝ }
+fn compact_columns(part: &mut [u32], size: usize, columns: usize, marks: &[bool], count: usize)
+    requires { ⌜ (length (now part) ≡ columns * size) × (count ≤ size) × (count ≤ length (now marks)) ⌝ }
     ensures { λ _. ⌜ now (part .exit) ≡ compactedParts (now (marks .entry)) count size columns (now (part .entry)) ⌝ }
 {
     let from = unmarked(marks, count);
@@ -90,15 +86,15 @@ fn compact_columns(
     while c < columns {
         let a = c * size;
         let e = a + size;
-        compact_column(&mut part[a..e], to, from, count);
+        compact_column(&mut part[a..e], marks, from, count);
         c += 1;
     }
 }
 
-// Writes what each slot plus 1 of the first slots becomes, and of the slot after them; 0 stays 0.
+// Writes what each slot plus 1 of the first slots becomes; 0 stays 0.
 fn ranks(to: &mut [u32], marks: &[bool], count: usize)
-    requires { ⌜ (count ≤ 1024) × (count + 1 < length (now to)) × (count ≤ length (now marks)) ⌝ }
-    ensures { λ _. ⌜ ((s : ℕ) → s ≤ count + 1 → getD (now (to .exit)) s 0 ≡ movedTo (now (marks .entry)) s) ⌝ }
+    requires { ⌜ (count ≤ 1024) × (count < length (now to)) × (count ≤ length (now marks)) ⌝ }
+    ensures { λ _. ⌜ ((s : ℕ) → s ≤ count → getD (now (to .exit)) s 0 ≡ movedTo (now (marks .entry)) s) ⌝ }
 {
     to[0] = 0;
     let mut i = 0;
@@ -110,7 +106,6 @@ fn ranks(to: &mut [u32], marks: &[bool], count: usize)
         }
         i += 1;
     }
-    to[i + 1] = j;
 }
 
 // The word of a table, 0 past its end.
@@ -142,11 +137,11 @@ pub fn remove_rows(t: &mut [u32], count: usize, marks: &[bool; 1024])
     requires { ⌜ (length (now t) ≡ 11265) × (count ≤ 1024) ⌝ }
     ensures { λ _. ⌜ ((st : State) (g : List ℕ) → Lies st (now (t .entry)) → count ≡ length (st .rows) → now (marks .entry) ≡ pad false 1024 (marksOf g (st .rows)) → closedUnder g (st .rows) ≡ true → Lies (withRows (filter (λ r. not (member (r .number) g)) (st .rows)) st) (now (t .exit))) ⌝ }
 {
-    let mut to = [0u32; 1026];
+    let mut to = [0u32; 1025];
     ranks(&mut to, marks, count);
     remap(&mut t[SOURCE..VIA], &to, count);
     remap(&mut t[VIA..DEPTH], &to, count);
-    compact_columns(&mut t[0..Q_NUMBER], ROWS, 10, marks, &to, count);
+    compact_columns(&mut t[0..Q_NUMBER], ROWS, 10, marks, count);
 }
 
 // Removes the marked requests.
@@ -156,7 +151,5 @@ pub fn remove_requests(t: &mut [u32], marks: &[bool; 128])
     ensures { λ _. ⌜ ((st : State) (f : Request → Bool) → Lies st (now (t .entry)) → now (marks .entry) ≡ pad false 128 (tested f (st .requests)) → Lies (withRequests (filter (λ v. not (f v)) (st .requests)) st) (now (t .exit))) ⌝ }
 {
     let count = requests_in(t);
-    let mut to = [0u32; 130];
-    ranks(&mut to, marks, count);
-    compact_columns(&mut t[Q_NUMBER..NEXT], REQUESTS, 8, marks, &to, count);
+    compact_columns(&mut t[Q_NUMBER..NEXT], REQUESTS, 8, marks, count);
 }
