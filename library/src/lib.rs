@@ -5,6 +5,7 @@ mod raw;
 
 pub mod changing;
 pub mod closing;
+pub mod layout;
 pub mod plain;
 pub mod reading;
 pub mod rights;

@@ -1,28 +1,10 @@
 //! Closing in plain Rust, in place over the words of sound tables.
 
-use model::limits::{ITEMS, REQUESTS, ROWS};
-use model::words::{PROCESS_WORDS, REQUEST_COLUMNS, ROW_COLUMNS, TABLES_WORDS};
-
-/// Where the columns of the rows start.
-const NUMBER: usize = 0;
-const KIND: usize = ROWS;
-const OBJECT: usize = 2 * ROWS;
-const PLACE: usize = 5 * ROWS;
-const SOURCE: usize = 6 * ROWS;
-const VIA: usize = 7 * ROWS;
-const REQUEST: usize = 9 * ROWS;
-
-/// Where the columns of the requests start.
-const Q_NUMBER: usize = ROW_COLUMNS * ROWS;
-const Q_PORT: usize = Q_NUMBER + REQUESTS;
-const Q_ASKER: usize = Q_NUMBER + 2 * REQUESTS;
-const Q_ITEMS: usize = Q_NUMBER + 4 * REQUESTS;
-
-/// The kinds from this on are ends.
-const CLIENT: u32 = 3;
-
-/// The place of a process's c-list is this and its number.
-const C_LIST: u32 = 100;
+use super::removal::{remove_requests, remove_rows};
+use crate::layout::{
+    CLIENT, C_LIST, ITEMS, KIND, NEXT, NUMBER, OBJECT, PLACE, PROCESS_WORDS, Q_ASKER, Q_ITEMS,
+    Q_NUMBER, Q_PORT, REQUEST, REQUESTS, ROWS, SOURCE, TABLES_WORDS, VIA,
+};
 
 /// The lent runs, of the right lengths.
 type Words = [u32; TABLES_WORDS];
@@ -66,14 +48,11 @@ fn close(t: &mut [u32], p: &mut [u32], seed: Seed) {
     let marks = marks(t, seed);
     send_home(t, p, &marks);
     settle_lists(t, &marks);
-    let (rows, requests) = t.split_at_mut(Q_NUMBER);
-    let requests = &mut requests[..REQUEST_COLUMNS * REQUESTS];
-    rename_sources(rows, &marks.removed[..marks.rows]);
-    take_out::<ROWS>(rows, &marks.removed[..marks.rows]);
-    take_out::<REQUESTS>(requests, &marks.closed[..marks.requests]);
+    remove_rows(t, marks.rows, &marks.removed);
+    remove_requests(&mut t[Q_NUMBER..NEXT], &marks.closed[..marks.requests]);
 }
 
-/// How many slots of a column of numbers are in use: those before the first 0.
+/// How many slots of a column of rising numbers are in use, by halves.
 fn used(numbers: &[u32]) -> usize {
     numbers.partition_point(|number| *number != 0)
 }
@@ -154,40 +133,5 @@ fn settle_lists(t: &mut Words, marks: &Marks) {
                 _ => {}
             }
         }
-    }
-}
-
-/// The words of sources come to stand for the slots after the removal.
-fn rename_sources(rows: &mut [u32], removed: &[bool]) {
-    let mut slot_after = [0; ROWS + 1];
-    let mut kept = 0;
-    for (word, removed) in slot_after[1..].iter_mut().zip(removed) {
-        kept += u32::from(!removed);
-        *word = kept;
-    }
-    for start in [SOURCE, VIA] {
-        for source in &mut rows[start..start + removed.len()] {
-            *source = slot_after[*source as usize];
-        }
-    }
-}
-
-/// Takes the marked slots out of columns of so many: each run of others moves
-/// down, and 0 follows.
-fn take_out<const SLOTS: usize>(columns: &mut [u32], marked: &[bool]) {
-    let (mut from, mut to) = (0, 0);
-    for run in marked.chunk_by(|one, next| one == next) {
-        if !run[0] {
-            if to < from {
-                for column in columns.chunks_exact_mut(SLOTS) {
-                    column.copy_within(from..from + run.len(), to);
-                }
-            }
-            to += run.len();
-        }
-        from += run.len();
-    }
-    for column in columns.chunks_exact_mut(SLOTS) {
-        column[to..from].fill(0);
     }
 }

@@ -1,17 +1,16 @@
 //! Look-up of a row and of a request by number.
 
-use super::view::{used, REQUESTS, ROWS, TABLES_WORDS};
-
-const REQUEST_NUMBERS: usize = 10 * ROWS;
+use super::view::used;
+use crate::layout::{NUMBER, Q_NUMBER, REQUESTS, ROWS, TABLES_WORDS};
 
 #[inline(never)]
 pub fn row_slot(tables: &[u32], number: u32) -> Option<usize> {
-    slot(tables, 0, ROWS, number)
+    slot(tables, NUMBER, ROWS, number)
 }
 
 #[inline(never)]
 pub fn request_slot(tables: &[u32], number: u32) -> Option<usize> {
-    slot(tables, REQUEST_NUMBERS, REQUESTS, number)
+    slot(tables, Q_NUMBER, REQUESTS, number)
 }
 
 fn slot(tables: &[u32], start: usize, size: usize, number: u32) -> Option<usize> {

@@ -1,6 +1,7 @@
 //! Who holds what is lent, and where the processes are.
 
-use super::view::{View, PROCESS_WORDS, ROWS, SUBDIRECTORY, SYSTEM};
+use super::view::View;
+use crate::layout::{PROCESS_WORDS, ROWS, SUBDIRECTORY, SYSTEM};
 
 /// What the newest request that lists a row says.
 #[derive(Clone, Copy, PartialEq)]

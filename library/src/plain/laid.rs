@@ -1,6 +1,7 @@
 //! The words are laid as tables, the next number and the process records are in range.
 
-use super::view::{View, PROCESS_WORDS};
+use super::view::View;
+use crate::layout::PROCESS_WORDS;
 
 /// Numbers rise, sources are older, unused slots are 0.
 pub fn laid(t: &View) -> bool {

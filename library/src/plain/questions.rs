@@ -1,13 +1,9 @@
 //! Does a row come from a request, is it lent.
 
-use super::view::{used, CLIENT, REQUESTS, ROWS, SERVER, TABLES_WORDS};
-
-const KIND: usize = ROWS;
-const SOURCE: usize = 6 * ROWS;
-const VIA: usize = 7 * ROWS;
-const REQUEST: usize = 9 * ROWS;
-const REQUEST_START: usize = 10 * ROWS;
-const ITEMS: usize = REQUEST_START + 4 * REQUESTS;
+use super::view::used;
+use crate::layout::{
+    CLIENT, KIND, Q_ITEMS, Q_NUMBER, REQUEST, REQUESTS, ROWS, SERVER, SOURCE, TABLES_WORDS, VIA,
+};
 
 /// Whether the row in the slot comes from the request; no for other lengths and slots.
 #[inline(never)]
@@ -49,7 +45,7 @@ fn lent_itself(words: &[u32; TABLES_WORDS], slot: usize) -> bool {
 
 /// Whether an open request lists the row.
 fn on_loan(words: &[u32; TABLES_WORDS], number: u32) -> bool {
-    let open = used(&words[REQUEST_START..REQUEST_START + REQUESTS]);
-    let mut items = words[ITEMS..ITEMS + 4 * REQUESTS].chunks_exact(REQUESTS);
+    let open = used(&words[Q_NUMBER..Q_NUMBER + REQUESTS]);
+    let mut items = words[Q_ITEMS..Q_ITEMS + 4 * REQUESTS].chunks_exact(REQUESTS);
     items.any(|column| column[..open].contains(&number))
 }

@@ -1,6 +1,7 @@
 //! The clauses of soundness of the requests.
 
-use super::view::{listed, View, CLIENT, ITEMS, PROCESS_WORDS, ROWS, SERVER};
+use super::view::{listed, View};
+use crate::layout::{CLIENT, ITEMS, PROCESS_WORDS, ROWS, SERVER};
 
 pub fn requests_sound(t: &View, p: &[u32; PROCESS_WORDS]) -> bool {
     (0..t.request_count).all(|q| request_sound(t, p, q)) && ports_sound(t)

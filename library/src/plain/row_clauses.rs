@@ -1,8 +1,7 @@
 //! The clauses of soundness of the rows.
 
-use super::view::{
-    listed, Row, View, CLIENT, OPERATION, PROCESS_WORDS, SERVER, SUBDIRECTORY, SYSTEM,
-};
+use super::view::{listed, Row, View};
+use crate::layout::{CLIENT, OPERATION, PROCESS_WORDS, SERVER, SUBDIRECTORY, SYSTEM};
 
 pub fn rows_sound(t: &View, p: &[u32; PROCESS_WORDS]) -> bool {
     (0..t.row_count).all(|slot| row_sound(t, p, slot))

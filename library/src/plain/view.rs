@@ -1,18 +1,9 @@
 //! The columns of the lent words as arrays, with how many slots are in use.
 
-pub const ROWS: usize = 1024;
-pub const REQUESTS: usize = 128;
-pub const ITEMS: usize = 4;
-const REQUEST_START: usize = 10 * ROWS;
-const NEXT: usize = REQUEST_START + 8 * REQUESTS;
-pub const TABLES_WORDS: usize = NEXT + 1;
-pub const PROCESS_WORDS: usize = 192;
-
-pub const OPERATION: u32 = 1;
-pub const SUBDIRECTORY: u32 = 2;
-pub const CLIENT: u32 = 3;
-pub const SERVER: u32 = 4;
-pub const SYSTEM: u32 = 200;
+use crate::layout::{
+    CLIENT, ITEMS, NEXT, OPERATION, PROCESS_WORDS, Q_NUMBER, REQUESTS, ROWS, SERVER, SUBDIRECTORY,
+    TABLES_WORDS,
+};
 
 /// The words of one row. Sources are slots plus 1, 0 for none.
 #[derive(Clone, Copy, Default)]
@@ -61,7 +52,7 @@ impl<'a> View<'a> {
     pub fn of(words: &'a [u32]) -> Option<View<'a>> {
         let words: &[u32; TABLES_WORDS] = words.try_into().ok()?;
         let rows = std::array::from_fn(|c| column(words, c * ROWS));
-        let requests = std::array::from_fn(|c| column(words, REQUEST_START + c * REQUESTS));
+        let requests = std::array::from_fn(|c| column(words, Q_NUMBER + c * REQUESTS));
         Some(View {
             rows,
             row_count: used(rows[0]),

@@ -3,16 +3,9 @@
 //! each once.
 
 use crate::tables::{Benched, Size};
+use kernel::layout::{DEPTH, KIND, Q_NUMBER, REQUEST, REQUESTS, ROWS, SOURCE, VIA};
 use kernel::{changing, plain, reading, RowMarks};
-use model::limits::{REQUESTS, ROWS};
 use std::hint::black_box as hidden;
-
-const KIND: usize = ROWS;
-const SOURCE: usize = 6 * ROWS;
-const VIA: usize = 7 * ROWS;
-const DEPTH: usize = 8 * ROWS;
-const REQUEST: usize = 9 * ROWS;
-const REQUEST_START: usize = 10 * ROWS;
 
 /// One operation: so many calls of the proved function, or of the plain one.
 pub trait Operation {
@@ -99,7 +92,7 @@ fn look_up_row(b: &Benched, by: &mut dyn Measured) {
 fn look_up_request(b: &Benched, by: &mut dyn Measured) {
     let t = b.words.as_slice();
     let newest = b.requests - 1;
-    let request = t[REQUEST_START + newest];
+    let request = t[Q_NUMBER + newest];
     assert_eq!(reading::request_slot(t, request), Some(newest));
     assert_eq!(plain::find::request_slot(t, request), Some(newest));
     let about = About {
