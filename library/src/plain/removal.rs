@@ -21,10 +21,10 @@ pub fn remove_requests(requests: &mut [u32], marked: &[bool]) {
 /// The words of sources come to stand for the slots after the removal.
 fn rename_sources(rows: &mut [u32], removed: &[bool]) {
     let mut slot_after = [0; ROWS + 1];
-    let mut kept = 0;
+    let mut next = 1;
     for (word, removed) in slot_after[1..].iter_mut().zip(removed) {
-        kept += u32::from(!removed);
-        *word = kept;
+        *word = next;
+        next += u32::from(!removed);
     }
     for start in [SOURCE, VIA] {
         for source in &mut rows[start..start + removed.len()] {
