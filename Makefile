@@ -9,4 +9,4 @@ test:
 	@tools/gate
 
 bench:
-	@cargo run --quiet --offline --profile bench --bin bench --manifest-path library/Cargo.toml
+	@cargo run --quiet --offline --profile bench --bin bench --manifest-path tests/Cargo.toml

@@ -22,7 +22,7 @@ use Rattle.rows.proofs.RowSources.{row-there, subdirectory-there}
 use Rattle.rows.proofs.Places.{no-row-listed}
 use Rattle.rows.proofs.SoundFacts.{same-eq, rows-top, row-below, requests-below, requests-top, next-some, placed-still}
 use Rattle.rows.proofs.Awaits.{awaits-none}
-use Rattle.calls.specs.Rules.{Out, refusedIf, rowsFull, numbersSpent, withRows}
+use Rattle.calls.specs.Rules.{Out, refusedIf, rowsFull, numbersSpent, withNewRows}
 
 -- a refusal leaves the tables: what is left is the case in which the test fails
 pub unless : {st : State} (o : Out) (b : Bool) (k : ℕ) → Sound st → (b ≡ false → Sound (o .after)) → Sound (refusedIf st b k o .after)
@@ -178,8 +178,8 @@ module _ (st : State) (s : Sound st) (new : List Row) (a : all (λ r. leb (st .n
       new a w
 
 -- ---- the tables with the new rows
-pub added-sound : (st : State) → Sound st → (new : List Row) (n : ℕ) → Added st new n → all (endPaired (new ++ st .rows)) new ≡ true → Sound (withRows (new ++ st .rows) n st)
-unfolding withRows rowsRise requestsRise numbersApart belowNext nextInRange rowsFit requestsFit recordsFit objectsInRange rightsInRange placesInRange fetchedInRange sourcesRight depthsRight copiesMatch recordsInRange endsPaired portsStand requestersListed itemsFew itemsApart itemsLent onePerPort copiesListed copyListed olderFetched systemHolds processesPlaced between
+pub added-sound : (st : State) → Sound st → (new : List Row) (n : ℕ) → Added st new n → all (endPaired (new ++ st .rows)) new ≡ true → Sound (withNewRows (new ++ st .rows) n st)
+unfolding withNewRows rowsRise requestsRise numbersApart belowNext nextInRange rowsFit requestsFit recordsFit objectsInRange rightsInRange placesInRange fetchedInRange sourcesRight depthsRight copiesMatch recordsInRange endsPaired portsStand requestersListed itemsFew itemsApart itemsLent onePerPort copiesListed copyListed olderFetched systemHolds processesPlaced between
 added-sound st s new n a paired =
     let later : st .next ≤ n = a .later in
     let requests : topOf (λ v. v .number) (st .requests) < st .next = requests-top st s in
@@ -235,7 +235,7 @@ numbers-room st k e = ltb-false (suc greatestNumber) (st .next + k) e
 
 -- one more row, no end
 pub add-row : (st : State) → Sound st → (r : Row) → New st (st .rows) (st .next) r → isEnd (r .kind) ≡ false → rowsFull st 1 ≡ false → numbersSpent st 1 ≡ false
-    → Sound (withRows (r ∷ st .rows) (suc (st .next)) st)
+    → Sound (withNewRows (r ∷ st .rows) (suc (st .next)) st)
 unfolding all endPaired
 add-row st s r w e f n =
     let room = rows-room st 1 f in

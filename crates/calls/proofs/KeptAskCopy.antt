@@ -19,7 +19,7 @@ use Rattle.rows.proofs.Sound.{Sound}
 use Rattle.rows.proofs.SoundFacts.{row-below, next-some, row-object}
 use Rattle.rows.proofs.Places.{system-no-node, system-in-range}
 use Rattle.rows.proofs.RowSources.{client-there}
-use Rattle.closing.specs.Closing.{placedIn}
+use Rattle.rows.specs.Setters.{withPlace}
 use Rattle.calls.specs.declared.Item.{Item}
 use Rattle.calls.specs.Rules.{notHeld, tooDeep, copyOf}
 use Rattle.calls.specs.Loans.{itemRow, moves, copyDepth, copyLent, newRequest}
@@ -109,7 +109,7 @@ module _ (st : State) (s : Sound st) (p c : ℕ) (client : isClient (rowOf (st .
 
     -- ---- over the rows rs
     module _ (rs : List Row) (found : (m : ℕ) → m < suc (st .next) → rowOf rs m ≡ rowOf base m) where
-      found-same : {A : Type 0} (f : Row → A) → ((r : Row) → f (placedIn withSystem r) ≡ f r) → (m : ℕ) → member m (numbers (st .rows)) ≡ true → f (rowOf rs m) ≡ f (rowOf (st .rows) m)
+      found-same : {A : Type 0} (f : Row → A) → ((r : Row) → f (withPlace withSystem r) ≡ f r) → (m : ℕ) → member m (numbers (st .rows)) ≡ true → f (rowOf rs m) ≡ f (rowOf (st .rows) m)
       found-same f h m e = let (lo, hi) = row-below st s m e in ap f (found m (omega arith)) ∙ row-same t withSystem z f h (st .rows) m
 
       pub copy-source : sourceRight requests′ (copyLent st c (st .next) n i) rs ≡ true
@@ -118,7 +118,7 @@ module _ (st : State) (s : Sound st) (p c : ℕ) (client : isClient (rowOf (st .
           (or-r (isPortEnd rs (copyLent st c (st .next) n i)) (isLentCopy requests′ rs (copyLent st c (st .next) n i)) right)
         where
           kind-of : (m : ℕ) → member m (numbers (st .rows)) ≡ true → rowOf rs m .kind ≡ rowOf (st .rows) m .kind
-          kind-of m e = found-same (λ r. r .kind) (λ r. unfold placedIn in refl) m e
+          kind-of m e = found-same (λ r. r .kind) (λ r. unfold withPlace in refl) m e
 
           right : isLentCopy requests′ rs (copyLent st c (st .next) n i) ≡ true
           right =
@@ -130,7 +130,7 @@ module _ (st : State) (s : Sound st) (p c : ℕ) (client : isClient (rowOf (st .
       copy-depth = rw equal (and-i (eqb (copyDepth st c i) (copyDepth st c i)) (leb (copyDepth st c i) greatestDepth) (eqb-self (copyDepth st c i)) depth-most)
         where
           depth-of : (m : ℕ) → member m (numbers (st .rows)) ≡ true → rowOf rs m .depth ≡ rowOf (st .rows) m .depth
-          depth-of m e = found-same (λ r. r .depth) (λ r. unfold placedIn in refl) m e
+          depth-of m e = found-same (λ r. r .depth) (λ r. unfold withPlace in refl) m e
 
           equal : depthRight (copyLent st c (st .next) n i) rs ≡ eqb (copyDepth st c i) (copyDepth st c i) && leb (copyDepth st c i) greatestDepth
           equal = unfold depthRight copyLent copyOf copyDepth depthOver in rw (depth-of (i .row) there, depth-of c (client-there (st .rows) c client)) refl
@@ -138,7 +138,7 @@ module _ (st : State) (s : Sound st) (p c : ℕ) (client : isClient (rowOf (st .
       pub copy-matches : copyMatches (copyLent st c (st .next) n i) rs ≡ true
       copy-matches =
           unfold copyMatches copyLent copyOf itemRow in
-          or-r (eqb (i .row) 0) _ (or-r (isEnd (rowOf (st .rows) (i .row) .kind)) _ (found-same like (λ r. unfold placedIn in refl) (i .row) there ∙ itself))
+          or-r (eqb (i .row) 0) _ (or-r (isEnd (rowOf (st .rows) (i .row) .kind)) _ (found-same like (λ r. unfold withPlace in refl) (i .row) there ∙ itself))
         where
           like : Row → Bool
           like r =

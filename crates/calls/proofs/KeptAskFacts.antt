@@ -20,13 +20,13 @@ use Rattle.rows.proofs.Keyed.{first-none, rises-range, keys-map}
 use Rattle.rows.proofs.Sound.{Sound}
 use Rattle.rows.proofs.SoundFacts.{row-below, requests-top, next-some}
 use Rattle.rows.proofs.RowSources.{row-there}
-use Rattle.closing.specs.Closing.{placedIn}
+use Rattle.rows.specs.Setters.{withPlace}
 use Rattle.calls.specs.declared.Item.{Item}
 use Rattle.calls.specs.Rules.{notHeld, hasOpen}
 use Rattle.calls.specs.Loans.{copies, newRequest}
 use Rattle.calls.proofs.KeptMoved.{moved, moved-number, row-moved, row-same}
 use Rattle.calls.proofs.KeptLoans.{no-request-lists}
-use Rattle.calls.proofs.KeptAskItems.{named, listed, stacked}
+use Rattle.calls.proofs.KeptAskItems.{isItem, listed, stacked}
 use Rattle.calls.proofs.KeptAskList.{member-pad, named-at, named-listed, copy-listed, listed-cases}
 use Rattle.calls.proofs.KeptAskStack.{row-stacked, numbers-stacked}
 use Rattle.calls.proofs.KeptAskCopy.{lendable}
@@ -46,9 +46,9 @@ pub record Asked (st : State) (p c : ℕ) (is : List Item) : Type 0 where
   pub numbers-room : st .next + suc (length (copies st is)) ≤ suc greatestNumber
   pub process : isListed (st .processes) p ≡ true
 
--- the rows with the ends named at the system, the copies on top; the new request; the tables
+-- the rows with the ends isItem at the system, the copies on top; the new request; the tables
 abbrev pub lentRows : State → List Item → List Row
-lentRows st is = map (moved (named st is) withSystem) (st .rows)
+lentRows st is = map (moved (isItem st is) withSystem) (st .rows)
 
 abbrev pub askedRows : State → ℕ → List Item → List Row
 askedRows st c is = stacked st c (st .next) (copies st is) (suc (st .next)) (lentRows st is)
@@ -61,14 +61,14 @@ askedState st p c is =
     record { rows = askedRows st c is; requests = asked st p c is ∷ st .requests; processes = st .processes; next = suc (st .next) + length (copies st is) }
 
 module _ (st : State) (s : Sound st) (p c : ℕ) (is : List Item) (a : Asked st p c is) where
-  -- ---- the ends named
-  pub none-named : named st is 0 ≡ false
-  none-named = false-of (named st is 0) (λ t. clash (named-at st some is (a .rows-some) 0 t) (unfold some in refl))
+  -- ---- the ends isItem
+  pub none-named : isItem st is 0 ≡ false
+  none-named = false-of (isItem st is 0) (λ t. clash (named-at st some is (a .rows-some) 0 t) (unfold some in refl))
 
-  pub named-held : (e : ℕ) → named st is e ≡ true → notHeld st p e ≡ false
+  pub named-held : (e : ℕ) → isItem st is e ≡ true → notHeld st p e ≡ false
   named-held e t = not-t (notHeld st p e) (named-at st (λ e. not (notHeld st p e)) is (a .held) e t)
 
-  pub named-old : (e : ℕ) → named st is e ≡ true → (0 < e) × (e < st .next)
+  pub named-old : (e : ℕ) → isItem st is e ≡ true → (0 < e) × (e < st .next)
   named-old e t = row-below st s e (held-there st p e (named-held e t))
 
   -- ---- the new request's list
@@ -76,30 +76,30 @@ module _ (st : State) (s : Sound st) (p c : ℕ) (is : List Item) (a : Asked st 
   unfolding lists newRequest
   lists-as e t = rw (t, member-pad e t mostItems (listed st is (suc (st .next)))) refl
 
-  pub lists-named : (e : ℕ) → named st is e ≡ true → lists e (asked st p c is) ≡ true
+  pub lists-named : (e : ℕ) → isItem st is e ≡ true → lists e (asked st p c is) ≡ true
   lists-named e t = lists-as e (named-at st some is (a .rows-some) e t) ∙ named-listed st is (suc (st .next)) e t
 
   pub lists-copy : (e : ℕ) → suc (st .next) ≤ e → e < suc (st .next) + length (copies st is) → lists e (asked st p c is) ≡ true
   lists-copy e lo hi = lists-as e (pos-some e (omega arith)) ∙ copy-listed st is (suc (st .next)) e lo hi
 
-  pub lists-cases : (e : ℕ) → lists e (asked st p c is) ≡ true → (named st is e ≡ true) ⊎ ((suc (st .next) ≤ e) × (e < suc (st .next) + length (copies st is)))
+  pub lists-cases : (e : ℕ) → lists e (asked st p c is) ≡ true → (isItem st is e ≡ true) ⊎ ((suc (st .next) ≤ e) × (e < suc (st .next) + length (copies st is)))
   lists-cases e t =
       listed-cases st is (suc (st .next)) e (sym (lists-as e (and-l (some e) (member e (asked st p c is .items)) (unfold lists in t))) ∙ t)
 
   -- ---- old rows
-  pub old-found : (m : ℕ) → m < suc (st .next) → rowOf (askedRows st c is) m ≡ moved (named st is) withSystem (rowOf (st .rows) m)
-  old-found m h = row-stacked st c (st .next) (copies st is) (suc (st .next)) (lentRows st is) m h ∙ row-moved (named st is) withSystem none-named (st .rows) m
+  pub old-found : (m : ℕ) → m < suc (st .next) → rowOf (askedRows st c is) m ≡ moved (isItem st is) withSystem (rowOf (st .rows) m)
+  old-found m h = row-stacked st c (st .next) (copies st is) (suc (st .next)) (lentRows st is) m h ∙ row-moved (isItem st is) withSystem none-named (st .rows) m
 
   pub old-number : (m : ℕ) → m < suc (st .next) → member m (numbers (askedRows st c is)) ≡ member m (numbers (st .rows))
   old-number m h =
       numbers-stacked st c (st .next) (copies st is) (suc (st .next)) (lentRows st is) m h
-      ∙ (unfold numbers in ap (member m) (keys-map (λ r. r .number) (moved (named st is) withSystem) (moved-number (named st is) withSystem) (st .rows)))
+      ∙ (unfold numbers in ap (member m) (keys-map (λ r. r .number) (moved (isItem st is) withSystem) (moved-number (isItem st is) withSystem) (st .rows)))
 
   -- a test that noRow fails, that does not look at the place, and that an old row passes
-  pub old-passes : (P : Row → Bool) → P noRow ≡ false → ((r : Row) → P (placedIn withSystem r) ≡ P r) → (m : ℕ) → P (rowOf (st .rows) m) ≡ true → P (rowOf (askedRows st c is) m) ≡ true
+  pub old-passes : (P : Row → Bool) → P noRow ≡ false → ((r : Row) → P (withPlace withSystem r) ≡ P r) → (m : ℕ) → P (rowOf (st .rows) m) ≡ true → P (rowOf (askedRows st c is) m) ≡ true
   old-passes P z h m e =
       let (lo, hi) = row-below st s m (row-there P z (st .rows) m e) in
-      ap P (row-stacked st c (st .next) (copies st is) (suc (st .next)) (lentRows st is) m (omega arith)) ∙ row-same (named st is) withSystem none-named P h (st .rows) m ∙ e
+      ap P (row-stacked st c (st .next) (copies st is) (suc (st .next)) (lentRows st is) m (omega arith)) ∙ row-same (isItem st is) withSystem none-named P h (st .rows) m ∙ e
 
   -- ---- old requests
   next-unused : member (st .next) (map (λ v. v .number) (st .requests)) ≡ false

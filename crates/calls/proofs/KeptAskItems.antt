@@ -10,7 +10,7 @@ use Rattle.rows.specs.declared.Row.{Row}
 use Rattle.rows.specs.Lists.{if_then_else_, filter, any}
 use Rattle.rows.specs.Codes.{withSystem}
 use Rattle.rows.specs.Tables.{State}
-use Rattle.closing.specs.Closing.{placedIn}
+use Rattle.rows.specs.Setters.{withPlace}
 use Rattle.rows.proofs.Bools.{eqb-sym}
 use Rattle.rows.proofs.Lists.{map-same}
 use Rattle.calls.specs.declared.Item.{Item}
@@ -19,8 +19,8 @@ use Rattle.calls.specs.Loans.{moves, copies, copyLent, Lending, toSystem
 use Rattle.calls.proofs.KeptMoved.{moved}
 
 -- e is an end that the items name
-unfoldable pub named : State → List Item → ℕ → Bool
-named st is e = any (λ i. moves st i && eqb (i .row) e) is
+unfoldable pub isItem : State → List Item → ℕ → Bool
+isItem st is e = any (λ i. moves st i && eqb (i .row) e) is
 
 -- the request's list, copies numbered from n on
 unfoldable pub listed : State → List Item → ℕ → List ℕ
@@ -38,53 +38,53 @@ map-eq f g h (x ∷ xs) = rw (h x, map-eq f g h xs) refl
 
 module _ (st : State) (c v : ℕ) where
   -- ---- the three parts of a lending
-  moved-none : (r : Row) → moved (named st []) withSystem r ≡ r
-  unfolding moved named any
+  moved-none : (r : Row) → moved (isItem st []) withSystem r ≡ r
+  unfolding moved isItem any
   moved-none r = refl
 
   -- a copy is with the system already
   moved-copy : (t : ℕ → Bool) (n : ℕ) (i : Item) → moved t withSystem (copyLent st c v n i) ≡ copyLent st c v n i
-  unfolding moved copyLent copyOf placedIn
+  unfolding moved copyLent copyOf withPlace
   moved-copy t n i = pick (t n)
     where
-      pick : (b : Bool) → cond b (placedIn withSystem (copyLent st c v n i)) (copyLent st c v n i) ≡ copyLent st c v n i
+      pick : (b : Bool) → cond b (withPlace withSystem (copyLent st c v n i)) (copyLent st c v n i) ≡ copyLent st c v n i
       pick true = refl
       pick false = refl
 
-  moved-end : (i : Item) (is : List Item) → moves st i ≡ true → (r : Row) → moved (named st is) withSystem (toSystem (i .row) r) ≡ moved (named st (i ∷ is)) withSystem r
-  unfolding moved named any toSystem placedIn
+  moved-end : (i : Item) (is : List Item) → moves st i ≡ true → (r : Row) → moved (isItem st is) withSystem (toSystem (i .row) r) ≡ moved (isItem st (i ∷ is)) withSystem r
+  unfolding moved isItem any toSystem withPlace
   moved-end i is m r = rw (m, eqb-sym (i .row) (r .number)) (pick (eqb (r .number) (i .row)) (any (λ i. moves st i && eqb (i .row) (r .number)) is) refl)
     where
       pick : (a b : Bool) → any (λ i. moves st i && eqb (i .row) (r .number)) is ≡ b
-          → cond (any (λ i. moves st i && eqb (i .row) ((cond a (placedIn withSystem r) r) .number)) is) (placedIn withSystem (cond a (placedIn withSystem r) r)) (cond a (placedIn withSystem r) r)
-          ≡ cond (a || any (λ i. moves st i && eqb (i .row) (r .number)) is) (placedIn withSystem r) r
+          → cond (any (λ i. moves st i && eqb (i .row) ((cond a (withPlace withSystem r) r) .number)) is) (withPlace withSystem (cond a (withPlace withSystem r) r)) (cond a (withPlace withSystem r) r)
+          ≡ cond (a || any (λ i. moves st i && eqb (i .row) (r .number)) is) (withPlace withSystem r) r
       pick true true q = rw q refl
       pick true false q = rw q refl
       pick false true q = refl
       pick false false q = refl
 
-  moved-other : (i : Item) (is : List Item) → moves st i ≡ false → (r : Row) → moved (named st is) withSystem r ≡ moved (named st (i ∷ is)) withSystem r
-  unfolding moved named any
+  moved-other : (i : Item) (is : List Item) → moves st i ≡ false → (r : Row) → moved (isItem st is) withSystem r ≡ moved (isItem st (i ∷ is)) withSystem r
+  unfolding moved isItem any
   moved-other i is m r = rw m refl
 
-  pub lend-rows : (is : List Item) (l : Lending) → lendItems st c v is l .rows ≡ stacked st c v (copies st is) (l .next) (map (moved (named st is) withSystem) (l .rows))
+  pub lend-rows : (is : List Item) (l : Lending) → lendItems st c v is l .rows ≡ stacked st c v (copies st is) (l .next) (map (moved (isItem st is) withSystem) (l .rows))
   unfolding lendItems lendItem copies filter stacked
-  lend-rows [] l = sym (map-same (moved (named st []) withSystem) moved-none (l .rows))
+  lend-rows [] l = sym (map-same (moved (isItem st []) withSystem) moved-none (l .rows))
   lend-rows (i ∷ is) l = pick (lend-rows is) (moves st i) refl
     where
-      pick : ((l : Lending) → lendItems st c v is l .rows ≡ stacked st c v (filter (λ i. not (moves st i)) is) (l .next) (map (moved (named st is) withSystem) (l .rows)))
+      pick : ((l : Lending) → lendItems st c v is l .rows ≡ stacked st c v (filter (λ i. not (moves st i)) is) (l .next) (map (moved (isItem st is) withSystem) (l .rows)))
           → (b : Bool) → moves st i ≡ b
           → lendItems st c v is (cond b (lendEnd i l) (lendCopy st c v i l)) .rows
-          ≡ stacked st c v (cond (not b) (i ∷ filter (λ i. not (moves st i)) is) (filter (λ i. not (moves st i)) is)) (l .next) (map (moved (named st (i ∷ is)) withSystem) (l .rows))
+          ≡ stacked st c v (cond (not b) (i ∷ filter (λ i. not (moves st i)) is) (filter (λ i. not (moves st i)) is)) (l .next) (map (moved (isItem st (i ∷ is)) withSystem) (l .rows))
       pick ih true m =
           ih (lendEnd i l)
           ∙ (unfold lendEnd in ap (stacked st c v (filter (λ i. not (moves st i)) is) (l .next))
-          (map-map (moved (named st is) withSystem) (toSystem (i .row)) (l .rows)
-          ∙ map-eq (λ r. moved (named st is) withSystem (toSystem (i .row) r)) (moved (named st (i ∷ is)) withSystem) (moved-end i is m) (l .rows)))
+          (map-map (moved (isItem st is) withSystem) (toSystem (i .row)) (l .rows)
+          ∙ map-eq (λ r. moved (isItem st is) withSystem (toSystem (i .row) r)) (moved (isItem st (i ∷ is)) withSystem) (moved-end i is m) (l .rows)))
       pick ih false m =
           ih (lendCopy st c v i l)
           ∙ (unfold lendCopy stacked in
-          rw (moved-copy (named st is) (l .next) i, map-eq (moved (named st is) withSystem) (moved (named st (i ∷ is)) withSystem) (moved-other i is m) (l .rows)) refl)
+          rw (moved-copy (isItem st is) (l .next) i, map-eq (moved (isItem st is) withSystem) (moved (isItem st (i ∷ is)) withSystem) (moved-other i is m) (l .rows)) refl)
 
   pub lend-items : (is : List Item) (l : Lending) → lendItems st c v is l .items ≡ l .items ++ listed st is (l .next)
   unfolding lendItems lendItem listed

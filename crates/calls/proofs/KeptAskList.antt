@@ -1,4 +1,4 @@
--- What a new request lists: the ends named and the copies, each once, and 0 up to four.
+-- What a new request lists: the ends isItem and the copies, each once, and 0 up to four.
 use Prim.Native.Nat.{ℕ, zero, suc, _+_, _<_, _≤_}
 use mathlib.Core.Bool.{Bool, true, false, not, cond, _&&_, _||_}
 use mathlib.Core.List.{List, [], _∷_, map}
@@ -14,7 +14,7 @@ use Rattle.rows.specs.Tables.{State, rowOf}
 use Rattle.rows.proofs.Bools.{false-of, clash, and-l, and-r, and-i, or-cases, or-l, or-r, not-t, eqb-sym, pos-some, all-mono}
 use Rattle.calls.specs.declared.Item.{Item}
 use Rattle.calls.specs.Loans.{itemRow, moves, copies}
-use Rattle.calls.proofs.KeptAskItems.{named, listed}
+use Rattle.calls.proofs.KeptAskItems.{isItem, listed}
 
 -- ---- a list with 0 after it
 pub nonzero-pad : (n : ℕ) (ns : List ℕ) → nonzero (pad 0 n ns) ≡ nonzero ns
@@ -35,10 +35,10 @@ nonzero-all [] a = refl
 nonzero-all (n ∷ ns) a = rw (and-l (some n) (all some ns) a, nonzero-all ns (and-r (some n) (all some ns) a)) refl
 
 module _ (st : State) where
-  -- ---- the ends named
-  -- what holds of every item's row holds of an end named
-  pub named-at : (P : ℕ → Bool) (is : List Item) → all (λ i. P (i .row)) is ≡ true → (e : ℕ) → named st is e ≡ true → P e ≡ true
-  unfolding named any all
+  -- ---- the ends isItem
+  -- what holds of every item's row holds of an end isItem
+  pub named-at : (P : ℕ → Bool) (is : List Item) → all (λ i. P (i .row)) is ≡ true → (e : ℕ) → isItem st is e ≡ true → P e ≡ true
+  unfolding isItem any all
   named-at P [] a e t = clash t refl
   named-at P (i ∷ is) a e t =
       pick (named-at P is (and-r (P (i .row)) (all (λ i. P (i .row)) is) a) e) (or-cases (moves st i && eqb (i .row) e) (any (λ i. moves st i && eqb (i .row) e) is) t)
@@ -47,8 +47,8 @@ module _ (st : State) where
       pick ih (inl q) = ap P (sym (eqb-true (i .row) e (and-r (moves st i) (eqb (i .row) e) q))) ∙ and-l (P (i .row)) (all (λ i. P (i .row)) is) a
       pick ih (inr q) = ih q
 
-  pub named-end : (is : List Item) (e : ℕ) → named st is e ≡ true → isEnd (rowOf (st .rows) e .kind) ≡ true
-  unfolding named any
+  pub named-end : (is : List Item) (e : ℕ) → isItem st is e ≡ true → isEnd (rowOf (st .rows) e .kind) ≡ true
+  unfolding isItem any
   named-end [] e t = clash t refl
   named-end (i ∷ is) e t = pick (named-end is e) (or-cases (moves st i && eqb (i .row) e) (any (λ i. moves st i && eqb (i .row) e) is) t)
     where
@@ -58,8 +58,8 @@ module _ (st : State) where
           subst (λ e. isEnd (rowOf (st .rows) e .kind) ≡ true) (eqb-true (i .row) e (and-r (moves st i) (eqb (i .row) e) q)) (unfold moves itemRow in and-l (moves st i) (eqb (i .row) e) q)
       pick ih (inr q) = ih q
 
-  named-member : (is : List Item) (e : ℕ) → named st is e ≡ true → member e (map (λ i. i .row) is) ≡ true
-  unfolding named any member
+  named-member : (is : List Item) (e : ℕ) → isItem st is e ≡ true → member e (map (λ i. i .row) is) ≡ true
+  unfolding isItem any member
   named-member [] e t = t
   named-member (i ∷ is) e t = pick (named-member is e) (or-cases (moves st i && eqb (i .row) e) (any (λ i. moves st i && eqb (i .row) e) is) t)
     where
@@ -87,9 +87,9 @@ module _ (st : State) where
       pick ih true = and-i (some (i .row)) (all some (listed st is n)) (and-l (some (i .row)) (all (λ i. some (i .row)) is) a) (ih n h)
       pick ih false = and-i (some n) (all some (listed st is (suc n))) (pos-some n h) (ih (suc n) (omega arith))
 
-  -- an end named is listed
-  pub named-listed : (is : List Item) (n e : ℕ) → named st is e ≡ true → member e (listed st is n) ≡ true
-  unfolding listed named any member
+  -- an end isItem is listed
+  pub named-listed : (is : List Item) (n e : ℕ) → isItem st is e ≡ true → member e (listed st is n) ≡ true
+  unfolding listed isItem any member
   named-listed [] n e t = t
   named-listed (i ∷ is) n e t = pick (λ n. named-listed is n e) (moves st i) t
     where
@@ -118,8 +118,8 @@ module _ (st : State) where
           here false q = let ne = eqb-false e n q in ih (suc n) (omega arith) (omega arith)
 
   -- and nothing else
-  pub listed-cases : (is : List Item) (n e : ℕ) → member e (listed st is n) ≡ true → (named st is e ≡ true) ⊎ ((n ≤ e) × (e < n + length (copies st is)))
-  unfolding listed named any copies filter member
+  pub listed-cases : (is : List Item) (n e : ℕ) → member e (listed st is n) ≡ true → (isItem st is e ≡ true) ⊎ ((n ≤ e) × (e < n + length (copies st is)))
+  unfolding listed isItem any copies filter member
   listed-cases [] n e t = clash t refl
   listed-cases (i ∷ is) n e t = pick (λ n. listed-cases is n e) (moves st i) t
     where
@@ -160,11 +160,11 @@ module _ (st : State) where
       older m h =
           all-mono (λ i. ltb (i .row) n) (λ i. ltb (i .row) m) (λ i t. let lt = ltb-true (i .row) n t in lt-ltb (i .row) m (omega arith)) is (and-r (ltb (i .row) n) (all (λ i. ltb (i .row) n) is) a)
 
-      end-apart : (named st is (i .row) ≡ true) ⊎ ((n ≤ i .row) × (i .row < n + length (copies st is))) → ⊥
+      end-apart : (isItem st is (i .row) ≡ true) ⊎ ((n ≤ i .row) × (i .row < n + length (copies st is))) → ⊥
       end-apart (inl q) = clash (named-member is (i .row) q) (not-t (member (i .row) (map (λ i. i .row) is)) (and-l (not (member (i .row) (map (λ i. i .row) is))) (distinct (map (λ i. i .row) is)) d))
       end-apart (inr (lo, hi)) = let lt = ltb-true (i .row) n (and-l (ltb (i .row) n) (all (λ i. ltb (i .row) n) is) a) in omega arith
 
-      copy-apart : (named st is n ≡ true) ⊎ ((suc n ≤ n) × (n < suc n + length (copies st is))) → ⊥
+      copy-apart : (isItem st is n ≡ true) ⊎ ((suc n ≤ n) × (n < suc n + length (copies st is))) → ⊥
       copy-apart (inl q) = let lt = ltb-true n n (named-at (λ e. ltb e n) is (older n (omega arith)) n q) in omega arith
       copy-apart (inr (lo, hi)) = omega arith
 

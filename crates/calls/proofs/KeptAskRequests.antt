@@ -24,13 +24,13 @@ use Rattle.rows.proofs.LayoutColumns.{length-pad}
 use Rattle.rows.proofs.Lists.{all-of-member}
 use Rattle.rows.proofs.Places.{no-row-listed}
 use Rattle.rows.proofs.Awaits.{listers-fetched}
-use Rattle.closing.specs.Closing.{placedIn}
+use Rattle.rows.specs.Setters.{withPlace}
 use Rattle.calls.specs.declared.Item.{Item}
 use Rattle.calls.specs.Rules.{notHeld, hasOpen}
 use Rattle.calls.specs.Loans.{copies, newRequest}
 use Rattle.calls.proofs.AddRow.{none-lists}
 use Rattle.calls.proofs.KeptLoans.{held-so}
-use Rattle.calls.proofs.KeptAskItems.{named, listed}
+use Rattle.calls.proofs.KeptAskItems.{isItem, listed}
 use Rattle.calls.proofs.KeptAskList.{nonzero-pad, nonzero-all, named-end, listed-length, listed-some, listed-apart, listed-cases}
 use Rattle.calls.proofs.KeptAskStack.{bears-stacked}
 use Rattle.calls.proofs.KeptAskFacts.{Asked, lentRows, askedRows, asked, askedState, named-held, named-old, lists-cases, old-number, old-passes}
@@ -104,7 +104,7 @@ module _ (st : State) (s : Sound st) (p c : ℕ) (is : List Item) (a : Asked st 
       (all-mono (portStands (st .rows)) (portStands (askedRows st c is)) older (st .requests) (s .ports-stand))
     where
       client : (e : ℕ) → isClient (rowOf (st .rows) e .kind) ≡ true → isClient (rowOf (askedRows st c is) e .kind) ≡ true
-      client e t = old-passes st s p c is a (λ r. isClient (r .kind)) (unfold noRow isClient clientEnd in refl) (λ r. unfold placedIn in refl) e t
+      client e t = old-passes st s p c is a (λ r. isClient (r .kind)) (unfold noRow isClient clientEnd in refl) (λ r. unfold withPlace in refl) e t
 
       older : (v : Request) → portStands (st .rows) v ≡ true → portStands (askedRows st c is) v ≡ true
       older v e =
@@ -163,9 +163,9 @@ module _ (st : State) (s : Sound st) (p c : ℕ) (is : List Item) (a : Asked st 
       (λ v. all-mono (λ e. mayBeListed v (rowOf (st .rows) e)) (λ e. mayBeListed v (rowOf (askedRows st c is) e)) (older v) (nonzero (v .items))) (st .requests) (s .items-lent))
     where
       older : (v : Request) (e : ℕ) → mayBeListed v (rowOf (st .rows) e) ≡ true → mayBeListed v (rowOf (askedRows st c is) e) ≡ true
-      older v e t = old-passes st s p c is a (mayBeListed v) (no-row-listed v) (λ r. unfold mayBeListed placedIn in refl) e t
+      older v e t = old-passes st s p c is a (mayBeListed v) (no-row-listed v) (λ r. unfold mayBeListed withPlace in refl) e t
 
-      lent : (e : ℕ) → (named st is e ≡ true) ⊎ ((suc (st .next) ≤ e) × (e < suc (st .next) + length (copies st is))) → mayBeListed (asked st p c is) (rowOf (askedRows st c is) e) ≡ true
+      lent : (e : ℕ) → (isItem st is e ≡ true) ⊎ ((suc (st .next) ≤ e) × (e < suc (st .next) + length (copies st is))) → mayBeListed (asked st p c is) (rowOf (askedRows st c is) e) ≡ true
       lent e (inl g) =
           older (asked st p c is) e
           (unfold mayBeListed newRequest in
@@ -175,7 +175,7 @@ module _ (st : State) (s : Sound st) (p c : ℕ) (is : List Item) (a : Asked st 
           or-r (isEnd (rowOf (askedRows st c is) e .kind) && ltb (rowOf (askedRows st c is) e .number) (st .next)) (some (rowOf (askedRows st c is) e .request) && eqb (rowOf (askedRows st c is) e .request) (st .next))
           (rw (bears-stacked st c (st .next) (copies st is) (suc (st .next)) (lentRows st is) e lo hi, pos-some (st .next) (next-some st s)) (eqb-self (st .next)))
 
-  -- ---- the older requests that list an end named are fetched
+  -- ---- the older requests that list an end isItem are fetched
   pub older-fetched : olderFetched (askedState st p c is) ≡ true
   unfolding olderFetched each
   older-fetched = and-i (olderFetchedBy (asked st p c is) (st .requests)) (each olderFetchedBy (st .requests)) (unfold olderFetchedBy in of-requests fetched-or (λ n t. pick n t (isFetched (requestOf (st .requests) n)) refl)) (s .older-fetched)
@@ -186,14 +186,14 @@ module _ (st : State) (s : Sound st) (p c : ℕ) (is : List Item) (a : Asked st 
       at : (n : ℕ) → member n (map (λ v. v .number) (st .requests)) ≡ true → (P : Request → Bool) → all P (st .requests) ≡ true → P (requestOf (st .requests) n) ≡ true
       at n t P e = unfold requestOf in all-first (λ v. v .number) noRequest P (st .requests) n e t
 
-      in-clist : (e : ℕ) → named st is e ≡ true → isSystem (rowOf (st .rows) e .place) ≡ false
+      in-clist : (e : ℕ) → isItem st is e ≡ true → isSystem (rowOf (st .rows) e .place) ≡ false
       in-clist e g =
           let held : rowOf (st .rows) e .place ≡ inClist p = unfold notHeld in eqb-true (rowOf (st .rows) e .place) (inClist p) (not-f (eqb (rowOf (st .rows) e .place) (inClist p)) (named-held st s p c is a e g)) in
           ap isSystem held ∙ clist-not-system st s p (a .process)
 
       -- what the new request lists no unfetched one lists
       unshared : (w : ℕ) → member w (map (λ v. v .number) (st .requests)) ≡ true → isFetched (requestOf (st .requests) w) ≡ false
-          → (e : ℕ) → (named st is e ≡ true) ⊎ ((suc (st .next) ≤ e) × (e < suc (st .next) + length (copies st is))) → lists e (requestOf (st .requests) w) ≡ false
+          → (e : ℕ) → (isItem st is e ≡ true) ⊎ ((suc (st .next) ≤ e) × (e < suc (st .next) + length (copies st is))) → lists e (requestOf (st .requests) w) ≡ false
       unshared w t f e (inl g) =
           let all-fetched = listers-fetched e (st .requests) (s .older-fetched) (sym (eq-same (isSystem (rowOf (st .rows) e .place)) (awaitsFetch (st .requests) e) (held-so st s e (held-there st p e (named-held st s p c is a e g)))) ∙ in-clist e g) in
           not-t (lists e (requestOf (st .requests) w)) (rw f at (at w t (λ w. isFetched w || not (lists e w)) all-fetched))

@@ -21,14 +21,14 @@ use Rattle.rows.proofs.RowSources.{subdirectory-there, end-there}
 use Rattle.rows.proofs.SoundFacts.{row-below, rows-top, row-number, same-eq, placed-still}
 use Rattle.rows.proofs.Places.{clist-not-node, system-no-node, system-in-range, subdirectory-no-end}
 use Rattle.rows.proofs.Lists.{all-map}
-use Rattle.closing.specs.Closing.{placedIn}
+use Rattle.rows.specs.Setters.{withPlace}
 use Rattle.calls.specs.declared.Item.{Item}
 use Rattle.calls.specs.Rules.{notHeld}
 use Rattle.calls.specs.Loans.{copies, copyLent, newRequest}
 use Rattle.calls.proofs.KeptLists.{top-map}
 use Rattle.calls.proofs.KeptMoved.{moved, mayMove, moved-same, moved-number, moved-stays, moved-goes, kind-same, depths-moved, copies-moved, objects-moved, rights-moved, paired-moved, sources-moved}
 use Rattle.calls.proofs.KeptLoans.{of-rows, held-so}
-use Rattle.calls.proofs.KeptAskItems.{named, listed}
+use Rattle.calls.proofs.KeptAskItems.{isItem, listed}
 use Rattle.calls.proofs.KeptAskList.{named-end}
 use Rattle.calls.proofs.KeptAskStack.{row-stacked, length-stacked, rises-stacked, top-stacked, all-stacked, each-stacked}
 use Rattle.calls.proofs.KeptAskCopy.{lendable, copy-object, copy-right, copy-place, copy-paired, copy-source, copy-depth, copy-matches, copy-listed, copy-held}
@@ -53,7 +53,7 @@ module _ (st : State) (s : Sound st) (p c : ℕ) (is : List Item) (a : Asked st 
 
   -- ---- numbers
   lent-top : topOf (λ r. r .number) (lentRows st is) < lo
-  lent-top = rw (top-map (λ r. r .number) noRow (moved (named st is) withSystem) (moved-number (named st is) withSystem) (st .rows)) (let t = rows-top st s in omega arith)
+  lent-top = rw (top-map (λ r. r .number) noRow (moved (isItem st is) withSystem) (moved-number (isItem st is) withSystem) (st .rows)) (let t = rows-top st s in omega arith)
 
   pub rows-top′ : topOf (λ r. r .number) (askedRows st c is) < hi
   rows-top′ = top-stacked st c (st .next) (copies st is) lo (lentRows st is) lent-top
@@ -62,13 +62,13 @@ module _ (st : State) (s : Sound st) (p c : ℕ) (is : List Item) (a : Asked st 
   unfolding rowsRise
   rows-rise =
       rises-stacked st c (st .next) (copies st is) lo (lentRows st is) lent-top
-      (rises-map (λ r. r .number) (moved (named st is) withSystem) (moved-number (named st is) withSystem) (st .rows) ∙ s .rows-rise)
+      (rises-map (λ r. r .number) (moved (isItem st is) withSystem) (moved-number (isItem st is) withSystem) (st .rows) ∙ s .rows-rise)
 
   pub rows-fit : rowsFit (askedState st p c is) ≡ true
   unfolding rowsFit
   rows-fit =
       let l : length (askedRows st c is) ≡ length (copies st is) + length (lentRows st is) = length-stacked st c (st .next) (copies st is) lo (lentRows st is) in
-      let k : length (lentRows st is) ≡ length (st .rows) = length-map (st .rows) (moved (named st is) withSystem) in
+      let k : length (lentRows st is) ≡ length (st .rows) = length-map (st .rows) (moved (isItem st is) withSystem) in
       let room = a .rows-room in
       le-leb (length (askedRows st c is)) rowSlots (omega arith)
 
@@ -76,33 +76,33 @@ module _ (st : State) (s : Sound st) (p c : ℕ) (is : List Item) (a : Asked st 
   pub objects-in-range : objectsInRange (askedState st p c is) ≡ true
   unfolding objectsInRange
   objects-in-range =
-      rows-all (objectInRange (st .processes)) (λ n i g _ _. copy-object st s p c (a .client) (named st is) (none-named st s p c is a) [] n i g)
-      (objects-moved (named st is) withSystem (none-named st s p c is a) (st .processes) (st .rows) ∙ s .objects-in-range)
+      rows-all (objectInRange (st .processes)) (λ n i g _ _. copy-object st s p c (a .client) (isItem st is) (none-named st s p c is a) [] n i g)
+      (objects-moved (isItem st is) withSystem (none-named st s p c is a) (st .processes) (st .rows) ∙ s .objects-in-range)
 
   pub rights-in-range : rightsInRange (askedState st p c is) ≡ true
   unfolding rightsInRange
   rights-in-range =
-      rows-all rightInRange (λ n i g _ _. copy-right st s p c (a .client) (named st is) (none-named st s p c is a) [] n i g)
-      (rights-moved (named st is) withSystem (none-named st s p c is a) (st .rows) ∙ s .rights-in-range)
+      rows-all rightInRange (λ n i g _ _. copy-right st s p c (a .client) (isItem st is) (none-named st s p c is a) [] n i g)
+      (rights-moved (isItem st is) withSystem (none-named st s p c is a) (st .rows) ∙ s .rights-in-range)
 
   pub places-in-range : placesInRange (askedState st p c is) ≡ true
   unfolding placesInRange
   places-in-range =
-      rows-all (placeInRange (st .processes)) (λ n i g _ _. copy-place st s p c (a .client) (named st is) (none-named st s p c is a) [] n i g)
-      (all-map (placeInRange (st .processes)) (moved (named st is) withSystem) (st .rows)
-      ∙ all-mono (placeInRange (st .processes)) (λ r. placeInRange (st .processes) (moved (named st is) withSystem r)) (λ r e. unfold moved in pick r (named st is (r .number)) e) (st .rows) (s .places-in-range))
+      rows-all (placeInRange (st .processes)) (λ n i g _ _. copy-place st s p c (a .client) (isItem st is) (none-named st s p c is a) [] n i g)
+      (all-map (placeInRange (st .processes)) (moved (isItem st is) withSystem) (st .rows)
+      ∙ all-mono (placeInRange (st .processes)) (λ r. placeInRange (st .processes) (moved (isItem st is) withSystem r)) (λ r e. unfold moved in pick r (isItem st is (r .number)) e) (st .rows) (s .places-in-range))
     where
-      pick : (r : Row) (b : Bool) → placeInRange (st .processes) r ≡ true → placeInRange (st .processes) (cond b (placedIn withSystem r) r) ≡ true
-      pick r true e = system-in-range (st .processes) (placedIn withSystem r) (unfold placedIn in refl)
+      pick : (r : Row) (b : Bool) → placeInRange (st .processes) r ≡ true → placeInRange (st .processes) (cond b (withPlace withSystem r) r) ≡ true
+      pick r true e = system-in-range (st .processes) (withPlace withSystem r) (unfold withPlace in refl)
       pick r false e = e
 
   -- ---- sources
-  may-move : all (mayMove (named st is)) (st .rows) ≡ true
+  may-move : all (mayMove (isItem st is)) (st .rows) ≡ true
   unfolding mayMove
-  may-move = of-rows st s (mayMove (named st is)) (λ n m. pick n m (named st is n) refl)
+  may-move = of-rows st s (mayMove (isItem st is)) (λ n m. pick n m (isItem st is n) refl)
     where
-      pick : (n : ℕ) → member n (numbers (st .rows)) ≡ true → (b : Bool) → named st is n ≡ b
-          → not (named st is (rowOf (st .rows) n .number)) || (not (isNode (rowOf (st .rows) n .place)) && (isEnd (rowOf (st .rows) n .kind) || some (rowOf (st .rows) n .request))) ≡ true
+      pick : (n : ℕ) → member n (numbers (st .rows)) ≡ true → (b : Bool) → isItem st is n ≡ b
+          → not (isItem st is (rowOf (st .rows) n .number)) || (not (isNode (rowOf (st .rows) n .place)) && (isEnd (rowOf (st .rows) n .kind) || some (rowOf (st .rows) n .request))) ≡ true
       pick n m true g =
           let at : rowOf (st .rows) n .place ≡ inClist p = unfold notHeld in eqb-true (rowOf (st .rows) n .place) (inClist p) (not-f (eqb (rowOf (st .rows) n .place) (inClist p)) (named-held st s p c is a n g)) in
           rw (row-number (st .rows) n m, g, at, clist-not-node p, named-end st is n g) refl
@@ -112,30 +112,30 @@ module _ (st : State) (s : Sound st) (p c : ℕ) (is : List Item) (a : Asked st 
   unfolding sourcesRight
   sources-right =
       rows-each (sourceRight (asked st p c is ∷ st .requests))
-      (λ n i rs g o. copy-source st s p c (a .client) (named st is) (none-named st s p c is a) (listed st is (suc (st .next))) n i g rs o)
-      (sources-moved (named st is) withSystem (none-named st s p c is a) system-no-node (st .requests) (asked st p c is ∷ st .requests) (st .rows) may-move
+      (λ n i rs g o. copy-source st s p c (a .client) (isItem st is) (none-named st s p c is a) (listed st is (suc (st .next))) n i g rs o)
+      (sources-moved (isItem st is) withSystem (none-named st s p c is a) system-no-node (st .requests) (asked st p c is ∷ st .requests) (st .rows) may-move
       (λ r e. ap (λ v. v .port) (request-old st s p c is a r e)) (unfold copiesListed in s .copies-listed) (s .sources-right))
 
   pub depths-right : depthsRight (askedState st p c is) ≡ true
   unfolding depthsRight
   depths-right =
-      rows-each depthRight (λ n i rs g o. copy-depth st s p c (a .client) (named st is) (none-named st s p c is a) [] n i g rs o)
-      (depths-moved (named st is) withSystem (none-named st s p c is a) (st .rows) ∙ s .depths-right)
+      rows-each depthRight (λ n i rs g o. copy-depth st s p c (a .client) (isItem st is) (none-named st s p c is a) [] n i g rs o)
+      (depths-moved (isItem st is) withSystem (none-named st s p c is a) (st .rows) ∙ s .depths-right)
 
   pub copies-match : copiesMatch (askedState st p c is) ≡ true
   unfolding copiesMatch
   copies-match =
-      rows-each copyMatches (λ n i rs g o. copy-matches st s p c (a .client) (named st is) (none-named st s p c is a) [] n i g rs o)
-      (copies-moved (named st is) withSystem (none-named st s p c is a) (st .rows) ∙ s .copies-match)
+      rows-each copyMatches (λ n i rs g o. copy-matches st s p c (a .client) (isItem st is) (none-named st s p c is a) [] n i g rs o)
+      (copies-moved (isItem st is) withSystem (none-named st s p c is a) (st .rows) ∙ s .copies-match)
 
   -- ---- ends
   pub ends-paired : endsPaired (askedState st p c is) ≡ true
   unfolding endsPaired
   ends-paired =
       all-mono (endPaired (lentRows st is)) (endPaired (askedRows st c is)) (λ r e. step r e) (askedRows st c is)
-      (rows-all (endPaired (lentRows st is)) (λ n i g _ _. copy-paired st s p c (a .client) (named st is) (none-named st s p c is a) [] n i g (lentRows st is))
-      (all-map (endPaired (lentRows st is)) (moved (named st is) withSystem) (st .rows)
-      ∙ all-eq (λ r. endPaired (lentRows st is) (moved (named st is) withSystem r)) (endPaired (st .rows)) (paired-moved (named st is) withSystem (none-named st s p c is a) (st .rows)) (st .rows)
+      (rows-all (endPaired (lentRows st is)) (λ n i g _ _. copy-paired st s p c (a .client) (isItem st is) (none-named st s p c is a) [] n i g (lentRows st is))
+      (all-map (endPaired (lentRows st is)) (moved (isItem st is) withSystem) (st .rows)
+      ∙ all-eq (λ r. endPaired (lentRows st is) (moved (isItem st is) withSystem r)) (endPaired (st .rows)) (paired-moved (isItem st is) withSystem (none-named st s p c is a) (st .rows)) (st .rows)
       ∙ s .ends-paired))
     where
       end-of : (r b : Row) → isPairedWith r b ≡ true → isEnd (b .kind) ≡ true
@@ -143,7 +143,7 @@ module _ (st : State) (s : Sound st) (p c : ℕ) (is : List Item) (a : Asked st 
 
       other : (r : Row) → isPairedWith r (rowOf (lentRows st is) (otherEnd r)) ≡ true → isPairedWith r (rowOf (askedRows st c is) (otherEnd r)) ≡ true
       other r e =
-          let k : isEnd (rowOf (st .rows) (otherEnd r) .kind) ≡ true = sym (ap isEnd (kind-same (named st is) withSystem (none-named st s p c is a) (st .rows) (otherEnd r))) ∙ end-of r (rowOf (lentRows st is) (otherEnd r)) e in
+          let k : isEnd (rowOf (st .rows) (otherEnd r) .kind) ≡ true = sym (ap isEnd (kind-same (isItem st is) withSystem (none-named st s p c is a) (st .rows) (otherEnd r))) ∙ end-of r (rowOf (lentRows st is) (otherEnd r)) e in
           let (lo, hi) = row-below st s (otherEnd r) (end-there (st .rows) (otherEnd r) k) in
           ap (isPairedWith r) (row-stacked st c (st .next) (copies st is) (suc (st .next)) (lentRows st is) (otherEnd r) (omega arith)) ∙ e
 
@@ -155,21 +155,21 @@ module _ (st : State) (s : Sound st) (p c : ℕ) (is : List Item) (a : Asked st 
   unfolding copiesListed
   copies-listed =
       rows-all (copyListed (asked st p c is ∷ st .requests))
-      (λ n i g l h. copy-listed st s p c (a .client) (named st is) (none-named st s p c is a) (listed st is (suc (st .next))) n i g (omega arith) (lists-copy st s p c is a n l h))
-      (all-map (copyListed (asked st p c is ∷ st .requests)) (moved (named st is) withSystem) (st .rows)
-      ∙ all-mono (copyListed (st .requests)) (λ r. copyListed (asked st p c is ∷ st .requests) (moved (named st is) withSystem r)) step (st .rows) (s .copies-listed))
+      (λ n i g l h. copy-listed st s p c (a .client) (isItem st is) (none-named st s p c is a) (listed st is (suc (st .next))) n i g (omega arith) (lists-copy st s p c is a n l h))
+      (all-map (copyListed (asked st p c is ∷ st .requests)) (moved (isItem st is) withSystem) (st .rows)
+      ∙ all-mono (copyListed (st .requests)) (λ r. copyListed (asked st p c is ∷ st .requests) (moved (isItem st is) withSystem r)) step (st .rows) (s .copies-listed))
     where
-      step : (r : Row) → copyListed (st .requests) r ≡ true → copyListed (asked st p c is ∷ st .requests) (moved (named st is) withSystem r) ≡ true
+      step : (r : Row) → copyListed (st .requests) r ≡ true → copyListed (asked st p c is ∷ st .requests) (moved (isItem st is) withSystem r) ≡ true
       step r e =
-          moved-same (named st is) withSystem (copyListed (asked st p c is ∷ st .requests)) (λ r. unfold copyListed placedIn in refl) r
+          moved-same (isItem st is) withSystem (copyListed (asked st p c is ∷ st .requests)) (λ r. unfold copyListed withPlace in refl) r
           ∙ (unfold copyListed in rw (request-old st s p c is a r e) e)
 
   pub system-holds : systemHolds (askedState st p c is) ≡ true
   unfolding systemHolds
   system-holds =
       rows-all holds
-      (λ n i g l h. copy-held st s p c (a .client) (named st is) (none-named st s p c is a) (listed st is (suc (st .next))) n i g (omega arith) (lists-copy st s p c is a n l h))
-      (all-map holds (moved (named st is) withSystem) (st .rows) ∙ of-rows st s (λ r. holds (moved (named st is) withSystem r)) (λ n m. pick n m (named st is n) refl))
+      (λ n i g l h. copy-held st s p c (a .client) (isItem st is) (none-named st s p c is a) (listed st is (suc (st .next))) n i g (omega arith) (lists-copy st s p c is a n l h))
+      (all-map holds (moved (isItem st is) withSystem) (st .rows) ∙ of-rows st s (λ r. holds (moved (isItem st is) withSystem r)) (λ n m. pick n m (isItem st is n) refl))
     where
       holds : Row → Bool
       holds r = same (isSystem (r .place)) (awaitsFetch (asked st p c is ∷ st .requests) (r .number))
@@ -177,27 +177,27 @@ module _ (st : State) (s : Sound st) (p c : ℕ) (is : List Item) (a : Asked st 
       at-system : isSystem withSystem ≡ true
       at-system = unfold isSystem withSystem in refl
 
-      awaited : (n : ℕ) → named st is n ≡ true → awaitsFetch (asked st p c is ∷ st .requests) n ≡ true
+      awaited : (n : ℕ) → isItem st is n ≡ true → awaitsFetch (asked st p c is ∷ st .requests) n ≡ true
       awaited n g = unfold awaitsFetch in rw (lists-named st s p c is a n g) (unfold isFetched newRequest in refl)
 
-      unlisted : (n : ℕ) → n < st .next → named st is n ≡ false → lists n (asked st p c is) ≡ false
+      unlisted : (n : ℕ) → n < st .next → isItem st is n ≡ false → lists n (asked st p c is) ≡ false
       unlisted n h g = false-of (lists n (asked st p c is)) (λ t. neither (lists-cases st s p c is a n t))
         where
-          neither : (named st is n ≡ true) ⊎ ((suc (st .next) ≤ n) × (n < suc (st .next) + length (copies st is))) → ⊥
+          neither : (isItem st is n ≡ true) ⊎ ((suc (st .next) ≤ n) × (n < suc (st .next) + length (copies st is))) → ⊥
           neither (inl q) = clash q g
           neither (inr (l, u)) = omega arith
 
-      as-before : (n : ℕ) → n < st .next → named st is n ≡ false → awaitsFetch (asked st p c is ∷ st .requests) n ≡ awaitsFetch (st .requests) n
+      as-before : (n : ℕ) → n < st .next → isItem st is n ≡ false → awaitsFetch (asked st p c is ∷ st .requests) n ≡ awaitsFetch (st .requests) n
       as-before n h g = unfold awaitsFetch in rw (unlisted n h g) refl
 
-      pick : (n : ℕ) → member n (numbers (st .rows)) ≡ true → (b : Bool) → named st is n ≡ b → holds (moved (named st is) withSystem (rowOf (st .rows) n)) ≡ true
+      pick : (n : ℕ) → member n (numbers (st .rows)) ≡ true → (b : Bool) → isItem st is n ≡ b → holds (moved (isItem st is) withSystem (rowOf (st .rows) n)) ≡ true
       pick n m true g =
-          same-eq (isSystem (moved (named st is) withSystem (rowOf (st .rows) n) .place)) (awaitsFetch (asked st p c is ∷ st .requests) (moved (named st is) withSystem (rowOf (st .rows) n) .number))
-          (ap isSystem (moved-goes (named st is) withSystem (rowOf (st .rows) n) (ap (named st is) (row-number (st .rows) n m) ∙ g))
+          same-eq (isSystem (moved (isItem st is) withSystem (rowOf (st .rows) n) .place)) (awaitsFetch (asked st p c is ∷ st .requests) (moved (isItem st is) withSystem (rowOf (st .rows) n) .number))
+          (ap isSystem (moved-goes (isItem st is) withSystem (rowOf (st .rows) n) (ap (isItem st is) (row-number (st .rows) n m) ∙ g))
           ∙ at-system
-          ∙ sym (ap (awaitsFetch (asked st p c is ∷ st .requests)) (moved-number (named st is) withSystem (rowOf (st .rows) n) ∙ row-number (st .rows) n m) ∙ awaited n g))
+          ∙ sym (ap (awaitsFetch (asked st p c is ∷ st .requests)) (moved-number (isItem st is) withSystem (rowOf (st .rows) n) ∙ row-number (st .rows) n m) ∙ awaited n g))
       pick n m false g =
-          rw (moved-stays (named st is) withSystem (rowOf (st .rows) n) (ap (named st is) (row-number (st .rows) n m) ∙ g))
+          rw (moved-stays (isItem st is) withSystem (rowOf (st .rows) n) (ap (isItem st is) (row-number (st .rows) n m) ∙ g))
           (rw (row-number (st .rows) n m, as-before n (row-below st s n m .1) g) (held-so st s n m))
 
   -- ---- processes
@@ -210,5 +210,5 @@ module _ (st : State) (s : Sound st) (p c : ℕ) (is : List Item) (a : Asked st 
       stays e k u sub at =
           let m : member e (numbers (st .rows)) ≡ true = subdirectory-there (st .rows) e sub in
           let below : e < st .next = row-below st s e m .1 in
-          let g : named st is e ≡ false = false-of (named st is e) (λ g. clash (named-end st is e g) (subdirectory-no-end (rowOf (st .rows) e .kind) sub)) in
-          old-found st s p c is a e (omega arith) ∙ moved-stays (named st is) withSystem (rowOf (st .rows) e) (ap (named st is) (row-number (st .rows) e m) ∙ g)
+          let g : isItem st is e ≡ false = false-of (isItem st is e) (λ g. clash (named-end st is e g) (subdirectory-no-end (rowOf (st .rows) e .kind) sub)) in
+          old-found st s p c is a e (omega arith) ∙ moved-stays (isItem st is) withSystem (rowOf (st .rows) e) (ap (isItem st is) (row-number (st .rows) e m) ∙ g)

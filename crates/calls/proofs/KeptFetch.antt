@@ -21,8 +21,8 @@ use Rattle.rows.proofs.Places.{clist-not-node, clist-no-system, system-no-node}
 use Rattle.rows.proofs.SoundFacts.{clist-not-system, clist-in-range, row-number, same-eq, eq-same, placed-still}
 use Rattle.rows.proofs.Awaits.{listers-fetched}
 use Rattle.rows.proofs.RowSources.{subdirectory-there}
-use Rattle.closing.specs.Closing.{placedIn}
-use Rattle.calls.specs.Loans.{handedTo, nowFetched, withFetched}
+use Rattle.rows.specs.Setters.{withPlace}
+use Rattle.calls.specs.Loans.{handedTo, nowFetched, handedOver}
 use Rattle.calls.specs.Calls.{doFetch}
 use Rattle.calls.proofs.AddRow.{unless}
 use Rattle.calls.proofs.KeptLists.{each-map, top-map, other-there, other-same}
@@ -140,8 +140,8 @@ module _ (st : State) (s : Sound st) (p : ℕ) (v : Request) (found : requestOf 
       all-map (placeInRange (st .processes)) (moved goes (inClist p)) (st .rows)
       ∙ all-mono (placeInRange (st .processes)) (λ r. placeInRange (st .processes) (moved goes (inClist p) r)) (λ r e. unfold moved in pick r (goes (r .number)) e) (st .rows) (s .places-in-range)
     where
-      pick : (r : Row) (b : Bool) → placeInRange (st .processes) r ≡ true → placeInRange (st .processes) (cond b (placedIn (inClist p) r) r) ≡ true
-      pick r true e = clist-in-range st s p listed (placedIn (inClist p) r) (unfold placedIn in refl)
+      pick : (r : Row) (b : Bool) → placeInRange (st .processes) r ≡ true → placeInRange (st .processes) (cond b (withPlace (inClist p) r) r) ≡ true
+      pick r true e = clist-in-range st s p listed (withPlace (inClist p) r) (unfold withPlace in refl)
       pick r false e = e
 
   fetched-in-range : fetchedInRange after ≡ true
@@ -215,7 +215,7 @@ module _ (st : State) (s : Sound st) (p : ℕ) (v : Request) (found : requestOf 
     where
       step : (r : Row) → copyListed requests′ (moved goes (inClist p) r) ≡ copyListed (st .requests) r
       step r =
-          moved-same goes (inClist p) (copyListed requests′) (λ r. unfold copyListed placedIn in refl) r
+          moved-same goes (inClist p) (copyListed requests′) (λ r. unfold copyListed withPlace in refl) r
           ∙ (unfold copyListed in rw (request-now (v .number) (st .requests) (r .request) positive, now-lists (v .number) (r .number) (requestOf (st .requests) (r .request))) refl)
 
   older-fetched : olderFetched after ≡ true
@@ -322,7 +322,7 @@ unfolding openOn
 open-there vs c t = other-there (λ v. v .number) noRequest (λ v. v .port) (unfold noRequest in refl) vs c t
 
 pub fetch-kept : (st : State) → Sound st → (p e : ℕ) → isListed (st .processes) p ≡ true → Sound (doFetch st p e .after)
-unfolding doFetch withFetched handedTo moved requestsRise
+unfolding doFetch handedOver handedTo moved requestsRise
 fetch-kept st s p e listed =
     unless _ _ 7 s λ _. unless _ _ 8 s λ _. unless _ _ 11 s λ e11. taken (or-fl (eqb (v .number) 0) (isFetched v) e11) (or-fr (eqb (v .number) 0) (isFetched v) e11)
   where
@@ -332,7 +332,7 @@ fetch-kept st s p e listed =
     v : Request
     v = openOn (st .requests) c
 
-    taken : eqb (v .number) 0 ≡ false → isFetched v ≡ false → Sound (withFetched p v st)
+    taken : eqb (v .number) 0 ≡ false → isFetched v ≡ false → Sound (handedOver p v st)
     taken z f =
         let t : some (v .number) ≡ true = not-zero (v .number) z in
         fetched-sound st s p v (open-found (st .requests) c (s .requests-rise) t) (open-there (st .requests) c t) f listed

@@ -19,7 +19,7 @@ use Rattle.rows.proofs.RowSources.{node-there}
 use Rattle.rows.proofs.Places.{copied-no-end, node-not-system, node-in-range, clist-not-node}
 use Rattle.rows.proofs.SoundFacts.{clist-is, clist-not-system, clist-in-range, active-node, placed-at, row-object, row-right, in-node-copied, not-lent-held, unlent-unborne, clist-there}
 use Rattle.rows.proofs.Standing.{standing-shape, standing-copy}
-use Rattle.calls.specs.Rules.{notHeld, tooDeep, rowsFull, numbersSpent, withRows, copyOf}
+use Rattle.calls.specs.Rules.{notHeld, tooDeep, rowsFull, numbersSpent, withNewRows, copyOf}
 use Rattle.calls.specs.Calls.{made, withHeld, doHold, withRegistered, doRegister}
 use Rattle.calls.proofs.AddRow.{unless, add-row}
 use Rattle.calls.proofs.Stand.{copy-object, depth-is}
@@ -38,7 +38,7 @@ copied st e place source via d = copyOf (rowOf (st .rows) e) (st .next) (rowOf (
 copy-added : (st : State) → Sound st → (e place source via d : ℕ) → member e (numbers (st .rows)) ≡ true → isCopied (rowOf (st .rows) e .kind) ≡ true
     → placeInRange (st .processes) (copied st e place source via d) ≡ true → isSystem place ≡ false → sourceRight (st .requests) (copied st e place source via d) (st .rows) ≡ true
     → d ≡ depthOver (st .rows) source via → tooDeep d ≡ false → copyMatches (copied st e place source via d) (st .rows) ≡ true → rowsFull st 1 ≡ false → numbersSpent st 1 ≡ false
-    → Sound (withRows (copied st e place source via d ∷ st .rows) (suc (st .next)) st)
+    → Sound (withNewRows (copied st e place source via d ∷ st .rows) (suc (st .next)) st)
 unfolding copyOf rightInRange
 copy-added st s e place source via d t c p y q z v m f n =
     add-row st s (copied st e place source via d)

@@ -9,6 +9,7 @@ use Rattle.rows.specs.declared.Request.{Request}
 use Rattle.rows.specs.Lists.{if_then_else_, filter, any, member, some, nonzero}
 use Rattle.rows.specs.Codes.{clientEnd, serverEnd, isOperation, isSubdirectory, isClient, isServer, isEnd, inNode, inClist, mayHold, mayTransfer, mayRegister, within}
 use Rattle.rows.specs.Tables.{State, rowOf, requestOf, openOn, processAt, sources, depthOver, comesFrom, lists, onLoan, isLent}
+use Rattle.rows.specs.Setters.{inPrimeNode, wentThrough}
 use Rattle.rows.specs.Sound.{isFetched}
 use Rattle.closing.specs.Closing.{closeRequest, closePort, dropRow}
 use Rattle.calls.specs.declared.Item.{Item}
@@ -16,8 +17,8 @@ use Rattle.calls.specs.declared.Call.{Call}
 use Rattle.calls.specs.declared.Call.the-variants.{Go, Hold, Register, Drop, Port, Close, Ask, Fetch, Reply, Refuse, Revoke, Comes}
 use Rattle.calls.specs.declared.Answer.{Answer}
 use Rattle.calls.specs.declared.Answer.the-variants.{Done, Made, Fetched, Told}
-use Rattle.calls.specs.Rules.{Out, refusedIf, notHeld, hasOpen, tooDeep, rowsFull, requestsFull, numbersSpent, withRows, copyOf, withRecord}
-use Rattle.calls.specs.Loans.{itemsOf, itemRow, moves, copies, copyDepth, withRequest, withFetched}
+use Rattle.calls.specs.Rules.{Out, refusedIf, notHeld, hasOpen, tooDeep, rowsFull, requestsFull, numbersSpent, withNewRows, copyOf, withRecord}
+use Rattle.calls.specs.Loans.{itemsOf, itemRow, moves, copies, copyDepth, withRequest, handedOver}
 
 unfoldable pub done : State → Out
 done st = record { answer = Done; after = st }
@@ -27,12 +28,12 @@ made n st = record { answer = Made n; after = st }
 
 -- ---- "`go e`: e, a subdirectory in the c-list, becomes active; `go 0` goes to the prime node."
 unfoldable pub goHome : State → ℕ → State
-goHome st p = let x = processAt (st .processes) p in withRecord p (record { prime = x .prime; active = x .prime; through = 0 }) st
+goHome st p = let x = processAt (st .processes) p in withRecord p (inPrimeNode x) st
 
 unfoldable pub goThrough : State → ℕ → ℕ → State
 goThrough st p e =
     let x = processAt (st .processes) p in
-    withRecord p (record { prime = x .prime; active = rowOf (st .rows) e .object; through = e }) st
+    withRecord p (wentThrough e (rowOf (st .rows) e .object) x) st
 
 unfoldable pub doGo : State → ℕ → ℕ → Out
 doGo st p e =
@@ -46,7 +47,7 @@ doGo st p e =
 unfoldable pub withHeld : State → ℕ → ℕ → ℕ → ℕ → State
 withHeld st p s via d =
     let r = rowOf (st .rows) s in
-    withRows (copyOf r (st .next) (r .rights) (inClist p) s via d 0 ∷ st .rows) (suc (st .next)) st
+    withNewRows (copyOf r (st .next) (r .rights) (inClist p) s via d 0 ∷ st .rows) (suc (st .next)) st
 
 unfoldable pub doHold : State → ℕ → ℕ → Out
 doHold st p s =
@@ -67,7 +68,7 @@ unfoldable pub withRegistered : State → ℕ → ℕ → ℕ → State
 withRegistered st p e d =
     let r = rowOf (st .rows) e in
     let x = processAt (st .processes) p in
-    withRows (copyOf r (st .next) (r .rights) (inNode (x .active)) (r .source) 0 d 0 ∷ st .rows) (suc (st .next)) st
+    withNewRows (copyOf r (st .next) (r .rights) (inNode (x .active)) (r .source) 0 d 0 ∷ st .rows) (suc (st .next)) st
 
 unfoldable pub doRegister : State → ℕ → ℕ → Out
 doRegister st p e =
@@ -105,7 +106,7 @@ withPort st p e d =
     let c = st .next in
     let client = portEnd clientEnd c c (inClist p) e d in
     let server = portEnd serverEnd (suc c) c (inClist (rowOf (st .rows) e .object)) e d in
-    withRows (server ∷ client ∷ st .rows) (suc (suc c)) st
+    withNewRows (server ∷ client ∷ st .rows) (suc (suc c)) st
 
 unfoldable pub doPort : State → ℕ → ℕ → Out
 doPort st p e =
@@ -160,7 +161,7 @@ doFetch st p e =
     refusedIf st (notHeld st p e) 7
     (refusedIf st (not (isServer (r .kind))) 8
     (refusedIf st (eqb (v .number) 0 || isFetched v) 11
-    (record { answer = fetchedAnswer v; after = withFetched p v st })))
+    (record { answer = fetchedAnswer v; after = handedOver p v st })))
 
 -- ---- "`reply v`: SEND; closes the request."
 -- the ends that a request still lists

@@ -9,7 +9,7 @@ use Rattle.rows.specs.Lists.{if_then_else_, filter, some, pad}
 use Rattle.rows.specs.Limits.{mostItems}
 use Rattle.rows.specs.Codes.{isEnd, inClist, withSystem}
 use Rattle.rows.specs.Tables.{State, rowOf, depthOver, lists}
-use Rattle.closing.specs.Closing.{placedIn}
+use Rattle.rows.specs.Setters.{withRows, withRequests, withNext, withPlace, withFetched}
 use Rattle.calls.specs.declared.Item.{Item}
 use Rattle.calls.specs.declared.Items.{Items}
 use Rattle.calls.specs.Rules.{copyOf}
@@ -42,9 +42,9 @@ pub record Lending : Type 0 where
   pub items : List ℕ
   pub next : ℕ
 
--- "All lie with the system until fetched."
+-- "All rep with the system until fetched."
 unfoldable pub toSystem : ℕ → Row → Row
-toSystem e r = if eqb (r .number) e then placedIn withSystem r else r
+toSystem e r = if eqb (r .number) e then withPlace withSystem r else r
 
 unfoldable pub lendEnd : Item → Lending → Lending
 lendEnd i l = record { rows = map (toSystem (i .row)) (l .rows); items = l .items ++ (i .row ∷ []); next = l .next }
@@ -69,15 +69,15 @@ newRequest v c p is = record { number = v; port = c; asker = p; fetched = 0; ite
 unfoldable pub withRequest : State → ℕ → ℕ → List Item → State
 withRequest st p c is =
     let l = lent st c is in
-    record { rows = l .rows; requests = newRequest (st .next) c p (l .items) ∷ st .requests; processes = st .processes; next = l .next }
+    withRows (l .rows) (withRequests (newRequest (st .next) c p (l .items) ∷ st .requests) (withNext (l .next) st))
 
 -- "GETDETAILS; the privileges come to the caller."
 unfoldable pub handedTo : ℕ → Request → Row → Row
-handedTo p v r = if lists (r .number) v then placedIn (inClist p) r else r
+handedTo p v r = if lists (r .number) v then withPlace (inClist p) r else r
 
 unfoldable pub nowFetched : ℕ → Request → Request
-nowFetched q v = if eqb (v .number) q then record { number = v .number; port = v .port; asker = v .asker; fetched = 1; items = v .items } else v
+nowFetched q v = if eqb (v .number) q then withFetched 1 v else v
 
-unfoldable pub withFetched : ℕ → Request → State → State
-withFetched p v st =
-    record { rows = map (handedTo p v) (st .rows); requests = map (nowFetched (v .number)) (st .requests); processes = st .processes; next = st .next }
+unfoldable pub handedOver : ℕ → Request → State → State
+handedOver p v st =
+    withRows (map (handedTo p v) (st .rows)) (withRequests (map (nowFetched (v .number)) (st .requests)) st)

@@ -10,6 +10,7 @@ use Rattle.rows.specs.Lists.{if_then_else_, some}
 use Rattle.rows.specs.Limits.{greatestNumber, rowSlots, requestSlots, greatestDepth}
 use Rattle.rows.specs.Codes.{inClist}
 use Rattle.rows.specs.Tables.{State, rowOf, openOn}
+use Rattle.rows.specs.Setters.{withRows, withProcesses, withNext}
 use Rattle.calls.specs.declared.Answer.{Answer}
 use Rattle.calls.specs.declared.Answer.the-variants.{Refused}
 
@@ -46,8 +47,9 @@ requestsFull st = leb requestSlots (length (st .requests))
 unfoldable pub numbersSpent : State → ℕ → Bool
 numbersSpent st k = ltb (suc greatestNumber) (st .next + k)
 
-unfoldable pub withRows : List Row → ℕ → State → State
-withRows rs n st = record { rows = rs; requests = st .requests; processes = st .processes; next = n }
+-- new rows in front of the old ones, and the next number after theirs
+unfoldable pub withNewRows : List Row → ℕ → State → State
+withNewRows rs n st = withRows rs (withNext n st)
 
 -- a copy of r with number n, in a place, from two sources (0 for none)
 unfoldable pub copyOf : Row → ℕ → ℕ → ℕ → ℕ → ℕ → ℕ → ℕ → Row
@@ -67,4 +69,4 @@ copyOf r n rights place source via depth request =
 
 -- the records with that of process p, element p - 1, replaced
 unfoldable pub withRecord : ℕ → Process → State → State
-withRecord p x st = record { rows = st .rows; requests = st .requests; processes = set (st .processes) (p - 1) x; next = st .next }
+withRecord p x st = withProcesses (set (st .processes) (p - 1) x) st

@@ -9,7 +9,7 @@ use native.Mathlib.Omega.{arith}
 use lib.ListN.{length, getD, take, drop, set, length-append, length-set, take-append-drop}
 use lib.Seq.{take-suc, take-at, drop-at, drop-cons, drop-drop, take-suc-set, take-set-le, drop-set-lt, getD-drop, set-at, length-take-le}
 use Rattle.rows.specs.Lists.{filter, pad, laid}
-use Rattle.changes.specs.Marks.{tested, keep, compacted}
+use Rattle.changes.specs.contracts.Marks.{tested, keep, compacted}
 
 -- ---- pad
 module _ {A : Type 0} (d : A) where
@@ -153,7 +153,7 @@ module _ {A : Type 0} (d : A) (ms : List Bool) (l₀ : List A) where
           rest = rest-more;
         }
 
--- ---- the loop that clears what lies between two places
+-- ---- the loop that clears what stands between two positions
 module _ {A : Type 0} (d : A) (l₀ : List A) (from : ℕ) (room : from ≤ length l₀) where
   abbrev pub Cleared : List A → ℕ → Type 0
   Cleared l i = l ≡ pad d i (take from l₀) ++ drop i l₀

@@ -1,7 +1,7 @@
 -- Laws behind the functions of changes. One line a file:
 -- stores in the words of a state, at any column and slot
 pub mod Put
--- a state that lies in words, with one change
+-- words that represent a state, with one change
 pub mod Changes
 -- a column compacted: the loops, and what laid words become
 pub mod Keep

@@ -12,7 +12,7 @@ use borrow.Author.Tests.{ne-eqb}
 use lib.ListN.{length, take, drop, length-append, length-drop}
 use lib.Seq.{take-at, drop-at, drop-drop, drop-length, length-take-le}
 use Rattle.rows.specs.Lists.{pad, laid}
-use Rattle.changes.specs.Marks.{compacted, compactedParts}
+use Rattle.changes.specs.contracts.Marks.{compacted, compactedParts}
 use Rattle.rows.proofs.Bools.{eqb-self}
 use Rattle.changes.proofs.Keep.{length-pad, length-laid, length-compacted}
 use Rattle.rows.proofs.LayoutColumns.{columns, length-columns}

@@ -15,8 +15,9 @@ ghost use lib.ListN.{length, getD, take, drop};
 ghost use Rattle.rows.specs.declared.Request.{Request};
 ghost use Rattle.rows.specs.Lists.{filter, pad, member};
 ghost use Rattle.rows.specs.Tables.{State};
-ghost use Rattle.rows.specs.Lies.{Lies, withRows, withRequests};
-ghost use Rattle.changes.specs.Marks.{tested, keep, marksOf, closedUnder, compacted, compactedParts, movedTo, remapped};
+ghost use Rattle.rows.specs.contracts.Represents.{Represents};
+ghost use Rattle.rows.specs.Setters.{withRows, withRequests};
+ghost use Rattle.changes.specs.contracts.Marks.{tested, keep, marksOf, closedUnder, compacted, compactedParts, movedTo, remapped};
 
 // How many marks stand before the first that is set.
 fn unmarked(marks: &[bool], count: usize) -> usize
@@ -135,7 +136,7 @@ fn remap(column: &mut [u32], to: &[u32], count: usize)
 // Ruled out: a row that is left with the slot that its source had before; a column of which one word stays where a row went.
 pub fn remove_rows(t: &mut [u32], count: usize, marks: &[bool; 1024])
     requires { ⌜ (length (now t) ≡ 11265) × (count ≤ 1024) ⌝ }
-    ensures { λ _. ⌜ ((st : State) (g : List ℕ) → Lies st (now (t .entry)) → count ≡ length (st .rows) → now (marks .entry) ≡ pad false 1024 (marksOf g (st .rows)) → closedUnder g (st .rows) ≡ true → Lies (withRows (filter (λ r. not (member (r .number) g)) (st .rows)) st) (now (t .exit))) ⌝ }
+    ensures { λ _. ⌜ ((st : State) (g : List ℕ) → Represents (now (t .entry)) st → count ≡ length (st .rows) → now (marks .entry) ≡ pad false 1024 (marksOf g (st .rows)) → closedUnder g (st .rows) ≡ true → Represents (now (t .exit)) (withRows (filter (λ r. not (member (r .number) g)) (st .rows)) st)) ⌝ }
 {
     let mut to = [0u32; 1025];
     ranks(&mut to, marks, count);
@@ -148,7 +149,7 @@ pub fn remove_rows(t: &mut [u32], count: usize, marks: &[bool; 1024])
 // Ruled out: a request that is left with another's port; a change of a row's word.
 pub fn remove_requests(t: &mut [u32], marks: &[bool; 128])
     requires { ⌜ length (now t) ≡ 11265 ⌝ }
-    ensures { λ _. ⌜ ((st : State) (f : Request → Bool) → Lies st (now (t .entry)) → now (marks .entry) ≡ pad false 128 (tested f (st .requests)) → Lies (withRequests (filter (λ v. not (f v)) (st .requests)) st) (now (t .exit))) ⌝ }
+    ensures { λ _. ⌜ ((st : State) (f : Request → Bool) → Represents (now (t .entry)) st → now (marks .entry) ≡ pad false 128 (tested f (st .requests)) → Represents (now (t .exit)) (withRequests (filter (λ v. not (f v)) (st .requests)) st)) ⌝ }
 {
     let count = requests_in(t);
     compact_columns(&mut t[Q_NUMBER..NEXT], REQUESTS, 8, marks, count);

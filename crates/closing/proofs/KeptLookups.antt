@@ -16,13 +16,14 @@ use Rattle.rows.proofs.Bools.{clash, and-l, and-r, and-i, not-t, or-fl, or-fr, 
 use Rattle.rows.proofs.Keyed.{first-map, first-filter, keys-map, keys-filter, all-first, each-first, rises-map, rises-rest, older-first, olderOf}
 use Rattle.rows.proofs.Picked.{all-found}
 use Rattle.rows.proofs.Lists.{picked-sub}
-use Rattle.closing.specs.Closing.{oldestListing, placedIn, returned, listedIn, leaves, withItems, trimmed, remaining, settled}
+use Rattle.closing.specs.Closing.{oldestListing, returned, listedIn, leaves, trimmed, remaining, settled}
+use Rattle.rows.specs.Setters.{withPlace, withItems}
 use Rattle.closing.proofs.KeptLists.{each-of-first, rises-filter, rises-keys, trim, member-trim}
 use Rattle.closing.proofs.KeptFacts.{Stands}
 
 -- ---- an item of a trimmed list
 pub trimmed-lists : (f : Request → Bool) (g : List ℕ) (vs : List Request) (v : Request) (e : ℕ) → lists e (trimmed f g vs v) ≡ lists e v && not (leaves f g vs e)
-unfolding lists trimmed withItems trim
+unfolding lists trimmed trim
 trimmed-lists f g vs v e = pick (some e) refl
   where
     assoc : (a : Bool) → a ≡ true → a && (member e (v .items) && not (leaves f g vs e)) ≡ a && member e (v .items) && not (leaves f g vs e)
@@ -56,20 +57,18 @@ module _ (f : Request → Bool) (g : List ℕ) where
       pick ih false q = and-i (Q (trimmed f g vs v)) (all Q (remaining f g vs)) (h vs v q (and-l (P v) (all P vs) e)) ih
 
   pub remaining-rises : (vs : List Request) → rises (λ v. v .number) vs ≡ true → rises (λ v. v .number) (remaining f g vs) ≡ true
-  unfolding withItems
   remaining-rises vs e =
       rises-keys (λ v. v .number) (remaining f g vs) (filter (λ v. not (f v)) vs) (remaining-keys (λ v. v .number) (λ is v. refl) vs)
       ∙ rises-filter (λ v. v .number) (λ v. not (f v)) vs e .0
 
   pub remaining-known : (vs : List Request) (q : ℕ) → member q (map (λ v. v .number) (remaining f g vs)) ≡ true → member q (map (λ v. v .number) vs) ≡ true
-  unfolding withItems
   remaining-known vs q t =
       picked-sub (λ v. v .number) (λ v. not (f v)) vs q (ap (member q) (sym (remaining-keys (λ v. v .number) (λ is v. refl) vs)) ∙ t)
 
   -- a request that does not close is found trimmed
   pub request-after : (vs : List Request) → rises (λ v. v .number) vs ≡ true → (q : ℕ) → member q (map (λ v. v .number) vs) ≡ true → f (requestOf vs q) ≡ false
       → requestOf (remaining f g vs) q ≡ trimmed f g (olderOf (λ v. v .number) vs q) (requestOf vs q)
-  unfolding requestOf remaining olderOf trimmed withItems Rattle.rows.specs.Lists.firstWith
+  unfolding requestOf remaining olderOf trimmed Rattle.rows.specs.Lists.firstWith
   request-after [] e q t h = clash t (unfold member in refl)
   request-after (v ∷ vs) e q t h = pick (request-after vs (rises-rest (λ v. v .number) v vs e) q) (f v) refl (eqb (v .number) q) refl h (member-cases q (v .number) (map (λ v. v .number) vs) t)
     where
@@ -85,11 +84,11 @@ module _ (f : Request → Bool) (g : List ℕ) where
       pick ih false p false n h m = rw n (⊎-elim (λ z. absurd (eqb-false (v .number) q n (sym z))) (λ u. ih u h) m)
 
 -- ---- where a returned row goes
-pub returned-keeps : {B : Type 0} (F : Row → B) → ((p : ℕ) (r : Row) → F (placedIn p r) ≡ F r) → (f : Request → Bool) (vs : List Request) (r : Row) → F (returned f vs r) ≡ F r
+pub returned-keeps : {B : Type 0} (F : Row → B) → ((p : ℕ) (r : Row) → F (withPlace p r) ≡ F r) → (f : Request → Bool) (vs : List Request) (r : Row) → F (returned f vs r) ≡ F r
 unfolding returned
 returned-keeps F h f vs r = pick (some (oldestListing f (r .number) vs .number))
   where
-    pick : (b : Bool) → F (cond b (placedIn (inClist (oldestListing f (r .number) vs .asker)) r) r) ≡ F r
+    pick : (b : Bool) → F (cond b (withPlace (inClist (oldestListing f (r .number) vs .asker)) r) r) ≡ F r
     pick true = h _ r
     pick false = refl
 
@@ -124,7 +123,7 @@ oldest-all f e P (v ∷ vs) s a h =
 
 pub returned-place : (f : Request → Bool) (vs : List Request) (r : Row) → all (λ v. some (v .number)) vs ≡ true → listedIn f vs (r .number) ≡ true
     → returned f vs r .place ≡ inClist (oldestListing f (r .number) vs .asker)
-unfolding returned placedIn
+unfolding returned withPlace
 returned-place f vs r s h = rw (oldest-all f (r .number) (λ v. some (v .number)) vs s s h) refl
 
 pub nothing-returned : (f : Request → Bool) (vs : List Request) → returned f vs noRow ≡ noRow
@@ -134,7 +133,7 @@ nothing-returned f vs = returned-same f vs noRow (any-none (λ w. f w && lists 0
 -- ---- the rows that are left
 module _ (g : List ℕ) (f : Request → Bool) (st : State) where
   number-kept : (r : Row) → returned f (st .requests) r .number ≡ r .number
-  unfolding placedIn
+  unfolding withPlace
   number-kept r = returned-keeps (λ r. r .number) (λ p r. refl) f (st .requests) r
 
   pub left-keys : (n : ℕ) → member n (numbers (settled g f st .rows)) ≡ member n (numbers (st .rows)) && not (member n g)

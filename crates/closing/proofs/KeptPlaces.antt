@@ -21,7 +21,8 @@ use Rattle.rows.proofs.SoundFacts.{row-number, clist-not-system, clist-owned, r
 use Rattle.rows.proofs.RowSources.{subdirectory-there}
 use Rattle.rows.proofs.Places.{clist-not-node, subdirectory-no-end}
 use Rattle.rows.proofs.Awaits.{older-listers, awaits-none}
-use Rattle.closing.specs.Closing.{oldestListing, placedIn, returned, listedIn, leaves, homed, withItems, trimmed, remaining, settled}
+use Rattle.closing.specs.Closing.{oldestListing, returned, listedIn, leaves, homed, trimmed, remaining, settled}
+use Rattle.rows.specs.Setters.{withPlace, withItems}
 use Rattle.closing.proofs.KeptLists.{any-first}
 use Rattle.closing.proofs.KeptFacts.{Stands, IsOpen, end-at, request-number, listed-right}
 use Rattle.closing.proofs.KeptMarks.{Closed}
@@ -45,7 +46,7 @@ module _ (f : Request → Bool) (g : List ℕ) (n : ℕ) where
       pick : awaitsFetch (remaining f g vs) n ≡ awaitsFetch vs n → (b : Bool) → f v ≡ b → b && lists n v ≡ false
           → awaitsFetch (cond b (remaining f g vs) (trimmed f g vs v ∷ remaining f g vs)) n ≡ cond (lists n v) (not (eqb (v .fetched) 1)) (awaitsFetch vs n)
       pick ih true q u = rw u ih
-      pick ih false q u = rw (listed, ih) (unfold trimmed withItems in refl)
+      pick ih false q u = rw (listed, ih) (unfold trimmed in refl)
 
   skips : (v : Request) (vs : List Request) → lists n v ≡ false → awaitsFetch (v ∷ vs) n ≡ awaitsFetch vs n
   unfolding awaitsFetch
@@ -59,7 +60,7 @@ module _ (f : Request → Bool) (g : List ℕ) (n : ℕ) where
     where
       fewer : (ws : List Request) (w : Request) → f w ≡ false → isFetched w || not (lists n w) ≡ true → isFetched (trimmed f g ws w) || not (lists n (trimmed f g ws w)) ≡ true
       fewer ws w q e =
-          let fetched : isFetched (trimmed f g ws w) ≡ isFetched w = unfold isFetched trimmed withItems in refl in
+          let fetched : isFetched (trimmed f g ws w) ≡ isFetched w = unfold isFetched trimmed in refl in
           rw (fetched, trimmed-lists f g ws w n) (or-map (isFetched w) (not (lists n w)) (not (lists n w && not (leaves f g ws n))) (weaker (lists n w) (not (leaves f g ws n))) e)
         where
           weaker : (a b : Bool) → not a ≡ true → not (a && b) ≡ true
@@ -164,7 +165,7 @@ module _ (g : List ℕ) (f : Request → Bool) (st : State) (s : Sound st) (c : 
       R n = returned f (st .requests) (rowOf (st .rows) n)
 
       number : (n : ℕ) → Stands st n → R n .number ≡ n
-      number n t = returned-keeps (λ r. r .number) (unfold placedIn in λ p r. refl) f (st .requests) (rowOf (st .rows) n) ∙ row-number (st .rows) n t
+      number n t = returned-keeps (λ r. r .number) (unfold withPlace in λ p r. refl) f (st .requests) (rowOf (st .rows) n) ∙ row-number (st .rows) n t
 
       at-row : (n : ℕ) → Stands st n → member n g ≡ false → same (isSystem (rowOf (st .rows) n .place)) (awaitsFetch (st .requests) (rowOf (st .rows) n .number)) ≡ true
           → same (isSystem (R n .place)) (awaitsFetch (remaining f g (st .requests)) (R n .number)) ≡ true

@@ -16,7 +16,8 @@ use Rattle.rows.specs.Sound.{requestsRise, numbersApart, requestsFit, fetchedIn
 use Rattle.rows.proofs.Bools.{clash, and-l, and-r, and-i, not-t, or-fl, or-map, any-mono, all-at}
 use Rattle.rows.proofs.Sound.{Sound}
 use Rattle.rows.proofs.Lists.{distinct-filter, all-of-member, member-nonzero}
-use Rattle.closing.specs.Closing.{placedIn, listedIn, leaves, homed, withItems, trimmed, remaining, settled}
+use Rattle.rows.specs.Setters.{withPlace, withItems}
+use Rattle.closing.specs.Closing.{listedIn, leaves, homed, trimmed, remaining, settled}
 use Rattle.closing.proofs.KeptLists.{length-filter, trim, member-trim, any-trim, distinct-trim}
 use Rattle.closing.proofs.KeptMarks.{Closed}
 use Rattle.closing.proofs.KeptLookups.{trimmed-lists, remaining-keys, all-remaining, remaining-rises, left-keys, row-after, returned-keeps}
@@ -40,11 +41,11 @@ module _ (f : Request → Bool) (g : List ℕ) where
       at-request : (ws : List Request) (w : Request) → f w ≡ false → isFetched w || not (any (λ e. lists e w) is) ≡ true
           → isFetched (trimmed f g ws w) || not (any (λ e. lists e (trimmed f g ws w)) js) ≡ true
       at-request ws w q e =
-          let same : isFetched (trimmed f g ws w) ≡ isFetched w = unfold isFetched trimmed withItems in refl in
+          let same : isFetched (trimmed f g ws w) ≡ isFetched w = unfold isFetched trimmed in refl in
           rw same (or-map (isFetched w) (not (any (λ e. lists e w) is)) (not (any (λ e. lists e (trimmed f g ws w)) js)) (contra _ _ (λ t. h w (fewer ws w t))) e)
 
   older-fetched-remain : (vs : List Request) → each olderFetchedBy vs ≡ true → each olderFetchedBy (remaining f g vs) ≡ true
-  unfolding remaining each olderFetchedBy trimmed withItems trim
+  unfolding remaining each olderFetchedBy trimmed trim
   older-fetched-remain [] e = refl
   older-fetched-remain (v ∷ vs) e = pick (older-fetched-remain vs (and-r (olderFetchedBy v vs) (each olderFetchedBy vs) e)) (f v)
     where
@@ -56,7 +57,6 @@ module _ (f : Request → Bool) (g : List ℕ) where
       pick ih false = and-i _ _ (fetched-by (v .items) (trim (leaves f g vs) (v .items)) some-listed vs (and-l (olderFetchedBy v vs) (each olderFetchedBy vs) e)) ih
 
   length-remaining : (vs : List Request) → length (remaining f g vs) ≤ length vs
-  unfolding withItems
   length-remaining vs =
       let a : length (map (λ v. v .number) (remaining f g vs)) ≡ length (map (λ v. v .number) (filter (λ v. not (f v)) vs)) = ap length (remaining-keys f g (λ v. v .number) (λ is v. refl) vs) in
       let b : length (map (λ v. v .number) (remaining f g vs)) ≡ length (remaining f g vs) = length-map (remaining f g vs) (λ v. v .number) in
@@ -85,29 +85,29 @@ module _ (g : List ℕ) (f : Request → Bool) (st : State) (s : Sound st) where
       apart n e = ap not (left-keys g f st n ∙ ap (λ b. b && not (member n g)) (not-t (member n (numbers (st .rows))) e))
 
       at-request : (vs : List Request) (v : Request) → f v ≡ false → not (member (v .number) (numbers (st .rows))) ≡ true → not (member (trimmed f g vs v .number) (numbers (settled g f st .rows))) ≡ true
-      at-request vs v q e = unfold trimmed withItems in apart (v .number) e
+      at-request vs v q e = unfold trimmed in apart (v .number) e
 
   pub fetched-in-range-kept : fetchedInRange (settled g f st) ≡ true
-  unfolding fetchedInRange settled trimmed withItems
+  unfolding fetchedInRange settled trimmed
   fetched-in-range-kept = all-remaining f g (λ v. leb (v .fetched) 1) (λ v. leb (v .fetched) 1) (λ vs v q e. e) (st .requests) (s .fetched-in-range)
 
   pub requesters-listed-kept : requestersListed (settled g f st) ≡ true
-  unfolding requestersListed settled trimmed withItems
+  unfolding requestersListed settled trimmed
   requesters-listed-kept =
       all-remaining f g (λ v. isListed (st .processes) (v .asker)) (λ v. isListed (map (homed g) (st .processes)) (v .asker)) (λ vs v q e. listed-kept g (st .processes) (v .asker) ∙ e) (st .requests) (s .requesters-listed)
 
   pub items-few-kept : itemsFew (settled g f st) ≡ true
-  unfolding itemsFew settled trimmed withItems
+  unfolding itemsFew settled trimmed
   items-few-kept =
       all-remaining f g (λ v. eqb (length (v .items)) mostItems) (λ v. eqb (length (v .items)) mostItems) (λ vs v q e. ap (λ n. eqb n mostItems) (length-map (v .items) (λ e. cond (leaves f g vs e) 0 e)) ∙ e) (st .requests) (s .items-few)
 
   pub items-apart-kept : itemsApart (settled g f st) ≡ true
-  unfolding itemsApart settled trimmed withItems trim
+  unfolding itemsApart settled trimmed trim
   items-apart-kept =
       all-remaining f g (λ v. distinct (nonzero (v .items))) (λ v. distinct (nonzero (v .items))) (λ vs v q e. distinct-trim (leaves f g vs) (v .items) e) (st .requests) (s .items-apart)
 
   pub one-per-port-kept : onePerPort (settled g f st) ≡ true
-  unfolding onePerPort settled withItems
+  unfolding onePerPort settled
   one-per-port-kept = ap distinct (remaining-keys f g (λ v. v .port) (λ is v. refl) (st .requests)) ∙ distinct-filter (λ v. v .port) (λ v. not (f v)) (st .requests) (s .one-per-port)
 
   pub older-fetched-kept : olderFetched (settled g f st) ≡ true
@@ -115,7 +115,7 @@ module _ (g : List ℕ) (f : Request → Bool) (st : State) (s : Sound st) where
   older-fetched-kept = older-fetched-remain f g (st .requests) (s .older-fetched)
 
   pub ports-stand-kept : Closed g f st → portsStand (settled g f st) ≡ true
-  unfolding portsStand portStands settled trimmed withItems placedIn
+  unfolding portsStand portStands settled trimmed withPlace
   ports-stand-kept c = all-remaining f g (portStands (st .rows)) (portStands (settled g f st .rows)) at-request (st .requests) (s .ports-stand)
     where
       at-request : (vs : List Request) (v : Request) → f v ≡ false → portStands (st .rows) v ≡ true → portStands (settled g f st .rows) (trimmed f g vs v) ≡ true
@@ -125,7 +125,7 @@ module _ (g : List ℕ) (f : Request → Bool) (st : State) (s : Sound st) where
           ap (λ b. b && ltb (suc (v .port)) (v .number)) k ∙ e
 
   pub items-lent-kept : itemsLent (settled g f st) ≡ true
-  unfolding itemsLent mayBeListed settled trimmed withItems trim placedIn leaves
+  unfolding itemsLent mayBeListed settled trimmed trim withPlace leaves
   items-lent-kept =
       all-remaining f g (λ v. all (λ e. mayBeListed v (rowOf (st .rows) e)) (nonzero (v .items))) (λ v. all (λ e. mayBeListed v (rowOf (settled g f st .rows) e)) (nonzero (v .items))) at-request (st .requests) (s .items-lent)
     where

@@ -20,7 +20,8 @@ use Rattle.rows.proofs.Keyed.{first-none, rises-range, olderOf}
 use Rattle.rows.proofs.Sound.{Sound}
 use Rattle.rows.proofs.SoundFacts.{row-number}
 use Rattle.rows.proofs.Standing.{source-lower, via-lower}
-use Rattle.closing.specs.Closing.{placedIn, returned, listedIn, leaves, homed, withItems, trimmed, remaining, settled}
+use Rattle.rows.specs.Setters.{withPlace, withItems}
+use Rattle.closing.specs.Closing.{returned, listedIn, leaves, homed, trimmed, remaining, settled}
 use Rattle.closing.proofs.KeptLists.{any-older, top-member, length-filter}
 use Rattle.closing.proofs.KeptFacts.{Stands, IsOpen, end-right, copy-at, copy-listed, lists-open}
 use Rattle.closing.proofs.KeptMarks.{Closed}
@@ -31,7 +32,7 @@ use Rattle.closing.proofs.KeptPlaces.{listed-end, no-end-same, node-kep
 -- ---- ranges, sizes
 module _ (g : List ℕ) (f : Request → Bool) (st : State) (s : Sound st) where
   pub objects-in-range-kept : objectsInRange (settled g f st) ≡ true
-  unfolding objectsInRange objectInRange placedIn
+  unfolding objectsInRange objectInRange withPlace
   objects-in-range-kept =
       unfold settled in all-left g f st (objectInRange (st .processes)) (objectInRange (map (homed g) (st .processes))) (s .rows-rise)
       (λ n t k e. returned-keeps (objectInRange (map (homed g) (st .processes))) (λ p r. refl) f (st .requests) (rowOf (st .rows) n) ∙ listed (rowOf (st .rows) n) e) (s .objects-in-range)
@@ -40,7 +41,7 @@ module _ (g : List ℕ) (f : Request → Bool) (st : State) (s : Sound st) where
       listed r e = rw (listed-kept g (st .processes) (r .object)) e
 
   pub rights-in-range-kept : rightsInRange (settled g f st) ≡ true
-  unfolding rightsInRange rightInRange placedIn
+  unfolding rightsInRange rightInRange withPlace
   rights-in-range-kept =
       all-left g f st rightInRange rightInRange (s .rows-rise) (λ n t k e. returned-keeps rightInRange (λ p r. refl) f (st .requests) (rowOf (st .rows) n) ∙ e) (s .rights-in-range)
 
@@ -102,22 +103,22 @@ module _ (g : List ℕ) (f : Request → Bool) (st : State) (s : Sound st) (c : 
   after n = olderOf (λ r. r .number) (settled g f st .rows) n
 
   -- a field of an older row that is left, other than the place
-  field : {B : Type 0} (F : Row → B) → ((p : ℕ) (r : Row) → F (placedIn p r) ≡ F r) → (n m : ℕ) → Stands st n → member n g ≡ false → m < n → member m g ≡ false
+  field : {B : Type 0} (F : Row → B) → ((p : ℕ) (r : Row) → F (withPlace p r) ≡ F r) → (n m : ℕ) → Stands st n → member n g ≡ false → m < n → member m g ≡ false
       → F (rowOf (after n) m) ≡ F (rowOf (before n) m)
   unfolding before after
   field F h n m t k lt j =
       ap F (older-after g f st (s .rows-rise) n m t k lt j) ∙ returned-keeps F h f (st .requests) (rowOf (st .rows) m) ∙ ap F (sym (older-before g f st (s .rows-rise) n m t lt))
 
-  of-source : {B : Type 0} (F : Row → B) → ((p : ℕ) (r : Row) → F (placedIn p r) ≡ F r) → (n : ℕ) → Stands st n → member n g ≡ false
+  of-source : {B : Type 0} (F : Row → B) → ((p : ℕ) (r : Row) → F (withPlace p r) ≡ F r) → (n : ℕ) → Stands st n → member n g ≡ false
       → F (rowOf (after n) (rowOf (st .rows) n .source)) ≡ F (rowOf (before n) (rowOf (st .rows) n .source))
   of-source F h n t k = field F h n (rowOf (st .rows) n .source) t k (source-lower st s n t) (c .source-stays n t k)
 
-  of-via : {B : Type 0} (F : Row → B) → ((p : ℕ) (r : Row) → F (placedIn p r) ≡ F r) → (n : ℕ) → Stands st n → member n g ≡ false
+  of-via : {B : Type 0} (F : Row → B) → ((p : ℕ) (r : Row) → F (withPlace p r) ≡ F r) → (n : ℕ) → Stands st n → member n g ≡ false
       → F (rowOf (after n) (rowOf (st .rows) n .via)) ≡ F (rowOf (before n) (rowOf (st .rows) n .via))
   of-via F h n t k = field F h n (rowOf (st .rows) n .via) t k (via-lower st s n t) (c .via-stays n t k)
 
   pub depths-right-kept : depthsRight (settled g f st) ≡ true
-  unfolding depthsRight depthRight placedIn before after
+  unfolding depthsRight depthRight withPlace before after
   depths-right-kept =
       each-left g f st depthRight depthRight (s .rows-rise)
       (λ n t k e. returned-keeps (λ r. depthRight r (after n)) (λ p r. refl) f (st .requests) (rowOf (st .rows) n)
@@ -125,7 +126,7 @@ module _ (g : List ℕ) (f : Request → Bool) (st : State) (s : Sound st) (c : 
       (s .depths-right)
 
   pub copies-match-kept : copiesMatch (settled g f st) ≡ true
-  unfolding copiesMatch copyMatches placedIn before after
+  unfolding copiesMatch copyMatches withPlace before after
   copies-match-kept =
       each-left g f st copyMatches copyMatches (s .rows-rise)
       (λ n t k e. returned-keeps (λ r. copyMatches r (after n)) (λ p r. refl) f (st .requests) (rowOf (st .rows) n)
@@ -149,7 +150,7 @@ module _ (g : List ℕ) (f : Request → Bool) (st : State) (s : Sound st) (c : 
   none-zero vs e q h = first-none (λ v. v .number) noRequest vs q (false-of _ (λ t. clash (pos-some q (rises-range (λ v. v .number) vs e q t .0)) h))
 
   port-same : (n : ℕ) → Stands st n → member n g ≡ false → requestOf (remaining f g (st .requests)) (rowOf (st .rows) n .request) .port ≡ requestOf (st .requests) (rowOf (st .rows) n .request) .port
-  unfolding requestsRise trimmed withItems
+  unfolding requestsRise trimmed
   port-same n t k =
       ⊎-elim (λ h. ap (λ v. v .port) (request-left n t k h))
       (λ h. ap (λ v. v .port) (none-zero (remaining f g (st .requests)) (remaining-rises f g (st .requests) (s .requests-rise)) (rowOf (st .rows) n .request) h ∙ sym (none-zero (st .requests) (s .requests-rise) (rowOf (st .rows) n .request) h)))
@@ -157,7 +158,7 @@ module _ (g : List ℕ) (f : Request → Bool) (st : State) (s : Sound st) (c : 
 
   -- ---- "Sources are standing, of the kind above and older"
   plain-right : (n : ℕ) → Stands st n → member n g ≡ false → sourceRight (remaining f g (st .requests)) (rowOf (st .rows) n) (after n) ≡ sourceRight (st .requests) (rowOf (st .rows) n) (before n)
-  unfolding before after placedIn
+  unfolding before after withPlace
   plain-right n t k =
       same-right (remaining f g (st .requests)) (st .requests) (rowOf (st .rows) n) (after n) (before n) (of-source (λ r. r .kind) (λ p r. refl) n t k) node (of-via (λ r. r .kind) (λ p r. refl) n t k) (port-same n t k)
     where
@@ -171,7 +172,7 @@ module _ (g : List ℕ) (f : Request → Bool) (st : State) (s : Sound st) (c : 
 
   -- of an end, which may be moved
   moved-right : (n : ℕ) → Stands st n → member n g ≡ false → isPortEnd (before n) (rowOf (st .rows) n) ≡ true → isPortEnd (after n) (returned f (st .requests) (rowOf (st .rows) n)) ≡ true
-  unfolding isPortEnd placedIn
+  unfolding isPortEnd withPlace
   moved-right n t k e =
       ap (λ b. fits (returned f (st .requests) r) b (isOperation (rowOf (after n) (returned f (st .requests) r .source) .kind))) (node-kept g f st s c n k)
       ∙ returned-keeps (λ x. fits x (isNode (r .place)) (isOperation (rowOf (after n) (x .source) .kind))) (λ p x. refl) f (st .requests) r
@@ -198,7 +199,7 @@ module _ (g : List ℕ) (f : Request → Bool) (st : State) (s : Sound st) (c : 
 
   -- ---- "Ends stand in pairs."
   pub ends-paired-kept : endsPaired (settled g f st) ≡ true
-  unfolding endsPaired endPaired isPairedWith otherEnd placedIn
+  unfolding endsPaired endPaired isPairedWith otherEnd withPlace
   ends-paired-kept = all-left g f st (endPaired (st .rows)) (endPaired (settled g f st .rows)) (s .rows-rise) at-row (s .ends-paired)
     where
       at-row : (n : ℕ) → Stands st n → member n g ≡ false → endPaired (st .rows) (rowOf (st .rows) n) ≡ true → endPaired (settled g f st .rows) (returned f (st .requests) (rowOf (st .rows) n)) ≡ true
@@ -233,7 +234,7 @@ module _ (g : List ℕ) (f : Request → Bool) (st : State) (s : Sound st) (c : 
       stays = ap (λ b. b || listedIn f older n) k ∙ unlisted
 
   pub copies-listed-kept : copiesListed (settled g f st) ≡ true
-  unfolding copiesListed copyListed placedIn
+  unfolding copiesListed copyListed withPlace
   copies-listed-kept = unfold settled in all-left g f st (copyListed (st .requests)) (copyListed (remaining f g (st .requests))) (s .rows-rise) at-row (s .copies-listed)
     where
       not-zero-positive : (q : ℕ) → (q ≡ 0 → ⊥) → 0 < q

@@ -12,20 +12,20 @@ use Rattle.rows.specs.declared.Row.{Row}
 use Rattle.rows.specs.Lists.{pad, member, some}
 use Rattle.rows.specs.Codes.{inClist}
 use Rattle.rows.specs.Tables.{State, numbers}
-use Rattle.rows.specs.Lies.{Lies, rowSlot, withRows, changeRow}
+use Rattle.rows.specs.contracts.Represents.{Represents, changeRow}
+use Rattle.rows.specs.Layout.{rowSlot}
+use Rattle.rows.specs.Setters.{withRows, withPlace}
 use Rattle.rows.proofs.Bools.{or-fl, or-fr, eqb-sym-f}
-use Rattle.rows.proofs.Slots.{lies-well, row-none}
-use Rattle.changes.specs.Changes.{placed}
-use Rattle.closing.specs.Closing.{placedIn}
-use Rattle.closing.specs.Lists.{slotMarks, among, backRow, itemsBack, WentBack}
+use Rattle.rows.proofs.Slots.{represented-well, row-none}
+use Rattle.closing.specs.contracts.Lists.{slotMarks, among, backRow, itemsBack, WentBack}
 use Rattle.closing.proofs.ListsMarks.{tested-eq, tested-map, among-one, among-zero, mark-put, mark-absent}
 
 -- ---- rows and marks under a change that keeps numbers
 pub back-number : (b : ℕ → Bool) (p : ℕ) (is : List ℕ) (r : Row) → backRow b p is r .number ≡ r .number
-unfolding backRow placedIn
+unfolding backRow withPlace
 back-number b p is r = pick (not (b (r .number)) && among is (r .number))
   where
-    pick : (c : Bool) → cond c (placedIn (inClist p) r) r .number ≡ r .number
+    pick : (c : Bool) → cond c (withPlace (inClist p) r) r .number ≡ r .number
     pick true = refl
     pick false = refl
 
@@ -46,11 +46,11 @@ and-none false c e = refl
 module _ (b : ℕ → Bool) (p : ℕ) (is : List ℕ) where
   row-stays : (r : Row) → not (b (r .number)) && among is (r .number) ≡ false → backRow b p is r ≡ r
   unfolding backRow
-  row-stays r h = ap (λ (c : Bool). cond c (placedIn (inClist p) r) r) h
+  row-stays r h = ap (λ (c : Bool). cond c (withPlace (inClist p) r) r) h
 
   -- no row that did not go back is among the items: nothing changes
   back-none : (st : State) → ((r : Row) → not (b (r .number)) && among is (r .number) ≡ false) → itemsBack b p is st ≡ st
-  unfolding itemsBack withRows
+  unfolding itemsBack
   back-none st h =
       let rows = (λ i. map (λ r. row-stays r (h r) i) (st .rows)) ∙ map-id (st .rows) in
       λ i. record { rows = rows i; requests = st .requests; processes = st .processes; next = st .next }
@@ -66,17 +66,17 @@ rows-stay b p e h (r ∷ rs) q =
     λ i. here i ∷ ih i
 
 state-stays : (b : ℕ → Bool) (p e : ℕ) → some e ≡ true → (st : State) → rowSlot (st .rows) e ≡ 0 → itemsBack b p (e ∷ []) st ≡ st
-unfolding itemsBack withRows numbers
+unfolding itemsBack numbers
 state-stays b p e h st s =
     let rows = rows-stay b p e h (st .rows) (row-none (st .rows) e s) in
     λ i. record { rows = rows i; requests = st .requests; processes = st .processes; next = st .next }
 
-module _ (b : ℕ → Bool) (p : ℕ) (st : State) (t : List ℕ) (back : List Bool) (lie : Lies st t) (m : back ≡ slotMarks b (st .rows)) where
+module _ (b : ℕ → Bool) (p : ℕ) (st : State) (t : List ℕ) (back : List Bool) (rep : Represents t st) (m : back ≡ slotMarks b (st .rows)) where
   -- no item, or none that is a number
   unchanged : (is : List ℕ) → ((n : ℕ) → among is n ≡ false) → WentBack b p is st t back
   unchanged is h =
       record {
-        lies = subst (λ (s : State). Lies s t) (sym (back-none b p is st (λ r. and-none (not (b (r .number))) (among is (r .number)) (h (r .number))))) lie;
+        represents = subst (λ (s : State). Represents t s) (sym (back-none b p is st (λ r. and-none (not (b (r .number))) (among is (r .number)) (h (r .number))))) rep;
         marks = m ∙ (λ i. slotMarks (λ n. sym (or-none (b n) (among is n) (h n)) i) (st .rows));
       }
 
@@ -92,7 +92,7 @@ module _ (b : ℕ → Bool) (p : ℕ) (st : State) (t : List ℕ) (back : List B
     pub back-absent : rowSlot (st .rows) e ≡ 0 → WentBack b p (e ∷ []) st t back
     back-absent s =
         record {
-          lies = subst (λ (x : State). Lies x t) (sym (state-stays b p e h st s)) lie;
+          represents = subst (λ (x : State). Represents t x) (sym (state-stays b p e h st s)) rep;
           marks = mark-absent b (st .rows) e h back m s;
         }
 
@@ -100,7 +100,7 @@ module _ (b : ℕ → Bool) (p : ℕ) (st : State) (t : List ℕ) (back : List B
     pub back-before : b e ≡ true → WentBack b p (e ∷ []) st t back
     back-before q =
         record {
-          lies = subst (λ (s : State). Lies s t) (sym (back-none b p (e ∷ []) st (λ r. out (r .number)))) lie;
+          represents = subst (λ (s : State). Represents t s) (sym (back-none b p (e ∷ []) st (λ r. out (r .number)))) rep;
           marks = m ∙ (λ i. slotMarks (λ n. sym (known n) i) (st .rows));
         }
       where
@@ -119,22 +119,22 @@ module _ (b : ℕ → Bool) (p : ℕ) (st : State) (t : List ℕ) (back : List B
             pick false d = or-none (b n) false refl
 
 -- it goes back
-pub back-now : (b : ℕ → Bool) (p : ℕ) (st : State) (t t′ : List ℕ) (back : List Bool) → Lies st t → back ≡ slotMarks b (st .rows) → (e : ℕ) → some e ≡ true → b e ≡ false
-    → (i : ℕ) → rowSlot (st .rows) e ≡ suc i → Lies (changeRow e (placed (inClist p)) st) t′ → WentBack b p (e ∷ []) st t′ (set back i true)
-back-now b p st t t′ back lie m e h q i s lie′ =
+pub back-now : (b : ℕ → Bool) (p : ℕ) (st : State) (t t′ : List ℕ) (back : List Bool) → Represents t st → back ≡ slotMarks b (st .rows) → (e : ℕ) → some e ≡ true → b e ≡ false
+    → (i : ℕ) → rowSlot (st .rows) e ≡ suc i → Represents t′ (changeRow e (withPlace (inClist p)) st) → WentBack b p (e ∷ []) st t′ (set back i true)
+back-now b p st t t′ back rep m e h q i s rep′ =
     record {
-      lies = subst (λ (x : State). Lies x t′) same lie′;
-      marks = mark-put b (st .rows) e h back m (lies-well lie .rows-rise) (lies-well lie .rows-fit) i s;
+      represents = subst (λ (x : State). Represents t′ x) same rep′;
+      marks = mark-put b (st .rows) e h back m (represented-well rep .rows-rise) (represented-well rep .rows-fit) i s;
     }
   where
-    goes : (r : Row) → cond (eqb (r .number) e) (placed (inClist p) r) r ≡ backRow b p (e ∷ []) r
+    goes : (r : Row) → cond (eqb (r .number) e) (withPlace (inClist p) r) r ≡ backRow b p (e ∷ []) r
     goes r = unfold backRow in rw (among-one e (r .number) h) (pick (eqb (r .number) e) refl)
       where
-        pick : (c : Bool) → eqb (r .number) e ≡ c → cond c (placed (inClist p) r) r ≡ cond (not (b (r .number)) && c) (placedIn (inClist p) r) r
-        pick true d = rw (ap b (eqb-true (r .number) e d) ∙ q) (unfold placed placedIn in refl)
-        pick false d = ap (λ (c : Bool). cond c (placedIn (inClist p) r) r) (sym (and-none (not (b (r .number))) false refl))
+        pick : (c : Bool) → eqb (r .number) e ≡ c → cond c (withPlace (inClist p) r) r ≡ cond (not (b (r .number)) && c) (withPlace (inClist p) r) r
+        pick true d = rw (ap b (eqb-true (r .number) e d) ∙ q) refl
+        pick false d = ap (λ (c : Bool). cond c (withPlace (inClist p) r) r) (sym (and-none (not (b (r .number))) false refl))
 
-    same : changeRow e (placed (inClist p)) st ≡ itemsBack b p (e ∷ []) st
+    same : changeRow e (withPlace (inClist p)) st ≡ itemsBack b p (e ∷ []) st
     same = unfold changeRow itemsBack in λ i. withRows (map (λ r. goes r i) (st .rows)) st
 
 -- ---- one item after the other
@@ -160,25 +160,25 @@ module _ (b : ℕ → Bool) (p : ℕ) (xs ys : List ℕ) where
   row-step : (r : Row) → backRow (λ n. b n || among xs n) p ys (backRow b p xs r) ≡ backRow b p (xs ++ ys) r
   unfolding backRow
   row-step r =
-      ap (λ (n : ℕ). cond (not (b n || among xs n) && among ys n) (placedIn (inClist p) (backRow b p xs r)) (backRow b p xs r)) (back-number b p xs r)
+      ap (λ (n : ℕ). cond (not (b n || among xs n) && among ys n) (withPlace (inClist p) (backRow b p xs r)) (backRow b p xs r)) (back-number b p xs r)
       ∙ pick (b (r .number)) (among xs (r .number)) (among ys (r .number))
-      ∙ ap (λ (c : Bool). cond (not (b (r .number)) && c) (placedIn (inClist p) r) r) (sym (among-append xs ys (r .number)))
+      ∙ ap (λ (c : Bool). cond (not (b (r .number)) && c) (withPlace (inClist p) r) r) (sym (among-append xs ys (r .number)))
     where
       pick : (c x y : Bool)
-          → cond (not (c || x) && y) (placedIn (inClist p) (cond (not c && x) (placedIn (inClist p) r) r)) (cond (not c && x) (placedIn (inClist p) r) r)
-          ≡ cond (not c && (x || y)) (placedIn (inClist p) r) r
+          → cond (not (c || x) && y) (withPlace (inClist p) (cond (not c && x) (withPlace (inClist p) r) r)) (cond (not c && x) (withPlace (inClist p) r) r)
+          ≡ cond (not c && (x || y)) (withPlace (inClist p) r) r
       pick true x y = refl
       pick false true y = refl
       pick false false y = refl
 
   pub state-step : (st : State) → itemsBack (λ n. b n || among xs n) p ys (itemsBack b p xs st) ≡ itemsBack b p (xs ++ ys) st
-  unfolding itemsBack withRows
+  unfolding itemsBack
   state-step st =
       let rows = map-map (backRow (λ n. b n || among xs n) p ys) (backRow b p xs) (st .rows) ∙ (λ i. map (λ r. row-step r i) (st .rows)) in
       λ i. record { rows = rows i; requests = st .requests; processes = st .processes; next = st .next }
 
   marks-step : (st : State) → slotMarks (λ n. (b n || among xs n) || among ys n) (itemsBack b p xs st .rows) ≡ slotMarks (λ n. b n || among (xs ++ ys) n) (st .rows)
-  unfolding itemsBack withRows
+  unfolding itemsBack
   marks-step st =
       marks-map (λ n. (b n || among xs n) || among ys n) (backRow b p xs) (back-number b p xs) (st .rows)
       ∙ (λ i. slotMarks (λ n. (or-assoc (b n) (among xs n) (among ys n) ∙ ap (λ (c : Bool). b n || c) (sym (among-append xs ys n))) i) (st .rows))
@@ -188,17 +188,17 @@ module _ (b : ℕ → Bool) (p : ℕ) (xs ys : List ℕ) where
       or-assoc false c d = refl
 
   pub back-step : (st : State) (t : List ℕ) (back : List Bool) → WentBack (λ n. b n || among xs n) p ys (itemsBack b p xs st) t back → WentBack b p (xs ++ ys) st t back
-  back-step st t back w = record { lies = subst (λ (s : State). Lies s t) (state-step st) (w .lies); marks = w .marks ∙ marks-step st }
+  back-step st t back w = record { represents = subst (λ (s : State). Represents t s) (state-step st) (w .represents); marks = w .marks ∙ marks-step st }
 
 -- ---- the loop over the items
 module _ (b : ℕ → Bool) (p : ℕ) (st : State) where
   -- the changed state has as many rows, and the same marks
   pub back-count : (xs : List ℕ) (n : ℕ) → n ≡ length (st .rows) → n ≡ length (itemsBack b p xs st .rows)
-  unfolding itemsBack withRows
+  unfolding itemsBack
   back-count xs n e = e ∙ sym (length-map (st .rows) (backRow b p xs))
 
   pub back-marks : (xs : List ℕ) (t : List ℕ) (back : List Bool) → WentBack b p xs st t back → back ≡ slotMarks (λ n. b n || among xs n) (itemsBack b p xs st .rows)
-  unfolding itemsBack withRows
+  unfolding itemsBack
   back-marks xs t back w = w .marks ∙ sym (marks-map (λ n. b n || among xs n) (backRow b p xs) (back-number b p xs) (st .rows))
 
   pub back-turn : (items : List ℕ) (k : ℕ) → k < length items → (t : List ℕ) (back : List Bool)

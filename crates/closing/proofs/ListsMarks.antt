@@ -10,14 +10,14 @@ use borrow.Author.Tests.{eqb-true, ne-eqb}
 use lib.ListN.{length, getD, set, length-append, List·getD-append}
 use lib.Seq.{getD-at, set-at, set-append-left}
 use Rattle.rows.specs.declared.Row.{Row}
-use Rattle.rows.specs.Lists.{rises, member, pad, some}
-use Rattle.rows.specs.Lies.{slotWith, rowSlot}
+use Rattle.rows.specs.Lists.{rises, member, pad, some, slotWith}
+use Rattle.rows.specs.Layout.{rowSlot}
 use Rattle.rows.proofs.Bools.{eqb-sym-f, or-fl, or-fr, and-false}
 use Rattle.rows.proofs.Keyed.{rises-rest, rises-fresh}
 use Rattle.rows.proofs.KeySlots.{slot-le, slot-none}
-use Rattle.changes.specs.Marks.{tested}
+use Rattle.changes.specs.contracts.Marks.{tested}
 use Rattle.changes.proofs.Keep.{length-tested}
-use Rattle.closing.specs.Lists.{slotMarks, among}
+use Rattle.closing.specs.contracts.Lists.{slotMarks, among}
 
 -- ---- marks that are padded
 module _ (d : Bool) where

@@ -13,14 +13,15 @@ use Rattle.rows.specs.declared.Row.{Row}
 use Rattle.rows.specs.declared.Request.{Request}
 use Rattle.rows.specs.Lists.{all, rises, member, some, nonzero}
 use Rattle.rows.specs.Tables.{State, numbers}
-use Rattle.rows.specs.Lies.{Lies, requestSlot, withRequests, changeRequest}
+use Rattle.rows.specs.contracts.Represents.{Represents, changeRequest}
+use Rattle.rows.specs.contracts.Slots.{requestSlot}
+use Rattle.rows.specs.Setters.{withRequests, withItems}
 use Rattle.rows.proofs.Bools.{clash, and-i, eqb-self, pos-some, member-here, member-there, eqb-sym-f, or-fl, or-fr, all-at}
 use Rattle.rows.proofs.Keyed.{rises-rest, rises-fresh}
 use Rattle.rows.proofs.Picked.{older-other}
-use Rattle.rows.proofs.Slots.{lies-well, slot-number}
-use Rattle.changes.specs.Changes.{itemCleared}
-use Rattle.closing.specs.Closing.{withItems}
-use Rattle.closing.specs.Lists.{itemOut, itemsOut}
+use Rattle.rows.proofs.Slots.{represented-well, slot-number}
+use Rattle.changes.specs.contracts.Changes.{itemCleared}
+use Rattle.closing.specs.contracts.Lists.{itemOut, itemsOut}
 use Rattle.rows.proofs.Lists.{member-nonzero}
 
 -- ---- a change of one element of a list whose keys rise
@@ -62,13 +63,12 @@ none-passes false b e = refl
 abbrev pub withHere : State → List Request → Request → List Request → State
 withHere st new w old = withRequests (new ++ (w ∷ old)) st
 
-module _ {st : State} {t : List ℕ} (lie : Lies st t) (new : List Request) (w : Request) (old : List Request) (cut : st .requests ≡ new ++ (w ∷ old)) where
+module _ {st : State} {t : List ℕ} (rep : Represents t st) (new : List Request) (w : Request) (old : List Request) (cut : st .requests ≡ new ++ (w ∷ old)) where
   same-here : withHere st new w old ≡ st
-  unfolding withRequests
   same-here = λ i. record { rows = st .rows; requests = sym cut i; processes = st .processes; next = st .next }
 
   rise : rises (λ v. v .number) (new ++ (w ∷ old)) ≡ true
-  rise = subst (λ (l : List Request). rises (λ v. v .number) l ≡ true) cut (lies-well lie .requests-rise)
+  rise = subst (λ (l : List Request). rises (λ v. v .number) l ≡ true) cut (represented-well rep .requests-rise)
 
   -- its slot
   pub slot-here : (j : ℕ) → length old ≡ j → requestSlot (st .requests) (w .number) ≡ suc j
@@ -76,19 +76,19 @@ module _ {st : State} {t : List ℕ} (lie : Lies st t) (new : List Request) (w :
   slot-here j e = ap (λ (l : List Request). requestSlot l (w .number)) cut ∙ slot-number (λ v. v .number) new w old rise ∙ ap suc e
 
   cleared-here : (k : ℕ) → changeRequest (w .number) (itemCleared k) st ≡ withHere st new (itemCleared k w) old
-  unfolding changeRequest withRequests
+  unfolding changeRequest
   cleared-here k =
       let requests = ap (map (λ v. cond (eqb (v .number) (w .number)) (itemCleared k v) v)) cut ∙ change-cut (λ v. v .number) (itemCleared k) new w old rise in
       λ i. record { rows = st .rows; requests = requests i; processes = st .processes; next = st .next }
 
   module _ (c : ℕ → Bool) (k e : ℕ) where
-    pub out-same : some e && c e ≡ false → Lies (withHere st new (itemOut c k e w) old) t
+    pub out-same : some e && c e ≡ false → Represents t (withHere st new (itemOut c k e w) old)
     unfolding itemOut
-    out-same h = subst (λ (s : State). Lies s t) (sym (ap (λ (b : Bool). withHere st new (cond b (itemCleared k w) w) old) h ∙ same-here)) lie
+    out-same h = subst (λ (s : State). Represents t s) (sym (ap (λ (b : Bool). withHere st new (cond b (itemCleared k w) w) old) h ∙ same-here)) rep
 
-    pub out-now : some e && c e ≡ true → (t′ : List ℕ) → Lies (changeRequest (w .number) (itemCleared k) st) t′ → Lies (withHere st new (itemOut c k e w) old) t′
+    pub out-now : some e && c e ≡ true → (t′ : List ℕ) → Represents t′ (changeRequest (w .number) (itemCleared k) st) → Represents t′ (withHere st new (itemOut c k e w) old)
     unfolding itemOut
-    out-now h t′ l = subst (λ (s : State). Lies s t′) (cleared-here k ∙ sym (ap (λ (b : Bool). withHere st new (cond b (itemCleared k w) w) old) h)) l
+    out-now h t′ l = subst (λ (s : State). Represents t′ s) (cleared-here k ∙ sym (ap (λ (b : Bool). withHere st new (cond b (itemCleared k w) w) old) h)) l
 
 -- ---- one item after the other
 module _ (c : ℕ → Bool) where
@@ -117,11 +117,11 @@ module _ (c : ℕ → Bool) where
   done-set (suc k) (x ∷ is) h = ap (λ (l : List ℕ). out x ∷ l) (done-set k is h)
 
   pub out-start : (v : Request) → outTo 0 v ≡ v
-  unfolding outTo doneTo withItems
+  unfolding outTo doneTo
   out-start v = refl
 
   pub out-step : (k : ℕ) (v : Request) → itemOut c k (getD (v .items) k 0) (outTo k v) ≡ outTo (k + 1) v
-  unfolding itemOut outTo withItems itemCleared
+  unfolding itemOut outTo itemCleared
   out-step k v = rw (add-one k) (pick (some e) refl (c e) refl)
     where
       e : ℕ
@@ -164,14 +164,13 @@ module _ (st : State) (new old : List Request) (c : ℕ → Bool) where
   abbrev pub outState : ℕ → Request → State
   outState k v = withHere st new (outTo c k v) old
 
-  pub loop-start : (v : Request) (t : List ℕ) → Lies st t → st .requests ≡ new ++ (v ∷ old) → Lies (outState 0 v) t
-  loop-start v t lie cut = subst (λ (s : State). Lies s t) (sym (ap (λ (w : Request). withHere st new w old) (out-start c v) ∙ same-here lie new v old cut)) lie
+  pub loop-start : (v : Request) (t : List ℕ) → Represents t st → st .requests ≡ new ++ (v ∷ old) → Represents t (outState 0 v)
+  loop-start v t rep cut = subst (λ (s : State). Represents t s) (sym (ap (λ (w : Request). withHere st new w old) (out-start c v) ∙ same-here rep new v old cut)) rep
 
   -- the next item done in that state
-  pub loop-turn : (k : ℕ) (v : Request) (items : List ℕ) → v .items ≡ items → (t : List ℕ) → Lies (withHere (outState k v) new (itemOut c k (getD items k 0) (outTo c k v)) old) t
-      → Lies (outState (k + 1) v) t
-  unfolding withRequests
-  loop-turn k v items e t lie = subst (λ (w : Request). Lies (withHere st new w old) t) (ap (λ (l : List ℕ). itemOut c k (getD l k 0) (outTo c k v)) (sym e) ∙ out-step c k v) lie
+  pub loop-turn : (k : ℕ) (v : Request) (items : List ℕ) → v .items ≡ items → (t : List ℕ) → Represents t (withHere (outState k v) new (itemOut c k (getD items k 0) (outTo c k v)) old)
+      → Represents t (outState (k + 1) v)
+  loop-turn k v items e t rep = subst (λ (w : Request). Represents t (withHere st new w old)) (ap (λ (l : List ℕ). itemOut c k (getD l k 0) (outTo c k v)) (sym e) ∙ out-step c k v) rep
 
-  pub loop-end : (k : ℕ) (v : Request) → length (v .items) ≤ k → (t : List ℕ) → Lies (outState k v) t → Lies (withHere st new (itemsOut c v) old) t
-  loop-end k v h t lie = subst (λ (w : Request). Lies (withHere st new w old) t) (out-end c k v h) lie
+  pub loop-end : (k : ℕ) (v : Request) → length (v .items) ≤ k → (t : List ℕ) → Represents t (outState k v) → Represents t (withHere st new (itemsOut c v) old)
+  loop-end k v h t rep = subst (λ (w : Request). Represents t (withHere st new w old)) (out-end c k v h) rep

@@ -18,15 +18,16 @@ use Rattle.rows.specs.Codes.{inClist, isEnd, isClient, isServer, clientEnd, ser
 use Rattle.rows.specs.Tables.{State, noRow, noRequest, noProcess, rowOf, numbers, processAt, isListed, lists}
 use Rattle.rows.specs.Sound.{sound, recordsFit, requestersListed, mayBeListed, itemsLent, requestsRise}
 use Rattle.rows.specs.Layout.{requestAt}
-use Rattle.rows.specs.Lies.{Lies, withRows, withRequests}
+use Rattle.rows.specs.contracts.Represents.{Represents}
+use Rattle.rows.specs.Setters.{withRows, withRequests, withPlace, withItems}
 use Rattle.rows.proofs.Bools.{clash, and-l, and-r, pos-some, all-mono, any-append}
 use Rattle.rows.proofs.Keyed.{first-there, keys-map, rises-rest, rises-first}
 use Rattle.rows.proofs.Sound.{Sound, sound-open}
-use Rattle.rows.proofs.Slots.{lies-well, rises-old, request-of-words, request-words-at}
-use Rattle.changes.specs.Marks.{tested, marksOf}
+use Rattle.rows.proofs.Slots.{represented-well, rises-old, request-of-words, request-words-at}
+use Rattle.changes.specs.contracts.Marks.{tested, marksOf}
 use Rattle.changes.proofs.Keep.{length-tested}
-use Rattle.closing.specs.Closing.{oldestListing, placedIn, returned, listedIn, leaves, withItems, trimmed}
-use Rattle.closing.specs.Lists.{slotMarks, among, backRow, itemsBack, WentBack, itemsOut, trimmedAll, partlySettled, SettledTo, listsSettled}
+use Rattle.closing.specs.Closing.{oldestListing, returned, listedIn, leaves, trimmed}
+use Rattle.closing.specs.contracts.Lists.{slotMarks, among, backRow, itemsBack, WentBack, itemsOut, trimmedAll, partlySettled, SettledTo, listsSettled}
 use Rattle.closing.proofs.KeptLookups.{returned-keeps, returned-same}
 use Rattle.closing.proofs.ListsMarks.{getD-pad, tested-at}
 use Rattle.closing.proofs.ListsBack.{marks-map}
@@ -75,7 +76,7 @@ or-swap false true = refl
 or-swap false false = refl
 
 pub returned-number : (f : Request → Bool) (vs : List Request) (r : Row) → returned f vs r .number ≡ r .number
-returned-number = returned-keeps (λ r. r .number) (λ p r. unfold placedIn in refl)
+returned-number = returned-keeps (λ r. r .number) (λ p r. unfold withPlace in refl)
 
 -- an oldest one is there if one is
 oldest-some : (f : Request → Bool) (n : ℕ) (vs : List Request) → rises (λ v. v .number) vs ≡ true → some (oldestListing f n vs .number) ≡ listedIn f vs n
@@ -111,7 +112,7 @@ module _ (f : Request → Bool) (v : Request) (old : List Request) where
 
   open-returned : f v ≡ false → (r : Row) → returned f (v ∷ old) r ≡ returned f old r
   unfolding returned
-  open-returned h r = ap (λ (w : Request). cond (some (w .number)) (placedIn (inClist (w .asker)) r) r) (open-oldest h (r .number))
+  open-returned h r = ap (λ (w : Request). cond (some (w .number)) (withPlace (inClist (w .asker)) r) r) (open-oldest h (r .number))
 
   -- it closes
   closed-listed : f v ≡ true → (n : ℕ) → listedIn f (v ∷ old) n ≡ listedIn f old n || among (v .items) n
@@ -121,10 +122,10 @@ module _ (f : Request → Bool) (v : Request) (old : List Request) where
   closed-returned : f v ≡ true → rises (λ v. v .number) (v ∷ old) ≡ true → (r : Row) → backRow (listedIn f old) (v .asker) (v .items) (returned f old r) ≡ returned f (v ∷ old) r
   unfolding backRow returned oldestListing
   closed-returned h up r =
-      ap (λ (m : ℕ). cond (not (listedIn f old m) && among (v .items) m) (placedIn (inClist (v .asker)) (returned f old r)) (returned f old r)) (returned-number f old r)
-      ∙ ap (λ (b : Bool). cond (not b && among (v .items) n) (placedIn (inClist (v .asker)) (returned f old r)) (returned f old r)) (sym (oldest-some f n old (rises-rest (λ v. v .number) v old up)))
+      ap (λ (m : ℕ). cond (not (listedIn f old m) && among (v .items) m) (withPlace (inClist (v .asker)) (returned f old r)) (returned f old r)) (returned-number f old r)
+      ∙ ap (λ (b : Bool). cond (not b && among (v .items) n) (withPlace (inClist (v .asker)) (returned f old r)) (returned f old r)) (sym (oldest-some f n old (rises-rest (λ v. v .number) v old up)))
       ∙ pick (some (w .number)) refl (among (v .items) n)
-      ∙ ap (λ (b : Bool). cond (some (latest b .number)) (placedIn (inClist (latest b .asker)) r) r) (sym (lists-it h))
+      ∙ ap (λ (b : Bool). cond (some (latest b .number)) (withPlace (inClist (latest b .asker)) r) r) (sym (lists-it h))
     where
       n : ℕ
       n = r .number
@@ -139,8 +140,8 @@ module _ (f : Request → Bool) (v : Request) (old : List Request) where
       lists-it h = unfold lists among in rw h refl
 
       pick : (a : Bool) → some (w .number) ≡ a → (c : Bool)
-          → cond (not a && c) (placedIn (inClist (v .asker)) (cond a (placedIn (inClist (w .asker)) r) r)) (cond a (placedIn (inClist (w .asker)) r) r)
-          ≡ cond (some (cond a w (cond c v w) .number)) (placedIn (inClist (cond a w (cond c v w) .asker)) r) r
+          → cond (not a && c) (withPlace (inClist (v .asker)) (cond a (withPlace (inClist (w .asker)) r) r)) (cond a (withPlace (inClist (w .asker)) r) r)
+          ≡ cond (some (cond a w (cond c v w) .number)) (withPlace (inClist (cond a w (cond c v w) .asker)) r) r
       pick true q c = rw q refl
       pick false q true = let lt = rises-first (λ v. v .number) v old up in rw (pos-some (v .number) (omega arith)) refl
       pick false q false = rw q refl
@@ -175,10 +176,10 @@ module _ (g : List ℕ) (f : Request → Bool) (new : List Request) (v : Request
   before-marks b = marks-map b (returned f old) (returned-number f old) (st .rows)
 
   -- the request in its slot
-  pub before-read : (t : List ℕ) → Lies before t → (j : ℕ) → length old ≡ j → requestAt t j ≡ v
-  before-read t lie j e =
+  pub before-read : (t : List ℕ) → Represents t before → (j : ℕ) → length old ≡ j → requestAt t j ≡ v
+  before-read t rep j e =
       ap (λ (i : ℕ). requestAt t i) (sym (before-slot j e))
-      ∙ request-of-words t (length (trimmedAll f g old)) v (request-words-at lie new v (trimmedAll f g old) before-cut)
+      ∙ request-of-words t (length (trimmedAll f g old)) v (request-words-at rep new v (trimmedAll f g old) before-cut)
 
   pub before-stand : all (λ e. member e (numbers (st .rows))) (nonzero (v .items)) ≡ true → all (λ e. member e (numbers (before .rows))) (nonzero (v .items)) ≡ true
   unfolding partlySettled numbers
@@ -186,7 +187,7 @@ module _ (g : List ℕ) (f : Request → Bool) (new : List Request) (v : Request
 
   -- it stays open: its list is trimmed
   open-after : f v ≡ false → withRequests (new ++ (itemsOut (λ n. member n g || listedIn f old n) v ∷ trimmedAll f g old)) before ≡ after
-  unfolding partlySettled withRequests trimmedAll trimmed itemsOut leaves
+  unfolding partlySettled trimmedAll trimmed itemsOut leaves
   open-after h =
       λ i.
       record {
@@ -197,16 +198,16 @@ module _ (g : List ℕ) (f : Request → Bool) (new : List Request) (v : Request
       }
 
   pub open-settled : f v ≡ false → (t t′ : List ℕ) (back : List Bool) → SettledTo g f (new ++ (v ∷ [])) old st t back
-      → Lies (withRequests (new ++ (itemsOut (λ n. member n g || listedIn f old n) v ∷ trimmedAll f g old)) before) t′ → SettledTo g f new (v ∷ old) st t′ back
-  open-settled h t t′ back s lie =
+      → Represents t′ (withRequests (new ++ (itemsOut (λ n. member n g || listedIn f old n) v ∷ trimmedAll f g old)) before) → SettledTo g f new (v ∷ old) st t′ back
+  open-settled h t t′ back s rep =
       record {
-        lies = subst (λ (x : State). Lies x t′) (open-after h) lie;
+        represents = subst (λ (x : State). Represents t′ x) (open-after h) rep;
         marks = s .marks ∙ (λ i. slotMarks (λ n. sym (open-listed f v old h n) i) (st .rows));
       }
 
   -- it closes: its ends go back
   closed-after : f v ≡ true → rises (λ v. v .number) (v ∷ old) ≡ true → itemsBack (listedIn f old) (v .asker) (v .items) before ≡ after
-  unfolding partlySettled itemsBack withRows trimmedAll
+  unfolding partlySettled itemsBack trimmedAll
   closed-after h up =
       let rows = map-map (backRow (listedIn f old) (v .asker) (v .items)) (returned f old) (st .rows) ∙ (λ i. map (λ r. closed-returned f v old h up r i) (st .rows)) in
       let requests = append-snoc new v (trimmedAll f g old) ∙ (λ i. new ++ (cond (sym h i) v (trimmed f g old v) ∷ trimmedAll f g old)) in
@@ -216,7 +217,7 @@ module _ (g : List ℕ) (f : Request → Bool) (new : List Request) (v : Request
       → SettledTo g f new (v ∷ old) st t back
   closed-settled h up t back w =
       record {
-        lies = subst (λ (x : State). Lies x t) (closed-after h up) (w .lies);
+        represents = subst (λ (x : State). Represents t x) (closed-after h up) (w .represents);
         marks = w .marks ∙ before-marks (λ n. listedIn f old n || among (v .items) n) ∙ (λ i. slotMarks (λ n. sym (closed-listed f v old h n) i) (st .rows));
       }
 
@@ -228,37 +229,37 @@ module _ (st : State) (sd : sound st ≡ true) (g : List ℕ) (f : Request → B
 
   read : x ≡ v
   unfolding was
-  read = is ∙ before-read g f new v old st t (done .lies) j slot
+  read = is ∙ before-read g f new v old st t (done .represents) j slot
 
   marked-back : back ≡ slotMarks (listedIn f old) (was .rows)
   unfolding was
   marked-back = done .marks ∙ sym (before-marks g f new v old st (listedIn f old))
 
   pub closed-done : f v ≡ true → (t′ : List ℕ) (back′ : List Bool)
-      → ((s : State) (b : ℕ → Bool) → Lies s t → n ≡ length (s .rows) → x .asker ≤ 64 → back ≡ slotMarks b (s .rows) → WentBack b (x .asker) (x .items) s t′ back′)
+      → ((s : State) (b : ℕ → Bool) → Represents t s → n ≡ length (s .rows) → x .asker ≤ 64 → back ≡ slotMarks b (s .rows) → WentBack b (x .asker) (x .items) s t′ back′)
       → SettledTo g f new (v ∷ old) st t′ back′
   unfolding was
   closed-done h t′ back′ called =
       let low : x .asker ≤ 64 = subst (λ (y : Request). y .asker ≤ 64) (sym read) (asker-low st (sound-open st sd) new v old cut) in
-      let went : WentBack (listedIn f old) (x .asker) (x .items) was t′ back′ = called was (listedIn f old) (done .lies) (before-count g f new v old st n count) low marked-back in
+      let went : WentBack (listedIn f old) (x .asker) (x .items) was t′ back′ = called was (listedIn f old) (done .represents) (before-count g f new v old st n count) low marked-back in
       closed-settled g f new v old st h (requests-rise st (sound-open st sd) new v old cut) t′ back′
       (subst (λ (y : Request). WentBack (listedIn f old) (y .asker) (y .items) was t′ back′) read went)
 
   pub open-done : f v ≡ false → (removed : List Bool) → removed ≡ pad false 1024 (marksOf g (st .rows)) → (t′ : List ℕ)
-      → ((s : State) (r b : ℕ → Bool) (new′ old′ : List Request) → Lies s t → n ≡ length (s .rows) → s .requests ≡ new′ ++ (x ∷ old′) → length old′ ≡ j
+      → ((s : State) (r b : ℕ → Bool) (new′ old′ : List Request) → Represents t s → n ≡ length (s .rows) → s .requests ≡ new′ ++ (x ∷ old′) → length old′ ≡ j
       → all (λ e. member e (numbers (s .rows))) (nonzero (x .items)) ≡ true → removed ≡ slotMarks r (s .rows) → back ≡ slotMarks b (s .rows)
-      → Lies (withRequests (new′ ++ (itemsOut (λ n. r n || b n) x ∷ old′)) s) t′)
+      → Represents t′ (withRequests (new′ ++ (itemsOut (λ n. r n || b n) x ∷ old′)) s))
       → SettledTo g f new (v ∷ old) st t′ back
   unfolding was
   open-done h removed gone t′ called =
       let stand : all (λ e. member e (numbers (was .rows))) (nonzero (x .items)) ≡ true =
       subst (λ (y : Request). all (λ e. member e (numbers (was .rows))) (nonzero (y .items)) ≡ true) (sym read) (before-stand g f new v old st (items-stand st (sound-open st sd) new v old cut)) in
       let here : was .requests ≡ new ++ (x ∷ trimmedAll f g old) = before-cut g f new v old st ∙ ap (λ (y : Request). new ++ (y ∷ trimmedAll f g old)) (sym read) in
-      let lies : Lies (withRequests (new ++ (itemsOut (λ n. member n g || listedIn f old n) x ∷ trimmedAll f g old)) was) t′ =
-      called was (λ n. member n g) (listedIn f old) new (trimmedAll f g old) (done .lies) (before-count g f new v old st n count) here (before-slot g f new v old st j slot) stand
+      let represents : Represents t′ (withRequests (new ++ (itemsOut (λ n. member n g || listedIn f old n) x ∷ trimmedAll f g old)) was) =
+      called was (λ n. member n g) (listedIn f old) new (trimmedAll f g old) (done .represents) (before-count g f new v old st n count) here (before-slot g f new v old st j slot) stand
       (gone ∙ marks-of ∙ sym (before-marks g f new v old st (λ n. member n g))) marked-back in
       open-settled g f new v old st h t t′ back done
-      (subst (λ (y : Request). Lies (withRequests (new ++ (itemsOut (λ n. member n g || listedIn f old n) y ∷ trimmedAll f g old)) was) t′) read lies)
+      (subst (λ (y : Request). Represents t′ (withRequests (new ++ (itemsOut (λ n. member n g || listedIn f old n) y ∷ trimmedAll f g old)) was)) read represents)
     where
       marks-of : pad false 1024 (marksOf g (st .rows)) ≡ slotMarks (λ n. member n g) (st .rows)
       marks-of = unfold slotMarks marksOf in refl
@@ -292,10 +293,10 @@ module _ (g : List ℕ) (f : Request → Bool) (st : State) where
   unfolding slotMarks listedIn any
   none-marked k e few = pad-none k (tested (λ r. false) (st .rows)) (omega (arith, length-tested (λ r. false) (st .rows))) (tested-none (st .rows)) ∙ ap (λ (m : ℕ). pad false m (tested (λ r. false) (st .rows))) e
 
-  pub done-start : (t : List ℕ) → Lies st t → (k : ℕ) → k ≡ 1024 → Done 0 t (replicate k false)
-  done-start t lie k e new [] cut long =
-      record { lies = subst (λ (x : State). Lies x t) (sym (none-done new cut)) lie; marks = none-marked k e (omega (arith, lies-well lie .rows-fit)) }
-  done-start t lie k e new (v ∷ old) cut long = absurd (omega arith)
+  pub done-start : (t : List ℕ) → Represents t st → (k : ℕ) → k ≡ 1024 → Done 0 t (replicate k false)
+  done-start t rep k e new [] cut long =
+      record { represents = subst (λ (x : State). Represents t x) (sym (none-done new cut)) rep; marks = none-marked k e (omega (arith, represented-well rep .rows-fit)) }
+  done-start t rep k e new (v ∷ old) cut long = absurd (omega arith)
 
   -- one more, by what the function over it ensures
   pub done-turn : (j : ℕ) (t t′ : List ℕ) (back back′ : List Bool) → Done j t back
@@ -305,9 +306,9 @@ module _ (g : List ℕ) (f : Request → Bool) (st : State) where
   done-turn j t t′ back back′ ih called new (v ∷ old) cut long =
       called new v old cut (omega arith) (ih (new ++ (v ∷ [])) old (cut ∙ sym (append-snoc new v old)) (omega arith))
 
-  pub done-end : (j : ℕ) (t : List ℕ) (back : List Bool) → length (st .requests) ≡ j → Done j t back → Lies (listsSettled g f st) t
+  pub done-end : (j : ℕ) (t : List ℕ) (back : List Bool) → length (st .requests) ≡ j → Done j t back → Represents t (listsSettled g f st)
   unfolding listsSettled
-  done-end j t back e d = d [] (st .requests) refl e .lies
+  done-end j t back e d = d [] (st .requests) refl e .represents
 
   -- the mark of the request in a slot
   pub closes-at : (closed : List Bool) → closed ≡ pad false 128 (tested f (st .requests)) → (new : List Request) (v : Request) (old : List Request) → st .requests ≡ new ++ (v ∷ old)

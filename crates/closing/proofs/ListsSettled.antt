@@ -11,10 +11,11 @@ use Rattle.rows.specs.Lists.{any, all, filter, member}
 use Rattle.rows.specs.Tables.{State, sources}
 use Rattle.rows.specs.Sound.{rowsRise, requestsRise, rowsFit, requestsFit, itemsFew}
 use Rattle.rows.specs.Layout.{wordsOf}
-use Rattle.rows.specs.Lies.{laidWell, Lies, withRows, withRequests}
-use Rattle.changes.specs.Marks.{tested, marksOf, closedUnder}
-use Rattle.closing.specs.Closing.{closes, placedIn, returned, withItems, trimmed, remaining, settled}
-use Rattle.closing.specs.Lists.{trimmedAll, partlySettled, listsSettled}
+use Rattle.rows.specs.contracts.Represents.{laidWell, Represents}
+use Rattle.rows.specs.Setters.{withRows, withRequests, withPlace, withItems}
+use Rattle.changes.specs.contracts.Marks.{tested, marksOf, closedUnder}
+use Rattle.closing.specs.Closing.{closes, returned, trimmed, remaining, settled}
+use Rattle.closing.specs.contracts.Lists.{trimmedAll, partlySettled, listsSettled}
 use Rattle.closing.proofs.KeptLookups.{returned-keeps}
 use Rattle.closing.proofs.ListsMarks.{tested-eq, tested-map}
 use Rattle.closing.proofs.ListsPass.{returned-number}
@@ -24,7 +25,7 @@ abbrev pub Blind : (Request → Bool) → Type 0
 Blind f = (v : Request) (is : List ℕ) → f (withItems is v) ≡ f v
 
 pub closes-blind : (qs g : List ℕ) → Blind (closes qs g)
-unfolding closes withItems
+unfolding closes
 closes-blind qs g v is = refl
 
 -- ---- rows
@@ -57,7 +58,7 @@ module _ (g : List ℕ) (f : Request → Bool) (st : State) where
 
   pub lists-closed : closedUnder g (listsSettled g f st .rows) ≡ closedUnder g (st .rows)
   unfolding listsSettled partlySettled closedUnder
-  lists-closed = all-map-eq test (returned f (st .requests)) (returned-keeps test (λ p r. unfold placedIn sources in refl) f (st .requests)) (st .rows)
+  lists-closed = all-map-eq test (returned f (st .requests)) (returned-keeps test (λ p r. unfold withPlace sources in refl) f (st .requests)) (st .rows)
     where
       test : Row → Bool
       test r = member (r .number) g || not (any (λ s. member s g) (sources r))
@@ -89,9 +90,9 @@ module _ (f : Request → Bool) (blind : Blind f) (g : List ℕ) where
       pick false = refl
 
 -- the words do not hold the process records
-lies-processes : (st : State) (ps : List Process) (t : List ℕ) → Lies st t → Lies (record { rows = st .rows; requests = st .requests; processes = ps; next = st .next }) t
+represented-processes : (st : State) (ps : List Process) (t : List ℕ) → Represents t st → Represents t (record { rows = st .rows; requests = st .requests; processes = ps; next = st .next })
 unfolding laidWell rowsRise requestsRise rowsFit requestsFit itemsFew wordsOf
-lies-processes st ps t lie = record { well = lie .well; words = lie .words }
+represented-processes st ps t rep = record { well = rep .well; words = rep .words }
 
 module _ (g : List ℕ) (f : Request → Bool) (blind : Blind f) (st : State) where
   pub lists-tested : tested f (listsSettled g f st .requests) ≡ tested f (st .requests)
@@ -104,15 +105,15 @@ module _ (g : List ℕ) (f : Request → Bool) (blind : Blind f) (st : State) wh
 
   -- ---- both
   pub lists-settled : (t : List ℕ)
-      → Lies (withRequests (filter (λ v. not (f v)) (listsSettled g f st .requests)) (withRows (filter (λ r. not (member (r .number) g)) (listsSettled g f st .rows)) (listsSettled g f st))) t
-      → Lies (settled g f st) t
+      → Represents t (withRequests (filter (λ v. not (f v)) (listsSettled g f st .requests)) (withRows (filter (λ r. not (member (r .number) g)) (listsSettled g f st .rows)) (listsSettled g f st)))
+      → Represents t (settled g f st)
   unfolding settled
-  lists-settled t lie = lies-processes left (settled g f st .processes) t (subst (λ (s : State). Lies s t) same lie)
+  lists-settled t rep = represented-processes left (settled g f st .processes) t (subst (λ (s : State). Represents t s) same rep)
     where
       left : State
       left = record { rows = settled g f st .rows; requests = settled g f st .requests; processes = st .processes; next = st .next }
 
       same : withRequests (filter (λ v. not (f v)) (listsSettled g f st .requests)) (withRows (filter (λ r. not (member (r .number) g)) (listsSettled g f st .rows)) (listsSettled g f st)) ≡ left
       same =
-          unfold withRequests withRows listsSettled partlySettled in
+          unfold listsSettled partlySettled in
           λ i. record { rows = lists-rows-left g f st i; requests = lists-requests-left i; processes = st .processes; next = st .next }

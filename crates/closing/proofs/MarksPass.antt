@@ -11,7 +11,7 @@ use Rattle.rows.specs.Lists.{firstWith, rises, member, pad}
 use Rattle.rows.proofs.Keyed.{rises-rest, rises-older}
 use Rattle.rows.proofs.Agree.{first-here, first-older}
 use Rattle.rows.proofs.Slots.{slot-member, slot-number}
-use Rattle.changes.specs.Marks.{tested}
+use Rattle.changes.specs.contracts.Marks.{tested}
 use Rattle.changes.proofs.Keep.{length-tested}
 
 -- ---- the element at a slot, by its key

@@ -10,18 +10,19 @@ use Rattle.rows.specs.Lists.{rises, all, member, pad}
 use Rattle.rows.specs.Codes.{isClient}
 use Rattle.rows.specs.Tables.{State, noRequest, rowOf, numbers}
 use Rattle.rows.specs.Sound.{sound, portStands, portsStand}
-use Rattle.rows.specs.Lies.{Lies, rowSlot}
+use Rattle.rows.specs.contracts.Represents.{Represents}
+use Rattle.rows.specs.Layout.{rowSlot}
 use Rattle.rows.proofs.Bools.{clash, and-l, or-false}
 use Rattle.rows.proofs.Keyed.{all-first}
 use Rattle.rows.proofs.Sound.{sound-open}
 use Rattle.rows.proofs.RowSources.{client-there}
-use Rattle.rows.proofs.Slots.{lies-well, row-none, request-words-at}
-use Rattle.changes.specs.Marks.{marksOf}
+use Rattle.rows.proofs.Slots.{represented-well, row-none, request-words-at}
+use Rattle.changes.specs.contracts.Marks.{marksOf}
 use Rattle.closing.specs.declared.Seed.{Seed}
 use Rattle.closing.specs.declared.Seed.the-variants.{Bearing, EndsOf, Only}
 use Rattle.closing.specs.Closing.{closes}
-use Rattle.closing.specs.Lists.{slotMarks}
-use Rattle.closing.specs.Seeds.{closesOf}
+use Rattle.closing.specs.contracts.Lists.{slotMarks}
+use Rattle.closing.specs.contracts.Seeds.{closesOf}
 use Rattle.closing.proofs.ListsMarks.{mark-read}
 use Rattle.closing.proofs.MarksPass.{member-cut, first-cut}
 
@@ -49,9 +50,9 @@ module _ (st : State) (g : List ℕ) (n : ℕ) where
   marked-found ms m i e = mark-read (λ n. member n g) (st .rows) n i e ms m
 
 -- ---- one request
-module _ {st : State} {t : List ℕ} (lie : Lies st t) (sd : sound st ≡ true) (new : List Request) (v : Request) (old : List Request) (cut : st .requests ≡ new ++ (v ∷ old)) where
+module _ {st : State} {t : List ℕ} (rep : Represents t st) (sd : sound st ≡ true) (new : List Request) (v : Request) (old : List Request) (cut : st .requests ≡ new ++ (v ∷ old)) where
   up : rises (λ v. v .number) (new ++ (v ∷ old)) ≡ true
-  up = subst (λ (l : List Request). rises (λ v. v .number) l ≡ true) cut (lies-well lie .requests-rise)
+  up = subst (λ (l : List Request). rises (λ v. v .number) l ≡ true) cut (represented-well rep .requests-rise)
 
   port-there : member (v .port) (numbers (st .rows)) ≡ true
   unfolding portsStand portStands
@@ -67,7 +68,7 @@ module _ {st : State} {t : List ℕ} (lie : Lies st t) (sd : sound st ≡ true) 
       → a || b ≡ closes qs g v
   unfolding closes
   request-marked qs g j long a b p q =
-      let words = request-words-at lie new v old cut in
+      let words = request-words-at rep new v old cut in
       let number : getD t (10240 + j) 0 ≡ v .number = ap (λ (i : ℕ). getD t (10240 + i) 0) (sym long) ∙ words .number in
       let port : getD t (10368 + j) 0 ≡ v .port = ap (λ (i : ℕ). getD t (10368 + i) 0) (sym long) ∙ words .port in
       let first : a ≡ member (v .number) qs = p ∙ ap (λ (n : ℕ). member n qs) number in

@@ -12,19 +12,21 @@ use Rattle.rows.specs.Lists.{any, rises, member, pad}
 use Rattle.rows.specs.Limits.{rowSlots}
 use Rattle.rows.specs.Codes.{isEnd}
 use Rattle.rows.specs.Tables.{State, noRow, rowOf, numbers, sources, marked, bears}
-use Rattle.rows.specs.Layout.{sourceSlot, rowField}
-use Rattle.rows.specs.Lies.{Lies, sourcesOlder, rowSlot, rawRow, withSources, slotted}
+use Rattle.rows.specs.Layout.{sourceSlot, rowField, rowSlot, rawRow}
+use Rattle.rows.specs.contracts.Represents.{Represents, sourcesOlder}
+use Rattle.rows.specs.Setters.{withSources}
+use Rattle.rows.specs.contracts.Slots.{slotted}
 use Rattle.rows.proofs.Bools.{false-of}
 use Rattle.rows.proofs.Keyed.{olderOf, rises-rest, rises-range}
 use Rattle.rows.proofs.RowSources.{Among}
 use Rattle.rows.proofs.Marking.{marked-stands, marked-closed}
-use Rattle.rows.proofs.Slots.{lies-well, rises-old, slot-there, source-zero, source-rises, sources-among, row-words-at, raw-row-at}
-use Rattle.changes.specs.Marks.{marksOf}
+use Rattle.rows.proofs.Slots.{represented-well, rises-old, slot-there, source-zero, source-rises, sources-among, row-words-at, raw-row-at}
+use Rattle.changes.specs.contracts.Marks.{marksOf}
 use Rattle.closing.specs.declared.Seed.{Seed}
 use Rattle.closing.specs.declared.Seed.the-variants.{Bearing, EndsOf, Only}
 use Rattle.closing.specs.Closing.{isEndOf, isRow}
-use Rattle.closing.specs.Lists.{slotMarks}
-use Rattle.closing.specs.Seeds.{seedOf, markAt}
+use Rattle.closing.specs.contracts.Lists.{slotMarks}
+use Rattle.closing.specs.contracts.Seeds.{seedOf, markAt}
 use Rattle.closing.proofs.KeptMarks.{any-source}
 use Rattle.closing.proofs.ListsMarks.{mark-read}
 use Rattle.closing.proofs.MarksPass.{member-cut, first-cut, MarkedTo, marked-turn, marked-end}
@@ -62,7 +64,7 @@ seed-slotted (EndsOf c) r old = refl
 seed-slotted (Only e) r old = refl
 
 -- ---- one row, over the older ones
-module _ {st : State} {t : List ℕ} (lie : Lies st t) (s : Seed) where
+module _ {st : State} {t : List ℕ} (rep : Represents t st) (s : Seed) where
   abbrev gone : List ℕ
   gone = marked (seedOf s) (st .rows)
 
@@ -70,11 +72,11 @@ module _ {st : State} {t : List ℕ} (lie : Lies st t) (s : Seed) where
   unfolding numbers
   none-gone =
       false-of (member 0 gone)
-      (λ m. let (lo, hi) = rises-range (λ r. r .number) (st .rows) (lies-well lie .rows-rise) 0 (marked-stands (seedOf s) (st .rows) 0 m) in omega arith)
+      (λ m. let (lo, hi) = rises-range (λ r. r .number) (st .rows) (represented-well rep .rows-rise) 0 (marked-stands (seedOf s) (st .rows) 0 m) in omega arith)
 
   module _ (new : List Row) (r : Row) (old : List Row) (cut : st .rows ≡ new ++ (r ∷ old)) where
     up : rises (λ r. r .number) (new ++ (r ∷ old)) ≡ true
-    up = subst (λ (l : List Row). rises (λ r. r .number) l ≡ true) cut (lies-well lie .rows-rise)
+    up = subst (λ (l : List Row). rises (λ r. r .number) l ≡ true) cut (represented-well rep .rows-rise)
 
     -- it goes as a seed, or with one of its sources
     row-gone : member (r .number) gone ≡ seedOf s r || (member (r .source) gone || member (r .via) gone)
@@ -82,7 +84,7 @@ module _ {st : State} {t : List ℕ} (lie : Lies st t) (s : Seed) where
     row-gone =
         let there : member (r .number) (numbers (st .rows)) ≡ true = subst (λ (l : List Row). member (r .number) (numbers l) ≡ true) (sym cut) (member-cut (λ r. r .number) new r old up) in
         let found : rowOf (st .rows) (r .number) ≡ r = ap (λ (l : List Row). rowOf l (r .number)) cut ∙ first-cut (λ r. r .number) noRow new r old up in
-        marked-closed (seedOf s) (st .rows) (lies-well lie .rows-rise) (lies-well lie .sources-old) (r .number) there
+        marked-closed (seedOf s) (st .rows) (represented-well rep .rows-rise) (represented-well rep .sources-old) (r .number) there
         ∙ ap (λ (x : Row). seedOf s x || any (λ n. member n gone) (sources x)) found
         ∙ ap (λ (b : Bool). seedOf s r || b) (any-source gone none-gone r)
 
@@ -99,9 +101,9 @@ module _ {st : State} {t : List ℕ} (lie : Lies st t) (s : Seed) where
       row-marked : (i : ℕ) → length old ≡ i → (a b c : Bool) → a ≡ seedOf s (rawRow t i) → b ≡ markAt ms (getD t (6144 + i) 0) → c ≡ markAt ms (getD t (7168 + i) 0)
           → (a || b) || c ≡ member (r .number) gone
       row-marked i long a b c p q w =
-          let words = row-words-at lie new r old cut in
-          let among = sources-among new r old up (subst (λ (l : List Row). sourcesOlder l ≡ true) cut (lies-well lie .sources-old)) in
-          let seed : a ≡ seedOf s r = p ∙ ap (λ (j : ℕ). seedOf s (rawRow t j)) (sym long) ∙ ap (seedOf s) (raw-row-at lie new r old cut) ∙ seed-slotted s r old in
+          let words = row-words-at rep new r old cut in
+          let among = sources-among new r old up (subst (λ (l : List Row). sourcesOlder l ≡ true) cut (represented-well rep .sources-old)) in
+          let seed : a ≡ seedOf s r = p ∙ ap (λ (j : ℕ). seedOf s (rawRow t j)) (sym long) ∙ ap (seedOf s) (raw-row-at rep new r old cut) ∙ seed-slotted s r old in
           let source : b ≡ member (r .source) gone = q ∙ ap (λ (j : ℕ). markAt ms (getD t (6144 + j) 0)) (sym long) ∙ ap (markAt ms) (words .source) ∙ source-mark (r .source) (among .0) in
           let via : c ≡ member (r .via) gone = w ∙ ap (λ (j : ℕ). markAt ms (getD t (7168 + j) 0)) (sym long) ∙ ap (markAt ms) (words .via) ∙ source-mark (r .via) (among .1) in
           or-assoc a b c ∙ (λ i. seed i || (source i || via i)) ∙ sym row-gone

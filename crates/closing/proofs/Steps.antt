@@ -21,7 +21,8 @@ use Rattle.rows.proofs.Marking.{marked-seed, marked-source, marked-wider, marke
 use Rattle.rows.proofs.RowSources.{client-there}
 use Rattle.rows.proofs.Standing.{sources-older, via-listed}
 use Rattle.rows.proofs.SoundFacts.{row-number}
-use Rattle.closing.specs.Closing.{closes, oldestListing, placedIn, returned, listedIn, leaves, withItems, trimmed, remaining, homed, settled, closing, closeRequest, isEndOf, closePort}
+use Rattle.closing.specs.Closing.{closes, oldestListing, returned, listedIn, leaves, trimmed, remaining, homed, settled, closing, closeRequest, isEndOf, closePort}
+use Rattle.rows.specs.Setters.{withPlace, withItems}
 use Rattle.closing.specs.Steps.{Gone, falls, removeRows, closeRequests, round, rounds, untilNoMore, closingBySteps, closeRequestBySteps, closePortBySteps}
 use Rattle.closing.proofs.KeptFacts.{copy-at}
 
@@ -38,7 +39,7 @@ module _ (f g : Request → Bool) where
   returned-agree : (vs : List Request) → Agree f g vs → (r : Row) → returned f vs r ≡ returned g vs r
   unfolding returned
   returned-agree vs a r =
-      ap (λ (w : Request). if some (w .number) then placedIn (inClist (w .asker)) r else r) (oldest-agree (r .number) vs a)
+      ap (λ (w : Request). if some (w .number) then withPlace (inClist (w .asker)) r else r) (oldest-agree (r .number) vs a)
 
   listed-agree : (e : ℕ) (vs : List Request) → Agree f g vs → listedIn f vs e ≡ listedIn g vs e
   unfolding listedIn any

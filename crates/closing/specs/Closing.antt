@@ -9,6 +9,7 @@ use Rattle.rows.specs.declared.Process.{Process}
 use Rattle.rows.specs.Lists.{if_then_else_, filter, any, member, some}
 use Rattle.rows.specs.Codes.{isEnd, inClist}
 use Rattle.rows.specs.Tables.{State, noRequest, marked, bears, lists}
+use Rattle.rows.specs.Setters.{withRows, withRequests, withProcesses, withPlace, withItems, inPrimeNode}
 
 -- a request closes: it is one of qs, or its port, counted as its client end, is among the removed rows g
 unfoldable pub closes : List ℕ → List ℕ → Request → Bool
@@ -21,26 +22,11 @@ oldestListing f e (v ∷ vs) =
     let w = oldestListing f e vs in
     if some (w .number) then w else (if f v && lists e v then v else w)
 
-unfoldable pub placedIn : ℕ → Row → Row
-placedIn p r =
-    record {
-      number = r .number;
-      kind = r .kind;
-      object = r .object;
-      operation = r .operation;
-      rights = r .rights;
-      place = p;
-      source = r .source;
-      via = r .via;
-      depth = r .depth;
-      request = r .request;
-    }
-
 -- "A surviving end listed in closed requests goes to the asker of the oldest of them"
 unfoldable pub returned : (Request → Bool) → List Request → Row → Row
 returned f vs r =
     let w = oldestListing f (r .number) vs in
-    if some (w .number) then placedIn (inClist (w .asker)) r else r
+    if some (w .number) then withPlace (inClist (w .asker)) r else r
 
 -- one of the requests vs that close lists e
 unfoldable pub listedIn : (Request → Bool) → List Request → ℕ → Bool
@@ -50,9 +36,6 @@ listedIn f vs e = any (λ w. f w && lists e w) vs
 -- an item leaves the list of a request that stays open if it is removed, or if an older request, of vs, that closes lists it. It leaves a 0.
 unfoldable pub leaves : (Request → Bool) → List ℕ → List Request → ℕ → Bool
 leaves f g vs e = member e g || listedIn f vs e
-
-unfoldable pub withItems : List ℕ → Request → Request
-withItems is v = record { number = v .number; port = v .port; asker = v .asker; fetched = v .fetched; items = is }
 
 unfoldable pub trimmed : (Request → Bool) → List ℕ → List Request → Request → Request
 trimmed f g vs v = withItems (map (λ e. if leaves f g vs e then 0 else e) (v .items)) v
@@ -64,17 +47,13 @@ remaining f g (v ∷ vs) = if f v then remaining f g vs else trimmed f g vs v �
 
 -- "A process whose active node was reached through a removed row goes to its prime node (000, 5.2)."
 unfoldable pub homed : List ℕ → Process → Process
-homed g x = if some (x .through) && member (x .through) g then record { prime = x .prime; active = x .prime; through = 0 } else x
+homed g x = if some (x .through) && member (x .through) g then inPrimeNode x else x
 
 -- the state after the rows g are removed and the requests that pass the test are closed
 unfoldable pub settled : List ℕ → (Request → Bool) → State → State
 settled g f st =
-    record {
-      rows = map (returned f (st .requests)) (filter (λ r. not (member (r .number) g)) (st .rows));
-      requests = remaining f g (st .requests);
-      processes = map (homed g) (st .processes);
-      next = st .next;
-    }
+    withRows (map (returned f (st .requests)) (filter (λ r. not (member (r .number) g)) (st .rows)))
+    (withRequests (remaining f g (st .requests)) (withProcesses (map (homed g) (st .processes)) st))
 
 -- in one pass: the seeds and all that comes from them are removed; qs close, and the requests whose port is removed
 unfoldable pub closing : (Row → Bool) → List ℕ → State → State

@@ -15,15 +15,15 @@ ghost use lib.ListN.{length};
 ghost use Rattle.rows.specs.Lists.{pad};
 ghost use Rattle.rows.specs.Tables.{State};
 ghost use Rattle.rows.specs.Sound.{sound};
-ghost use Rattle.rows.specs.Lies.{Lies};
-ghost use Rattle.changes.specs.Marks.{marksOf, closedUnder};
+ghost use Rattle.rows.specs.contracts.Represents.{Represents};
+ghost use Rattle.changes.specs.contracts.Marks.{marksOf, closedUnder};
 ghost use Rattle.closing.specs.Closing.{closes, settled, closeRequest, closePort, dropRow};
-ghost use Rattle.closing.specs.Seeds.{closesOf, closingFrom};
+ghost use Rattle.closing.specs.contracts.Seeds.{closesOf, closingFrom};
 
 // The marked rows are removed and the requests close: lists and places first, while slots are as the marks have them.
 fn take_out(t: &mut [u32], n: usize, s: Seed, removed: &[bool; 1024])
     requires { ⌜ (length (now t) ≡ 11265) × (n ≤ 1024) ⌝ }
-    ensures out { λ _. ⌜ ((st : State) (g : List ℕ) → sound st ≡ true → Lies st (now (t .entry)) → n ≡ length (st .rows) → now (removed .entry) ≡ pad false 1024 (marksOf g (st .rows)) → closedUnder g (st .rows) ≡ true → Lies (settled g (closes (closesOf s) g) st) (now (t .exit))) ⌝ }
+    ensures out { λ _. ⌜ ((st : State) (g : List ℕ) → sound st ≡ true → Represents (now (t .entry)) st → n ≡ length (st .rows) → now (removed .entry) ≡ pad false 1024 (marksOf g (st .rows)) → closedUnder g (st .rows) ≡ true → Represents (now (t .exit)) (settled g (closes (closesOf s) g) st)) ⌝ }
     ensures long { λ _. ⌜ length (now (t .exit)) ≡ 11265 ⌝ }
 {
     let m = find::requests_in(t);
@@ -36,7 +36,7 @@ fn take_out(t: &mut [u32], n: usize, s: Seed, removed: &[bool; 1024])
 // The closing from its seeds.
 fn close(t: &mut [u32], ps: [Process; 64], s: Seed) -> [Process; 64]
     requires { ⌜ length (now t) ≡ 11265 ⌝ }
-    ensures closed { λ r. ⌜ ((st : State) → sound st ≡ true → Lies st (now (t .entry)) → st .processes ≡ ps → (Lies (closingFrom s st) (now (t .exit)) × (r ≡ closingFrom s st .processes))) ⌝ }
+    ensures closed { λ r. ⌜ ((st : State) → sound st ≡ true → Represents (now (t .entry)) st → st .processes ≡ ps → (Represents (now (t .exit)) (closingFrom s st) × (r ≡ closingFrom s st .processes))) ⌝ }
     ensures long { λ _. ⌜ length (now (t .exit)) ≡ 11265 ⌝ }
 {
     let n = find::rows_in(t);
@@ -50,7 +50,7 @@ fn close(t: &mut [u32], ps: [Process; 64], s: Seed) -> [Process; 64]
 // Ruled out: an end left in a newer list; the newest instead of the oldest asker; a cascade that stops after one port; a process left in a removed directory.
 pub fn close_request(t: &mut [u32], ps: [Process; 64], q: u32) -> [Process; 64]
     requires { ⌜ length (now t) ≡ 11265 ⌝ }
-    ensures closed { λ r. ⌜ ((st : State) → sound st ≡ true → Lies st (now (t .entry)) → st .processes ≡ ps → (Lies (closeRequest q st) (now (t .exit)) × (r ≡ closeRequest q st .processes))) ⌝ }
+    ensures closed { λ r. ⌜ ((st : State) → sound st ≡ true → Represents (now (t .entry)) st → st .processes ≡ ps → (Represents (now (t .exit)) (closeRequest q st) × (r ≡ closeRequest q st .processes))) ⌝ }
     ensures long { λ _. ⌜ length (now (t .exit)) ≡ 11265 ⌝ }
 {
     close(t, ps, Seed::Bearing(q))
@@ -60,7 +60,7 @@ pub fn close_request(t: &mut [u32], ps: [Process; 64], q: u32) -> [Process; 64]
 // Ruled out: one end stays; the request open on the port stays.
 pub fn close_port(t: &mut [u32], ps: [Process; 64], c: u32) -> [Process; 64]
     requires { ⌜ length (now t) ≡ 11265 ⌝ }
-    ensures closed { λ r. ⌜ ((st : State) → sound st ≡ true → Lies st (now (t .entry)) → st .processes ≡ ps → (Lies (closePort c st) (now (t .exit)) × (r ≡ closePort c st .processes))) ⌝ }
+    ensures closed { λ r. ⌜ ((st : State) → sound st ≡ true → Represents (now (t .entry)) st → st .processes ≡ ps → (Represents (now (t .exit)) (closePort c st) × (r ≡ closePort c st .processes))) ⌝ }
     ensures long { λ _. ⌜ length (now (t .exit)) ≡ 11265 ⌝ }
 {
     close(t, ps, Seed::EndsOf(c))
@@ -70,7 +70,7 @@ pub fn close_port(t: &mut [u32], ps: [Process; 64], c: u32) -> [Process; 64]
 // Ruled out: a copy of the row stays; the row's source goes.
 pub fn drop_row(t: &mut [u32], ps: [Process; 64], e: u32) -> [Process; 64]
     requires { ⌜ length (now t) ≡ 11265 ⌝ }
-    ensures dropped { λ r. ⌜ ((st : State) → sound st ≡ true → Lies st (now (t .entry)) → st .processes ≡ ps → (Lies (dropRow e st) (now (t .exit)) × (r ≡ dropRow e st .processes))) ⌝ }
+    ensures dropped { λ r. ⌜ ((st : State) → sound st ≡ true → Represents (now (t .entry)) st → st .processes ≡ ps → (Represents (now (t .exit)) (dropRow e st) × (r ≡ dropRow e st .processes))) ⌝ }
     ensures long { λ _. ⌜ length (now (t .exit)) ≡ 11265 ⌝ }
 {
     close(t, ps, Seed::Only(e))

@@ -9,14 +9,14 @@ ghost use lib.ListN.{length};
 ghost use Rattle.rows.specs.Lists.{pad, member, some};
 ghost use Rattle.rows.specs.Tables.{State, numbers};
 ghost use Rattle.rows.specs.Sound.{sound};
-ghost use Rattle.rows.specs.Lies.{Lies};
-ghost use Rattle.changes.specs.Marks.{marksOf};
+ghost use Rattle.rows.specs.contracts.Represents.{Represents};
+ghost use Rattle.changes.specs.contracts.Marks.{marksOf};
 ghost use Rattle.closing.specs.Closing.{homed};
 
 // One record.
 fn home(t: &[u32], n: usize, x: Process, removed: &[bool; 1024]) -> Process
     requires { ⌜ (length (now t) ≡ 11265) × (n ≤ 1024) ⌝ }
-    ensures { λ r. ⌜ ((st : State) (g : List ℕ) → Lies st (now (t .entry)) → n ≡ length (st .rows) → now (removed .entry) ≡ pad false 1024 (marksOf g (st .rows)) → (some (x .through) ≡ true → member (x .through) (numbers (st .rows)) ≡ true) → r ≡ homed g x) ⌝ }
+    ensures { λ r. ⌜ ((st : State) (g : List ℕ) → Represents (now (t .entry)) st → n ≡ length (st .rows) → now (removed .entry) ≡ pad false 1024 (marksOf g (st .rows)) → (some (x .through) ≡ true → member (x .through) (numbers (st .rows)) ≡ true) → r ≡ homed g x) ⌝ }
 {
     if x.through == 0 {
         return x;
@@ -35,7 +35,7 @@ fn home(t: &[u32], n: usize, x: Process, removed: &[bool; 1024]) -> Process
 // Ruled out: a process is left in a node that it reached through a removed row; one that stands in its prime node moves.
 pub fn home_all(t: &[u32], n: usize, ps: [Process; 64], removed: &[bool; 1024]) -> [Process; 64]
     requires { ⌜ (length (now t) ≡ 11265) × (n ≤ 1024) ⌝ }
-    ensures { λ r. ⌜ ((st : State) (g : List ℕ) → sound st ≡ true → Lies st (now (t .entry)) → n ≡ length (st .rows) → now (removed .entry) ≡ pad false 1024 (marksOf g (st .rows)) → st .processes ≡ ps → r ≡ map (homed g) ps) ⌝ }
+    ensures { λ r. ⌜ ((st : State) (g : List ℕ) → sound st ≡ true → Represents (now (t .entry)) st → n ≡ length (st .rows) → now (removed .entry) ≡ pad false 1024 (marksOf g (st .rows)) → st .processes ≡ ps → r ≡ map (homed g) ps) ⌝ }
 {
     let mut to = ps;
     let mut i = 0;

@@ -14,9 +14,10 @@ ghost use Rattle.rows.specs.Lists.{all, member, pad, some, nonzero};
 ghost use Rattle.rows.specs.Codes.{inClist};
 ghost use Rattle.rows.specs.Tables.{State, numbers};
 ghost use Rattle.rows.specs.Sound.{sound};
-ghost use Rattle.rows.specs.Lies.{Lies, withRequests};
-ghost use Rattle.changes.specs.Marks.{tested, marksOf};
-ghost use Rattle.closing.specs.Lists.{slotMarks, WentBack, itemOut, itemsOut, SettledTo, listsSettled};
+ghost use Rattle.rows.specs.contracts.Represents.{Represents};
+ghost use Rattle.rows.specs.Setters.{withRequests};
+ghost use Rattle.changes.specs.contracts.Marks.{tested, marksOf};
+ghost use Rattle.closing.specs.contracts.Lists.{slotMarks, WentBack, itemOut, itemsOut, SettledTo, listsSettled};
 
 // The place of a process's c-list; 0 for what is no process. Ruled out: the process's own number; the c-list of the next one.
 pub fn clist(p: u32) -> u32
@@ -31,7 +32,7 @@ pub fn clist(p: u32) -> u32
 // One item of a closed request: its row goes to a c-list, unless an older closed request sent it back.
 fn item_back(t: &mut [u32], n: usize, e: u32, asker: u32, back: &mut [bool; 1024])
     requires { ⌜ (length (now t) ≡ 11265) × (n ≤ 1024) ⌝ }
-    ensures back { λ _. ⌜ ((st : State) (b : ℕ → Bool) → Lies st (now (t .entry)) → n ≡ length (st .rows) → asker ≤ 64 → now (back .entry) ≡ slotMarks b (st .rows) → WentBack b asker (e ∷ []) st (now (t .exit)) (now (back .exit))) ⌝ }
+    ensures back { λ _. ⌜ ((st : State) (b : ℕ → Bool) → Represents (now (t .entry)) st → n ≡ length (st .rows) → asker ≤ 64 → now (back .entry) ≡ slotMarks b (st .rows) → WentBack b asker (e ∷ []) st (now (t .exit)) (now (back .exit))) ⌝ }
     ensures long { λ _. ⌜ length (now (t .exit)) ≡ 11265 ⌝ }
 {
     if e == 0 {
@@ -51,7 +52,7 @@ fn item_back(t: &mut [u32], n: usize, e: u32, asker: u32, back: &mut [bool; 1024
 // All items of a closed request.
 fn items_back(t: &mut [u32], n: usize, v: Request, back: &mut [bool; 1024])
     requires { ⌜ (length (now t) ≡ 11265) × (n ≤ 1024) ⌝ }
-    ensures back { λ _. ⌜ ((st : State) (b : ℕ → Bool) → Lies st (now (t .entry)) → n ≡ length (st .rows) → v .asker ≤ 64 → now (back .entry) ≡ slotMarks b (st .rows) → WentBack b (v .asker) (v .items) st (now (t .exit)) (now (back .exit))) ⌝ }
+    ensures back { λ _. ⌜ ((st : State) (b : ℕ → Bool) → Represents (now (t .entry)) st → n ≡ length (st .rows) → v .asker ≤ 64 → now (back .entry) ≡ slotMarks b (st .rows) → WentBack b (v .asker) (v .items) st (now (t .exit)) (now (back .exit))) ⌝ }
     ensures long { λ _. ⌜ length (now (t .exit)) ≡ 11265 ⌝ }
 {
     let items = v.items;
@@ -75,7 +76,7 @@ fn item_out(
     back: &[bool; 1024],
 )
     requires { ⌜ (length (now t) ≡ 11265) × (n ≤ 1024) × (j < 128) × (k < 4) ⌝ }
-    ensures out { λ _. ⌜ ((st : State) (g b : ℕ → Bool) (new : List Request) (w : Request) (old : List Request) → Lies st (now (t .entry)) → n ≡ length (st .rows) → st .requests ≡ new ++ (w ∷ old) → length old ≡ j → (some e ≡ true → member e (numbers (st .rows)) ≡ true) → now (removed .entry) ≡ slotMarks g (st .rows) → now (back .entry) ≡ slotMarks b (st .rows) → Lies (withRequests (new ++ (itemOut (λ n. g n || b n) k e w ∷ old)) st) (now (t .exit))) ⌝ }
+    ensures out { λ _. ⌜ ((st : State) (g b : ℕ → Bool) (new : List Request) (w : Request) (old : List Request) → Represents (now (t .entry)) st → n ≡ length (st .rows) → st .requests ≡ new ++ (w ∷ old) → length old ≡ j → (some e ≡ true → member e (numbers (st .rows)) ≡ true) → now (removed .entry) ≡ slotMarks g (st .rows) → now (back .entry) ≡ slotMarks b (st .rows) → Represents (now (t .exit)) (withRequests (new ++ (itemOut (λ n. g n || b n) k e w ∷ old)) st)) ⌝ }
     ensures long { λ _. ⌜ length (now (t .exit)) ≡ 11265 ⌝ }
 {
     if e == 0 {
@@ -99,7 +100,7 @@ fn items_out(
     back: &[bool; 1024],
 )
     requires { ⌜ (length (now t) ≡ 11265) × (n ≤ 1024) × (j < 128) ⌝ }
-    ensures out { λ _. ⌜ ((st : State) (g b : ℕ → Bool) (new old : List Request) → Lies st (now (t .entry)) → n ≡ length (st .rows) → st .requests ≡ new ++ (v ∷ old) → length old ≡ j → all (λ e. member e (numbers (st .rows))) (nonzero (v .items)) ≡ true → now (removed .entry) ≡ slotMarks g (st .rows) → now (back .entry) ≡ slotMarks b (st .rows) → Lies (withRequests (new ++ (itemsOut (λ n. g n || b n) v ∷ old)) st) (now (t .exit))) ⌝ }
+    ensures out { λ _. ⌜ ((st : State) (g b : ℕ → Bool) (new old : List Request) → Represents (now (t .entry)) st → n ≡ length (st .rows) → st .requests ≡ new ++ (v ∷ old) → length old ≡ j → all (λ e. member e (numbers (st .rows))) (nonzero (v .items)) ≡ true → now (removed .entry) ≡ slotMarks g (st .rows) → now (back .entry) ≡ slotMarks b (st .rows) → Represents (now (t .exit)) (withRequests (new ++ (itemsOut (λ n. g n || b n) v ∷ old)) st)) ⌝ }
     ensures long { λ _. ⌜ length (now (t .exit)) ≡ 11265 ⌝ }
 {
     let items = v.items;
@@ -136,7 +137,7 @@ fn settle_request(
 // Ruled out: an end goes to the asker of a newer closed request, or stays in a newer open request's list.
 pub fn settle_lists(t: &mut [u32], n: usize, m: usize, removed: &[bool; 1024], closed: &[bool; 128])
     requires { ⌜ (length (now t) ≡ 11265) × (n ≤ 1024) × (m ≤ 128) ⌝ }
-    ensures settled { λ _. ⌜ ((st : State) (g : List ℕ) (f : Request → Bool) → sound st ≡ true → Lies st (now (t .entry)) → n ≡ length (st .rows) → m ≡ length (st .requests) → now (removed .entry) ≡ pad false 1024 (marksOf g (st .rows)) → now (closed .entry) ≡ pad false 128 (tested f (st .requests)) → Lies (listsSettled g f st) (now (t .exit))) ⌝ }
+    ensures settled { λ _. ⌜ ((st : State) (g : List ℕ) (f : Request → Bool) → sound st ≡ true → Represents (now (t .entry)) st → n ≡ length (st .rows) → m ≡ length (st .requests) → now (removed .entry) ≡ pad false 1024 (marksOf g (st .rows)) → now (closed .entry) ≡ pad false 128 (tested f (st .requests)) → Represents (now (t .exit)) (listsSettled g f st)) ⌝ }
     ensures long { λ _. ⌜ length (now (t .exit)) ≡ 11265 ⌝ }
 {
     let mut back = [false; 1024];

@@ -19,10 +19,11 @@ ghost use lib.ListN.{length};
 ghost use Rattle.rows.specs.Lists.{pad, member};
 ghost use Rattle.rows.specs.Tables.{State, numbers, marked};
 ghost use Rattle.rows.specs.Sound.{sound};
-ghost use Rattle.rows.specs.Lies.{Lies, rawRow};
-ghost use Rattle.changes.specs.Marks.{tested, marksOf};
+ghost use Rattle.rows.specs.contracts.Represents.{Represents};
+ghost use Rattle.rows.specs.Layout.{rawRow};
+ghost use Rattle.changes.specs.contracts.Marks.{tested, marksOf};
 ghost use Rattle.closing.specs.Closing.{closes};
-ghost use Rattle.closing.specs.Seeds.{seedOf, closesOf, markAt};
+ghost use Rattle.closing.specs.contracts.Seeds.{seedOf, closesOf, markAt};
 
 // Whether the row in slot i is a seed.
 // Ruled out: an operation row whose manager's number is the port's; a row that bears the number of another request.
@@ -55,7 +56,7 @@ fn mark_at(marks: &[bool], s: u32) -> bool
 // Ruled out: a copy whose second source alone is removed stays; a row of which nothing is removed goes.
 pub fn mark_rows(t: &[u32], n: usize, s: Seed) -> [bool; 1024]
     requires { ⌜ (length (now t) ≡ 11265) × (n ≤ 1024) ⌝ }
-    ensures { λ r. ⌜ ((st : State) → Lies st (now (t .entry)) → n ≡ length (st .rows) → r ≡ pad false 1024 (marksOf (marked (seedOf s) (st .rows)) (st .rows))) ⌝ }
+    ensures { λ r. ⌜ ((st : State) → Represents (now (t .entry)) st → n ≡ length (st .rows) → r ≡ pad false 1024 (marksOf (marked (seedOf s) (st .rows)) (st .rows))) ⌝ }
 {
     let mut removed = [false; 1024];
     let mut i = 0;
@@ -83,7 +84,7 @@ fn closes_first(s: Seed, number: u32) -> bool
 // Whether the row numbered e is marked; a number that no row has is not.
 pub fn is_marked(t: &[u32], n: usize, e: u32, marks: &[bool; 1024]) -> bool
     requires { ⌜ (length (now t) ≡ 11265) × (n ≤ 1024) ⌝ }
-    ensures { λ r. ⌜ ((st : State) (g : List ℕ) → Lies st (now (t .entry)) → n ≡ length (st .rows) → now (marks .entry) ≡ pad false 1024 (marksOf g (st .rows)) → member e (numbers (st .rows)) ≡ true → r ≡ member e g) ⌝ }
+    ensures { λ r. ⌜ ((st : State) (g : List ℕ) → Represents (now (t .entry)) st → n ≡ length (st .rows) → now (marks .entry) ≡ pad false 1024 (marksOf g (st .rows)) → member e (numbers (st .rows)) ≡ true → r ≡ member e g) ⌝ }
 {
     let Found::At(i) = find::row_among(t, n, e) else {
         return false;
@@ -95,7 +96,7 @@ pub fn is_marked(t: &[u32], n: usize, e: u32, marks: &[bool; 1024]) -> bool
 // Ruled out: a request whose port went stays open; one closes because an item of its list is removed.
 pub fn mark_requests(t: &[u32], n: usize, m: usize, removed: &[bool; 1024], s: Seed) -> [bool; 128]
     requires { ⌜ (length (now t) ≡ 11265) × (n ≤ 1024) × (m ≤ 128) ⌝ }
-    ensures { λ r. ⌜ ((st : State) (g : List ℕ) → sound st ≡ true → Lies st (now (t .entry)) → n ≡ length (st .rows) → m ≡ length (st .requests) → now (removed .entry) ≡ pad false 1024 (marksOf g (st .rows)) → r ≡ pad false 128 (tested (closes (closesOf s) g) (st .requests))) ⌝ }
+    ensures { λ r. ⌜ ((st : State) (g : List ℕ) → sound st ≡ true → Represents (now (t .entry)) st → n ≡ length (st .rows) → m ≡ length (st .requests) → now (removed .entry) ≡ pad false 1024 (marksOf g (st .rows)) → r ≡ pad false 128 (tested (closes (closesOf s) g) (st .requests))) ⌝ }
 {
     let mut closed = [false; 128];
     let mut j = 0;

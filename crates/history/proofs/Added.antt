@@ -12,8 +12,9 @@ use Rattle.rows.specs.Tables.{State}
 use Rattle.rows.proofs.Bools.{false-of, and-l, and-r, and-i, or-r, all-mono, all-and, all-at, some-pos}
 use Rattle.rows.proofs.Keyed.{first-there, rises-range, rises-cons}
 use Rattle.rows.proofs.Lists.{filter-same}
-use Rattle.calls.specs.Rules.{withRows}
-use Rattle.history.specs.Notes.{Noted, Loan, History, noted, nothingNoted, notedOf, spoiled, survives, sweep, standing, stands, isClosed, openLoans, lastGo, addRow}
+use Rattle.calls.specs.Rules.{withNewRows}
+use Rattle.history.specs.History.{Noted, Loan, History}
+use Rattle.history.specs.Notes.{noted, nothingNoted, notedOf, spoiled, survives, sweep, standing, stands, isClosed, openLoans, lastGo, addRow}
 use Rattle.history.specs.Chains.{IsNoted}
 use Rattle.history.proofs.Fit.{isEmpty, rooted, bearsWell, endsWell, portNoted, Fit}
 use Rattle.history.proofs.Inv.{Inv, view, ofLoan, throughNow, below}
@@ -139,8 +140,8 @@ module _ (h h′ : History) (n : ℕ) (same : (k : ℕ) → k < n → stands h�
 -- ---- the invariant
 pub add-row : (h : History) (st : State) (r : Row) (ss : List ℕ) (q c : ℕ) → Inv h st → view r ≡ newNoted (st .next) ss q c
     → all (λ s. stands h s) ss ≡ true → some q && member q (h .closedRequests) ≡ false → some c && member c (h .closedPorts) ≡ false → FitsNew h (newNoted (st .next) ss q c)
-    → Inv (addRow (st .next) ss q c h) (withRows (r ∷ st .rows) (suc (st .next)) st)
-unfolding withRows addRow IsNoted
+    → Inv (addRow (st .next) ss q c h) (withNewRows (r ∷ st .rows) (suc (st .next)) st)
+unfolding withNewRows addRow IsNoted
 add-row h st r ss q c i v older qn cn w =
     record {
       fit = fit-row h (st .next) ss q c (i .fit) (i .rows-below) (i .dropped-below) (all-mono (λ s. stands h s) (λ s. member s (noted (h .rows))) (λ s t. stands-noted h (i .fit) s t) ss older) w;

@@ -17,7 +17,8 @@ use Rattle.text.specs.declared.Reading.the-variants.{Asks, Crowded, Refused as 
 use Rattle.text.specs.CallLines.{readingOf}
 use Rattle.text.specs.Answers.{okText, noText, printed}
 use Rattle.text.proofs.Answers.{Gives, read-ok, read-no as no-read}
-use Rattle.history.specs.Notes.{History, settled}
+use Rattle.history.specs.History.{History}
+use Rattle.history.specs.Notes.{loansSettled}
 use Rattle.history.specs.Reading.{answerRead, accepts, noteCall, noteReading, noteLine}
 use Rattle.history.proofs.Inv.{firstValue, noteAnswer}
 use Rattle.history.proofs.Spoken.{Spoken}
@@ -57,7 +58,7 @@ note-asked h line c st o e s = pick (eqb (refusalOf (o .answer)) 0) refl
     a = o .answer
 
     pick : (b : Bool) → eqb (refusalOf a) 0 ≡ b
-        → cond (answerRead (printed a) .good) (noteReading (readingOf line) (answerRead (printed a) .c) h) h ≡ cond b (settled (noteCall c (firstValue (valuesOf a)) h)) h
+        → cond (answerRead (printed a) .good) (noteReading (readingOf line) (answerRead (printed a) .c) h) h ≡ cond b (loansSettled (noteCall c (firstValue (valuesOf a)) h)) h
     pick true q =
         let z = eqb-true (refusalOf a) 0 q in
         let g = read-accepted a z (s .has-value z) (s .in-range z) in

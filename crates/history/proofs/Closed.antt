@@ -13,10 +13,12 @@ use Rattle.rows.proofs.Bools.{and-r, and-i}
 use Rattle.rows.proofs.Keyed.{keys-filter}
 use Rattle.rows.proofs.Sound.{Sound}
 use Rattle.rows.proofs.Lists.{filter-filter}
-use Rattle.closing.specs.Closing.{closes, placedIn, returned, withItems, remaining, homed, settled, closing}
+use Rattle.closing.specs.Closing.{closes, returned, remaining, homed, settled, closing}
+use Rattle.rows.specs.Setters.{withPlace, withItems}
 use Rattle.closing.proofs.KeptLookups.{remaining-keys, returned-keeps}
 use Rattle.closing.proofs.KeptProcesses.{homed-at, homed-prime}
-use Rattle.history.specs.Notes.{Noted, Loan, History, noted, spoiled, survives, sweep, standing, stands, isClosed, openLoans, lastGo}
+use Rattle.history.specs.History.{Noted, Loan, History}
+use Rattle.history.specs.Notes.{noted, spoiled, survives, sweep, standing, stands, isClosed, openLoans, lastGo}
 use Rattle.history.proofs.Fit.{Fit}
 use Rattle.history.proofs.Inv.{Inv, Open, view, ofRequest, ofLoan, throughNow, below}
 use Rattle.history.proofs.Sweep.{rising, sourced, sweep-sweep}
@@ -41,10 +43,10 @@ sweep-sourced f (r ∷ rs) = pick (sweep-sourced f rs) (survives f (noted (sweep
 
 -- ---- what closing leaves as it is
 home-view : (f : Request → Bool) (vs : List Request) (r : Row) → view (returned f vs r) ≡ view r
-home-view f vs r = returned-keeps view (λ p r. unfold view placedIn sources in refl) f vs r
+home-view f vs r = returned-keeps view (λ p r. unfold view withPlace sources in refl) f vs r
 
 remaining-view : (f : Request → Bool) (g : List ℕ) (p : Open → Bool) → ((v : Request) → not (f v) ≡ p (ofRequest v)) → (vs : List Request) → map ofRequest (remaining f g vs) ≡ filter p (map ofRequest vs)
-remaining-view f g p h vs = remaining-keys f g ofRequest (λ is v. unfold withItems ofRequest in refl) vs ∙ filter-through ofRequest p (λ v. not (f v)) h vs
+remaining-view f g p h vs = remaining-keys f g ofRequest (λ is v. unfold ofRequest in refl) vs ∙ filter-through ofRequest p (λ v. not (f v)) h vs
 
 -- ---- processes
 home-through : (g : List ℕ) (x : Process) → homed g x .through ≡ (if some (x .through) && member (x .through) g then 0 else x .through)

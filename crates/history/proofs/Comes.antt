@@ -12,7 +12,8 @@ use Rattle.rows.specs.Tables.{mark}
 use Rattle.rows.proofs.Bools.{false-of, clash, not-f, or-l, or-r, or-fl, or-fr, or-map, or-cases, pos-some, de-morgan, eqb-sym-f, all-eq-on, all-not, member-here, or-false}
 use Rattle.rows.proofs.Keyed.{first-there, keys-filter}
 use Rattle.rows.proofs.Lists.{any-at}
-use Rattle.history.specs.Notes.{Noted, History, noted, nothingNoted, notedOf, spoiled, survives, sweep, standing, stands, noteRevoke}
+use Rattle.history.specs.History.{Noted, History}
+use Rattle.history.specs.Notes.{noted, nothingNoted, notedOf, spoiled, survives, sweep, standing, stands, noteRevoke}
 use Rattle.history.specs.Chains.{IsNoted, IsSource, ComesFrom, bears, bySource}
 use Rattle.history.proofs.Fit.{Fit}
 use Rattle.history.proofs.Sweep.{rising, sourced, rising-rest, rising-fresh, sourced-rest, sourced-first, sourced-at, sweep-eq}

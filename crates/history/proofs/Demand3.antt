@@ -29,7 +29,8 @@ use Rattle.text.specs.Entry.{Replied, callerUnlisted, answered, refused, callOn
 use Rattle.text.proofs.Readings.{Good, reading-good}
 use Rattle.text.proofs.Opening.{opened-sound}
 use Rattle.text.specs.Opening.{linesOf}
-use Rattle.history.specs.Notes.{History, stands}
+use Rattle.history.specs.History.{History}
+use Rattle.history.specs.Notes.{stands}
 use Rattle.history.specs.Reading.{begun, accepts, noteLine, historyAfter}
 use Rattle.history.specs.Chains.{IsPort}
 use Rattle.history.specs.Demand3.{lentAfter, repliesTo, stateIn, InTables, Holds, Vanished, Returned, Revoked, Demand3}

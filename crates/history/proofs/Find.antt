@@ -22,7 +22,8 @@ use Rattle.calls.specs.declared.Item.{Item}
 use Rattle.calls.specs.Rules.{notHeld}
 use Rattle.calls.specs.Loans.{itemRow, moves}
 use Rattle.calls.proofs.Stand.{held-there}
-use Rattle.history.specs.Notes.{History, isEndNoted, noted, notedOf, spoiled, standing, stands}
+use Rattle.history.specs.History.{History}
+use Rattle.history.specs.Notes.{isEndNoted, noted, notedOf, spoiled, standing, stands}
 use Rattle.history.specs.Chains.{IsNoted}
 use Rattle.history.proofs.Inv.{Inv, view}
 use Rattle.history.proofs.Sweep.{noted-sweep}

@@ -5,7 +5,8 @@ use mathlib.Core.List.{List, [], _∷_}
 use mathlib.Core.Path.{_≡_}
 use lib.Dec.{eqb}
 use Rattle.rows.specs.Lists.{all, each, rises, member, some, sameList}
-use Rattle.history.specs.Notes.{Noted, Loan, History, noted, notedOf, loanOf}
+use Rattle.history.specs.History.{Noted, Loan, History}
+use Rattle.history.specs.Notes.{noted, notedOf, loanOf}
 
 unfoldable pub isEmpty : List ℕ → Bool
 isEmpty [] = true

@@ -11,7 +11,8 @@ use Rattle.rows.specs.Lists.{all, member, some, sameList}
 use Rattle.rows.proofs.Bools.{false-of, clash, and-l, and-r, and-i, not-t, or-l, or-r, or-fl, or-fr, or-cases, pos-some, some-pos, all-at, eqb-self}
 use Rattle.rows.proofs.Keyed.{first-key, first-there, all-first}
 use Rattle.rows.proofs.LayoutColumns.{same-list}
-use Rattle.history.specs.Notes.{Noted, Loan, History, noted, nothingNoted, notedOf, noLoan, loanOf, spoiled, standing, stands, isClosed}
+use Rattle.history.specs.History.{Noted, Loan, History}
+use Rattle.history.specs.Notes.{noted, nothingNoted, notedOf, noLoan, loanOf, spoiled, standing, stands, isClosed}
 use Rattle.history.specs.Chains.{Thing, aRow, aRequest, aPort, IsNoted, IsSource, Chain, ends, leads, RowUses, Uses, IsPort, AskedOver, Gone, rowDropped, requestClosed, portClosed, operationFell, portFell}
 use Rattle.history.proofs.Fit.{Fit, bearsWell, endsWell, portNoted}
 use Rattle.history.proofs.Sweep.{sweep-sub, sweep-eq}

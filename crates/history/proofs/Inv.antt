@@ -12,7 +12,8 @@ use Rattle.rows.specs.Tables.{State, rowOf, processAt, isListed, sources}
 use Rattle.calls.specs.declared.Call.{Call}
 use Rattle.calls.specs.declared.Answer.{Answer}
 use Rattle.calls.specs.Answers.{refusalOf, valuesOf}
-use Rattle.history.specs.Notes.{Noted, Loan, OnLoan, History, standing, stands, openLoans, lastGo, settled}
+use Rattle.history.specs.History.{Noted, Loan, OnLoan, History}
+use Rattle.history.specs.Notes.{standing, stands, openLoans, lastGo, loansSettled}
 use Rattle.history.specs.Reading.{noteCall}
 use Rattle.history.proofs.Fit.{Fit}
 
@@ -74,4 +75,4 @@ firstValue (n ∷ ns) = n
 
 -- what the history is after a call and its answer
 unfoldable pub noteAnswer : History → Call → Answer → History
-noteAnswer h c a = if eqb (refusalOf a) 0 then settled (noteCall c (firstValue (valuesOf a)) h) else h
+noteAnswer h c a = if eqb (refusalOf a) 0 then loansSettled (noteCall c (firstValue (valuesOf a)) h) else h

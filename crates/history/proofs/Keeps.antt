@@ -10,7 +10,8 @@ use Rattle.calls.specs.declared.Call.{Call}
 use Rattle.calls.specs.Answers.{refusalOf, valuesOf}
 use Rattle.calls.specs.Rules.{Out, refusedIf}
 use Rattle.calls.specs.Calls.{done, made}
-use Rattle.history.specs.Notes.{History, noted, notedOf, spoiled, standing, stands, isClosed, openLoans, withLoans, settled}
+use Rattle.history.specs.History.{History}
+use Rattle.history.specs.Notes.{noted, notedOf, spoiled, standing, stands, isClosed, openLoans, loansSettled}
 use Rattle.history.specs.Reading.{noteCall}
 use Rattle.history.proofs.Fit.{Fit}
 use Rattle.history.proofs.Inv.{Inv, view, ofRequest, throughNow, firstValue, noteAnswer}
@@ -31,11 +32,11 @@ fit-same h h′ t r v kept f =
     }
 
 -- ---- neither Fit nor Inv looks at the ends on loan
-pub settled-inv : (h : History) (st : State) → Inv h st → Inv (settled h) st
-unfolding settled withLoans standing spoiled openLoans isClosed stands throughNow
+pub settled-inv : (h : History) (st : State) → Inv h st → Inv (loansSettled h) st
+unfolding loansSettled standing spoiled openLoans isClosed stands throughNow
 settled-inv h st i =
     record {
-      fit = fit-same h (settled h) refl refl refl (i .fit .ends-kept) (i .fit);
+      fit = fit-same h (loansSettled h) refl refl refl (i .fit .ends-kept) (i .fit);
       rows = i .rows;
       requests = i .requests;
       through = i .through;

@@ -19,13 +19,14 @@ use Rattle.rows.proofs.RowSources.{Shape, opening, registered, held, port-end, 
 use Rattle.rows.proofs.Standing.{standing-shape, nodes-stay, rights-within}
 use Rattle.rows.proofs.SoundFacts.{row-number}
 use Rattle.rows.proofs.Places.{clist-not-node}
-use Rattle.closing.specs.Closing.{placedIn, closing, closeRequest, closePort, dropRow, isEndOf, isRow, closes}
+use Rattle.rows.specs.Setters.{withPlace}
+use Rattle.closing.specs.Closing.{closing, closeRequest, closePort, dropRow, isEndOf, isRow, closes}
 use Rattle.closing.proofs.KeptLookups.{left-keys}
 use Rattle.calls.specs.declared.Item.{Item}
 use Rattle.calls.specs.declared.Call.{Call}
 use Rattle.calls.specs.declared.Call.the-variants.{Go, Hold, Register, Drop, Port, Close, Ask, Fetch, Reply, Refuse, Revoke, Comes}
-use Rattle.calls.specs.Rules.{Out, refusedIf, notHeld, withRows, withRecord}
-use Rattle.calls.specs.Loans.{Lending, itemsOf, moves, toSystem, lendEnd, lendCopy, lendItem, lendItems, lent, withRequest, handedTo, withFetched}
+use Rattle.calls.specs.Rules.{Out, refusedIf, notHeld, withNewRows, withRecord}
+use Rattle.calls.specs.Loans.{Lending, itemsOf, moves, toSystem, lendEnd, lendCopy, lendItem, lendItems, lent, withRequest, handedTo, handedOver}
 use Rattle.calls.specs.Calls.{done, made, goHome, goThrough, doGo, withHeld, doHold, withRegistered, doRegister, doDrop, withPort, doPort, doClose, doAsk, doFetch, doReply, doRefuse, doRevoke, doComes, perform}
 use Rattle.calls.proofs.KeptMoved.{moved, moved-number}
 use Rattle.text.specs.Entry.{openEntry, callOn, answered, refused}
@@ -61,8 +62,8 @@ item-stays : (st : State) (c v n : ℕ) (i : Item) (l : Lending) → member n (n
 unfolding lendItem lendEnd lendCopy toSystem
 item-stays st c v n i l t = pick (moves st i)
   where
-    ends-lent : numbers (map (λ r. cond (eqb (r .number) (i .row)) (placedIn withSystem r) r) (l .rows)) ≡ numbers (l .rows)
-    ends-lent = numbers-moved (λ r. cond (eqb (r .number) (i .row)) (placedIn withSystem r) r) (unfold moved in moved-number (λ m. eqb m (i .row)) withSystem) (l .rows)
+    ends-lent : numbers (map (λ r. cond (eqb (r .number) (i .row)) (withPlace withSystem r) r) (l .rows)) ≡ numbers (l .rows)
+    ends-lent = numbers-moved (λ r. cond (eqb (r .number) (i .row)) (withPlace withSystem r) r) (unfold moved in moved-number (λ m. eqb m (i .row)) withSystem) (l .rows)
 
     pick : (b : Bool) → member n (numbers (cond b (lendEnd i l) (lendCopy st c v i l) .rows)) ≡ true
     pick true = ap (member n) ends-lent ∙ t
@@ -110,11 +111,11 @@ module _ (st : State) (s : Sound st) (n : ℕ) (e : isNode (rowOf (st .rows) n .
       pick false o h = h
 
   hold-stays : (p d : ℕ) → Stays n (doHold st p d)
-  unfolding doHold made withHeld withRows
+  unfolding doHold made withHeld withNewRows
   hold-stays p d = unless n st _ 7 _ t λ _. unless n st _ 9 _ t λ _. unless n st _ 12 _ t λ _. unless n st _ 15 _ t λ _. unless n st _ 16 _ t λ _. unless n st _ 18 _ t λ _. one-more n _ (st .rows) t
 
   register-stays : (p d : ℕ) → Stays n (doRegister st p d)
-  unfolding doRegister made withRegistered withRows
+  unfolding doRegister made withRegistered withNewRows
   register-stays p d =
       unless n st _ 7 _ t λ _. unless n st _ 8 _ t λ _. unless n st _ 9 _ t λ _. unless n st _ 12 _ t λ _. unless n st _ 15 _ t λ _. unless n st _ 16 _ t λ _. unless n st _ 18 _ t λ _.
       one-more n _ (st .rows) t
@@ -124,7 +125,7 @@ module _ (st : State) (s : Sound st) (n : ℕ) (e : isNode (rowOf (st .rows) n .
   dropped-stays p d = unless n st _ 7 _ t λ e7. unless n st _ 8 _ t λ _. unless n st _ 13 _ t λ _. drop-stays p d e7
 
   made-stays : (p d : ℕ) → Stays n (doPort st p d)
-  unfolding doPort made withPort withRows
+  unfolding doPort made withPort withNewRows
   made-stays p d = unless n st _ 7 _ t λ _. unless n st _ 8 _ t λ _. unless n st _ 15 _ t λ _. unless n st _ 16 _ t λ _. unless n st _ 18 _ t λ _. one-more n _ _ (one-more n _ (st .rows) t)
 
   closed-stays : (p d : ℕ) → Stays n (doClose st p d)
@@ -138,11 +139,11 @@ module _ (st : State) (s : Sound st) (n : ℕ) (e : isNode (rowOf (st .rows) n .
       lending-stays st d (st .next) n is _ t
 
   fetched-stays : (p d : ℕ) → Stays n (doFetch st p d)
-  unfolding doFetch withFetched handedTo
+  unfolding doFetch handedOver handedTo
   fetched-stays p d =
       let v = openOn (st .requests) (rowOf (st .rows) d .object) in
       unless n st _ 7 _ t λ _. unless n st _ 8 _ t λ _. unless n st _ 11 _ t λ _.
-      ap (member n) (numbers-moved (λ r. cond (lists (r .number) v) (placedIn (inClist p) r) r) (unfold moved in moved-number (λ m. lists m v) (inClist p)) (st .rows)) ∙ t
+      ap (member n) (numbers-moved (λ r. cond (lists (r .number) v) (withPlace (inClist p) r) r) (unfold moved in moved-number (λ m. lists m v) (inClist p)) (st .rows)) ∙ t
 
   replied-stays : (p d : ℕ) → Stays n (doReply st p d)
   unfolding doReply done

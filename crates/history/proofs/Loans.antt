@@ -14,7 +14,8 @@ use Rattle.rows.proofs.Picked.{all-keys, first-picked}
 use Rattle.rows.proofs.RowSources.{end-there}
 use Rattle.rows.proofs.Lists.{filter-filter, member-filter, member-nonzero}
 use Rattle.rows.proofs.Agree.{keys-kept}
-use Rattle.history.specs.Notes.{OnLoan, History, noLoan, loanOf, stands, isClosed, openLoans, isClosedNow, staysOnLoan, loansLeft}
+use Rattle.history.specs.History.{OnLoan, History}
+use Rattle.history.specs.Notes.{noLoan, loanOf, stands, isClosed, openLoans, isClosedNow, staysOnLoan, loansLeft}
 use Rattle.history.proofs.Inv.{Inv, ofRequest, ofLoan, endsListed, loansIn, noOpen}
 use Rattle.history.proofs.View.{first-through}
 use Rattle.history.proofs.Find.{row-stands}

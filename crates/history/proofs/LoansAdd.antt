@@ -20,12 +20,13 @@ use Rattle.rows.proofs.Places.{no-row-listed}
 use Rattle.rows.proofs.Lists.{filter-same}
 use Rattle.calls.specs.declared.Call.the-variants.{Go, Hold, Register, Port, Fetch, Comes}
 use Rattle.calls.specs.Answers.{refusalOf, valuesOf}
-use Rattle.calls.specs.Rules.{refusedIf, notHeld, withRows, copyOf, withRecord}
-use Rattle.calls.specs.Loans.{handedTo, nowFetched, withFetched}
+use Rattle.calls.specs.Rules.{refusedIf, notHeld, withNewRows, copyOf, withRecord}
+use Rattle.calls.specs.Loans.{handedTo, nowFetched, handedOver}
 use Rattle.calls.specs.Calls.{done, goHome, goThrough, doGo, withHeld, doHold, withRegistered, doRegister, portEnd, withPort, doPort, fetchedAnswer, doFetch, doComes}
 use Rattle.calls.proofs.AddRow.{row-before}
 use Rattle.calls.proofs.KeptMoved.{moved, kind-same}
-use Rattle.history.specs.Notes.{OnLoan, History, addRow, noteGo, noteHold, noteRegister, notePort}
+use Rattle.history.specs.History.{OnLoan, History}
+use Rattle.history.specs.Notes.{addRow, noteGo, noteHold, noteRegister, notePort}
 use Rattle.history.specs.Reading.{noteCall}
 use Rattle.history.proofs.Inv.{Lends, endsListed, loansIn, firstValue}
 use Rattle.history.proofs.Keeps.{Keeps}
@@ -64,15 +65,15 @@ module _ (st : State) (s : Sound st) where
   listed x = loansIn (x .rows) (x .requests)
 
   held-same : (p e via d : ℕ) → listed (withHeld st p e via d) ≡ listed st
-  unfolding withHeld withRows copyOf
+  unfolding withHeld withNewRows copyOf
   held-same p e via d = rows-more st s (_ ∷ []) (one-new st _ refl)
 
   registered-same : (p e d : ℕ) → listed (withRegistered st p e d) ≡ listed st
-  unfolding withRegistered withRows copyOf
+  unfolding withRegistered withNewRows copyOf
   registered-same p e d = rows-more st s (_ ∷ []) (one-new st _ refl)
 
   port-same : (p e d : ℕ) → listed (withPort st p e d) ≡ listed st
-  unfolding withPort withRows portEnd
+  unfolding withPort withNewRows portEnd
   port-same p e d = rows-more st s (_ ∷ _ ∷ []) (two-new st _ _ refl refl)
 
 -- ---- fetch
@@ -143,7 +144,7 @@ module _ (h : History) (st : State) (l : Lends h st) (s : Sound st) where
       unless _ 7 refl l k λ e7 k.
       unless _ 8 refl l k λ e8 k.
       unless _ 11 refl l k λ e11 k.
-      taken _ _ refl refl k (λ i. calm _ _ i (unfold withFetched in (fetched-loans _ _ (st .requests) ∙ kinds-same st s _ (λ x t. handed-kind _ _ (st .rows) x) ∙ l .lends)))
+      taken _ _ refl refl k (λ i. calm _ _ i (unfold handedOver in (fetched-loans _ _ (st .requests) ∙ kinds-same st s _ (λ x t. handed-kind _ _ (st .rows) x) ∙ l .lends)))
 
   pub comes-lends : (e q : ℕ) → Keeps h (Comes e q) (doComes st e q) → LendsAfter h (Comes e q) (doComes st e q)
   unfolding doComes noteCall refusalOf valuesOf firstValue

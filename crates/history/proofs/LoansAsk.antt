@@ -25,7 +25,8 @@ use Rattle.calls.specs.Calls.{doAsk}
 use Rattle.calls.proofs.Stand.{held-there}
 use Rattle.calls.proofs.KeptAskList.{nonzero-pad}
 use Rattle.calls.proofs.KeptMoved.{moved, kind-same}
-use Rattle.history.specs.Notes.{History, isEndNoted, endsNamed, noteAsk}
+use Rattle.history.specs.History.{History}
+use Rattle.history.specs.Notes.{isEndNoted, endsNamed, noteAsk}
 use Rattle.history.specs.Reading.{itemsNamed, noteCall}
 use Rattle.history.proofs.Inv.{Inv, Lends, endsListed, loansIn}
 use Rattle.history.proofs.Keeps.{Keeps}

@@ -17,11 +17,13 @@ use Rattle.rows.proofs.RowSources.{end-there}
 use Rattle.rows.proofs.Lists.{filter-filter}
 use Rattle.rows.proofs.SoundFacts.{same-eq, eq-same}
 use Rattle.rows.proofs.Agree.{keys-kept}
-use Rattle.closing.specs.Closing.{listedIn, leaves, withItems, trimmed, remaining, settled, closes, closing, closeRequest, isEndOf, closePort, isRow, dropRow, placedIn}
+use Rattle.closing.specs.Closing.{listedIn, leaves, trimmed, remaining, settled, closes, closing, closeRequest, isEndOf, closePort, isRow, dropRow}
+use Rattle.rows.specs.Setters.{withItems, withPlace}
 use Rattle.closing.proofs.KeptLookups.{remaining-keys, returned-keeps, left-keys, row-after}
 use Rattle.calls.specs.declared.Call.the-variants.{Drop, Close, Reply, Refuse, Revoke}
 use Rattle.calls.specs.Calls.{doDrop, doClose, doReply, doRefuse, doRevoke}
-use Rattle.history.specs.Notes.{History, stands, loansLeft, noteDrop, noteClose, noteRevoke, noteEnd}
+use Rattle.history.specs.History.{History}
+use Rattle.history.specs.Notes.{stands, loansLeft, noteDrop, noteClose, noteRevoke, noteEnd}
 use Rattle.history.specs.Reading.{noteCall}
 use Rattle.history.proofs.Inv.{Inv, Lends, endsListed, loansIn}
 use Rattle.history.proofs.Keeps.{Keeps}
@@ -31,7 +33,7 @@ use Rattle.history.proofs.Loans.{closedNumber, shut, staysLent, left-cl
 
 -- ---- rows that are left
 kind-left : (g : List ℕ) (f : Request → Bool) (st : State) (e : ℕ) → member e g ≡ false → isEnd (rowOf (settled g f st .rows) e .kind) ≡ isEnd (rowOf (st .rows) e .kind)
-unfolding placedIn
+unfolding withPlace
 kind-left g f st e out = ap (λ r. isEnd (r .kind)) (row-after g f st e out) ∙ returned-keeps (λ r. isEnd (r .kind)) (λ p r. refl) f (st .requests) (rowOf (st .rows) e)
 
 -- ---- items that leave
@@ -61,7 +63,7 @@ module _ (h : History) (st : State) (g : List ℕ) (f : Request → Bool) (stand
 
   -- the ends that a request that stays open still lists
   ends-left : (v : Request) (vs : List Request) → all asClosed vs ≡ true → endsListed (settled g f st .rows) (trimmed f g vs v) ≡ filter (staysLent h (loansIn (st .rows) vs)) (endsListed (st .rows) v)
-  unfolding endsListed trimmed withItems
+  unfolding endsListed trimmed
   ends-left v vs c =
       ap (filter (λ e. isEnd (rowOf (settled g f st .rows) e .kind))) (nonzero-map (leaves f g vs) (v .items))
       ∙ filter-filter (λ e. isEnd (rowOf (settled g f st .rows) e .kind)) (λ e. not (leaves f g vs e)) both (λ e. sym (each-item e)) (nonzero (v .items))
@@ -80,7 +82,7 @@ module _ (h : History) (st : State) (g : List ℕ) (f : Request → Bool) (stand
           pick false z false u = unfold leaves in rw (u, kind-left g f st e u, z) (and-rf (not (listedIn f vs e)) false refl)
 
   loans-left : (vs : List Request) → all asClosed vs ≡ true → loansIn (settled g f st .rows) (remaining f g vs) ≡ loansLeft h (loansIn (st .rows) vs)
-  unfolding loansIn remaining all trimmed withItems
+  unfolding loansIn remaining all trimmed
   loans-left [] c = unfold loansLeft in refl
   loans-left (v ∷ vs) c = pick (loans-left vs (and-r (asClosed v) (all asClosed vs) c)) (f v) (eq-same (closedNumber h (v .number)) (f v) (and-l (asClosed v) (all asClosed vs) c))
     where
@@ -91,7 +93,7 @@ module _ (h : History) (st : State) (g : List ℕ) (f : Request → Bool) (stand
 
 -- ---- the requests that stay open
 remaining-numbers : (f : Request → Bool) (g : List ℕ) (vs : List Request) → rises (λ v. v .number) vs ≡ true → (n : ℕ) → member n (map (λ v. v .number) vs) ≡ true → member n (map (λ v. v .number) (remaining f g vs)) ≡ not (f (requestOf vs n))
-unfolding requestOf withItems
+unfolding requestOf
 remaining-numbers f g vs u n t =
     ap (member n) (remaining-keys f g (λ v. v .number) (λ is v. refl) vs) ∙ keys-kept (λ v. v .number) noRequest (λ v. not (f v)) vs u n
     ∙ ap (λ b. b && not (f (requestOf vs n))) t

@@ -1,4 +1,4 @@
--- The ends on loan after an answer: a refusal changes none, and an accepted call has them settled.
+-- The ends on loan after an answer: a refusal changes none, and an accepted call has them loansSettled.
 use Prim.Native.Nat.{ℕ}
 use mathlib.Core.Bool.{Bool, true, false}
 use mathlib.Core.Path.{_≡_, refl, sym, ap, _∙_}
@@ -8,7 +8,8 @@ use Rattle.calls.specs.declared.Call.{Call}
 use Rattle.calls.specs.Answers.{refusalOf, valuesOf}
 use Rattle.calls.specs.Rules.{Out, refusedIf}
 use Rattle.calls.specs.Calls.{done, made}
-use Rattle.history.specs.Notes.{History, spoiled, standing, stands, isClosed, openLoans, loansLeft, withLoans, settled}
+use Rattle.history.specs.History.{History}
+use Rattle.history.specs.Notes.{spoiled, standing, stands, isClosed, openLoans, loansLeft, loansSettled}
 use Rattle.history.specs.Reading.{noteCall}
 use Rattle.history.proofs.Inv.{Inv, Lends, loansIn, throughNow, firstValue, noteAnswer}
 use Rattle.history.proofs.Keeps.{fit-same, Keeps}
@@ -24,11 +25,11 @@ unless true k z l i f = record { after = unfold noteAnswer refusalOf in rw z l }
 unless false k z l i f = f refl i
 
 -- the invariant looks at no end on loan
-unsettled-inv : (h : History) (st : State) → Inv (settled h) st → Inv h st
-unfolding settled withLoans standing spoiled openLoans isClosed stands throughNow
+unsettled-inv : (h : History) (st : State) → Inv (loansSettled h) st → Inv h st
+unfolding loansSettled standing spoiled openLoans isClosed stands throughNow
 unsettled-inv h st i =
     record {
-      fit = fit-same (settled h) h refl refl refl (i .fit .ends-kept) (i .fit);
+      fit = fit-same (loansSettled h) h refl refl refl (i .fit .ends-kept) (i .fit);
       rows = i .rows;
       requests = i .requests;
       through = i .through;
@@ -47,7 +48,7 @@ Settles h st = loansIn (st .rows) (st .requests) ≡ loansLeft h (h .loans)
 -- an accepted call
 pub taken : {h : History} {c : Call} (o : Out) (n : ℕ) → refusalOf (o .answer) ≡ 0 → firstValue (valuesOf (o .answer)) ≡ n → Keeps h c o → (Inv (noteCall c n h) (o .after) → Settles (noteCall c n h) (o .after)) → LendsAfter h c o
 unfolding noteAnswer
-taken {h} {c} o n z e i f = record { after = rw (z, e) (record { lends = unfold settled withLoans in f (unsettled-inv (noteCall c n h) (o .after) (rw (z, e) at (i .inv))) }) }
+taken {h} {c} o n z e i f = record { after = rw (z, e) (record { lends = unfold loansSettled in f (unsettled-inv (noteCall c n h) (o .after) (rw (z, e) at (i .inv))) }) }
 
 pub taken-done : {h : History} {c : Call} (st : State) → Keeps h c (done st) → (Inv (noteCall c 0 h) st → Settles (noteCall c 0 h) st) → LendsAfter h c (done st)
 unfolding done refusalOf valuesOf firstValue

@@ -7,7 +7,7 @@ use Rattle.calls.specs.declared.Call.the-variants.{Go, Hold, Register, Drop, Po
 use Rattle.calls.specs.Calls.{perform}
 use Rattle.text.specs.declared.Reading.the-variants.{Asks}
 use Rattle.text.specs.Entry.{callerUnlisted, answered}
-use Rattle.history.specs.Notes.{History}
+use Rattle.history.specs.History.{History}
 use Rattle.history.proofs.Inv.{Inv, Lends, noteAnswer}
 use Rattle.history.proofs.Keeps.{Keeps}
 use Rattle.history.proofs.StepsInv.{GoodCall, call-inv}

@@ -19,13 +19,15 @@ use Rattle.rows.proofs.Picked.{first-here, first-other, older-other}
 use Rattle.rows.proofs.Sound.{Sound}
 use Rattle.rows.proofs.SoundFacts.{row-number}
 use Rattle.rows.proofs.Lists.{member-filter}
-use Rattle.closing.specs.Closing.{closes, oldestListing, placedIn, returned, settled, closing, closeRequest}
+use Rattle.closing.specs.Closing.{closes, oldestListing, returned, settled, closing, closeRequest}
+use Rattle.rows.specs.Setters.{withPlace}
 use Rattle.closing.proofs.KeptLookups.{row-after}
 use Rattle.calls.specs.declared.Answer.the-variants.{Done}
 use Rattle.calls.specs.declared.Call.the-variants.{Revoke}
 use Rattle.calls.specs.Answers.{refusalOf}
 use Rattle.calls.specs.Calls.{doRevoke}
-use Rattle.history.specs.Notes.{OnLoan, History, noLoan, loanOf, stands, isClosed, withLoans, settled as settling, noteRevoke}
+use Rattle.history.specs.History.{OnLoan, History}
+use Rattle.history.specs.Notes.{noLoan, loanOf, stands, isClosed, loansSettled as settling, noteRevoke}
 use Rattle.history.specs.Reading.{noteCall}
 use Rattle.history.specs.Chains.{aRequest, Gone, HasOnLoan}
 use Rattle.history.specs.Demand3.{ClosedWith, Returned}
@@ -170,8 +172,8 @@ module _ (h h′ : History) (st : State) (g : List ℕ) (f : Request → Bool) (
       }
 
   returned-place : (r : Row) → r .number ≡ e → some (oldestListing f e (st .requests) .number) ≡ true → returned f (st .requests) r .place ≡ inClist (oldestListing f e (st .requests) .asker)
-  unfolding returned placedIn
-  returned-place r n z = ap (λ k. (let w = oldestListing f k (st .requests) in if some (w .number) then placedIn (inClist (w .asker)) r else r) .place) n ∙ rw z refl
+  unfolding returned withPlace
+  returned-place r n z = ap (λ k. (let w = oldestListing f k (st .requests) in if some (w .number) then withPlace (inClist (w .asker)) r else r) .place) n ∙ rw z refl
 
   -- the oldest of them in the tables is the oldest in the history
   oldest : (q : ℕ) → ClosedWith h h′ e q → ((v : ℕ) → ClosedWith h h′ e v → q ≤ v) → (some (oldestListing f e (st .requests) .number) ≡ true) × (oldestListing f e (st .requests) ≡ requestOf (st .requests) q)
@@ -203,7 +205,7 @@ revoke-returned h st i l s p q a e v up c least =
     let r = revoked h st i s p q a in
     let i′ : Inv h′ (closeRequest q st) = settled-inv (noteRevoke q h) (closeRequest q st) (r .inv) in
     ap (λ st′. rowOf (st′ .rows) e .place) (r .after)
-    ∙ (unfold closeRequest closing in placed h h′ st g (closes (q ∷ []) g) i l s (unfold closeRequest closing in i′) (unfold settling withLoans noteRevoke in refl) e v (stands-chains h′ (i′ .fit) e .1 up) c least)
+    ∙ (unfold closeRequest closing in placed h h′ st g (closes (q ∷ []) g) i l s (unfold closeRequest closing in i′) (unfold settling noteRevoke in refl) e v (stands-chains h′ (i′ .fit) e .1 up) c least)
   where
     h′ : History
     h′ = settling (noteRevoke q h)

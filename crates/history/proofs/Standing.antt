@@ -9,7 +9,8 @@ use native.Mathlib.Omega.{arith}
 use Rattle.rows.specs.Lists.{all, member, some}
 use Rattle.rows.proofs.Bools.{true-of, clash, and-l, and-r, not-t, or-r, or-cases, some-pos, all-at, eqb-sym-f, member-here}
 use Rattle.rows.proofs.Keyed.{all-first}
-use Rattle.history.specs.Notes.{Noted, History, noted, nothingNoted, notedOf, loanOf, spoiled, stands, isClosed}
+use Rattle.history.specs.History.{Noted, History}
+use Rattle.history.specs.Notes.{noted, nothingNoted, notedOf, loanOf, spoiled, stands, isClosed}
 use Rattle.history.specs.Chains.{Thing, aRow, aRequest, aPort, IsNoted, IsText, IsSource, Chain, ends, leads, RowUses, Uses, IsPort, AskedOver, Gone, rowDropped, requestClosed, portClosed, operationFell, portFell, Stands}
 use Rattle.history.proofs.Fit.{Fit, isEmpty, rooted}
 use Rattle.history.proofs.Sweep.{rising, sourced, rising-rest, rising-fresh, sourced-rest, sourced-first, sourced-at, other, in-rest, noted-here, noted-other}

@@ -18,7 +18,8 @@ use Rattle.text.specs.Entry.{stateOpened}
 use Rattle.text.proofs.OpeningForms.{opening-good}
 use Rattle.text.proofs.OpeningRecords.{isHome, opened-home}
 use Rattle.text.proofs.Opening.{opened-requests}
-use Rattle.history.specs.Notes.{Noted, noted, spoiled, survives, sweep, standing, openLoans, lastGo, wentNowhere}
+use Rattle.history.specs.History.{Noted}
+use Rattle.history.specs.Notes.{noted, spoiled, survives, sweep, standing, openLoans, lastGo, wentNowhere}
 use Rattle.history.specs.Reading.{entryCount, downFrom, textRows, begunWith, begunBy, begun}
 use Rattle.history.proofs.Fit.{Fit, rooted, isEmpty, bearsWell, endsWell}
 use Rattle.history.proofs.Inv.{Inv, Lends, below, throughNow, loansIn}

@@ -15,10 +15,11 @@ use Rattle.rows.proofs.Sound.{Sound}
 use Rattle.rows.proofs.RowSources.{node-there}
 use Rattle.rows.proofs.SoundFacts.{row-below, active-node}
 use Rattle.calls.specs.declared.Call.the-variants.{Hold, Register, Port}
-use Rattle.calls.specs.Rules.{withRows, copyOf}
+use Rattle.calls.specs.Rules.{withNewRows, copyOf}
 use Rattle.calls.specs.Calls.{withHeld, doHold, withRegistered, doRegister, portEnd, withPort, doPort}
 use Rattle.calls.proofs.Stand.{held-there}
-use Rattle.history.specs.Notes.{History, notedOf, stands, lastGo, addRow, heldSources, noteHold, firstOnly, noteRegister, notePort}
+use Rattle.history.specs.History.{History}
+use Rattle.history.specs.Notes.{notedOf, stands, lastGo, addRow, heldSources, noteHold, firstOnly, noteRegister, notePort}
 use Rattle.history.specs.Reading.{noteCall}
 use Rattle.history.proofs.Fit.{isEmpty, bearsWell, endsWell}
 use Rattle.history.proofs.Inv.{Inv, view, throughNow}
@@ -37,7 +38,7 @@ unfolding bearsWell endsWell some
 plain-fits h n ss e = record { sources-there = e; bears = refl; ends = refl }
 
 add-plain : (h : History) (st : State) (r : Row) (ss : List ℕ) → Inv h st → view r ≡ newNoted (st .next) ss 0 0 → isEmpty ss ≡ false → all (λ s. stands h s) ss ≡ true
-    → Inv (addRow (st .next) ss 0 0 h) (withRows (r ∷ st .rows) (suc (st .next)) st)
+    → Inv (addRow (st .next) ss 0 0 h) (withNewRows (r ∷ st .rows) (suc (st .next)) st)
 add-plain h st r ss i v e older = add-row h st r ss 0 0 i v older (unfold some in refl) (unfold some in refl) (plain-fits h (st .next) ss e)
 
 one-source : (a : ℕ) → 0 < a → nonzero (a ∷ 0 ∷ []) ≡ a ∷ []
@@ -153,7 +154,7 @@ module _ (h : History) (st : State) (i : Inv h st) (s : Sound st) where
 
   -- ---- port
   port-inv : (p e d : ℕ) → member e (numbers (st .rows)) ≡ true → Inv (notePort e (st .next) h) (withPort st p e d)
-  unfolding notePort withPort withRows addRow
+  unfolding notePort withPort withNewRows addRow
   port-inv p e d t =
       let n = st .next in
       let lo : 0 < e = row-below st s e t .0 in
@@ -161,9 +162,9 @@ module _ (h : History) (st : State) (i : Inv h st) (s : Sound st) where
       let cn : some n && member n (h .closedPorts) ≡ false = and-rf (some n) (member n (h .closedPorts)) (not-below n (h .closedPorts) (i .ports-below)) in
       let client = portEnd clientEnd n n (inClist p) e d in
       let h₁ = addRow n (e ∷ []) 0 n h in
-      let i₁ : Inv h₁ (withRows (client ∷ st .rows) (suc n) st) = add-row h st client (e ∷ []) 0 n i (client-view n (inClist p) e d lo) (one-stands h e up) (unfold some in refl) cn (client-fits h n e) in
+      let i₁ : Inv h₁ (withNewRows (client ∷ st .rows) (suc n) st) = add-row h st client (e ∷ []) 0 n i (client-view n (inClist p) e d lo) (one-stands h e up) (unfold some in refl) cn (client-fits h n e) in
       let up₁ : stands h₁ e ≡ true = stands-same h n (e ∷ []) 0 n (not-below n (h .dropped) (i .dropped-below)) (unfold some in refl) cn (one-stands h e up) e (stands-low h st i e up .1) ∙ up in
-      add-row h₁ (withRows (client ∷ st .rows) (suc n) st) (portEnd serverEnd (suc n) n (inClist (rowOf (st .rows) e .object)) e d) (e ∷ []) 0 n i₁
+      add-row h₁ (withNewRows (client ∷ st .rows) (suc n) st) (portEnd serverEnd (suc n) n (inClist (rowOf (st .rows) e .object)) e d) (e ∷ []) 0 n i₁
       (server-view n (inClist (rowOf (st .rows) e .object)) e d lo) (one-stands h₁ e up₁) (unfold some in refl) cn (server-fits h n e)
 
   pub port-keeps : (p e : ℕ) → Keeps h (Port p e) (doPort st p e)

@@ -14,16 +14,17 @@ use Rattle.rows.proofs.Bools.{and-l, and-i, not-f, or-r, or-fl, or-fr, all-mono
 use Rattle.rows.proofs.Keyed.{first-there, rises-range, rises-cons}
 use Rattle.rows.proofs.Sound.{Sound}
 use Rattle.rows.proofs.SoundFacts.{row-below}
-use Rattle.closing.specs.Closing.{placedIn}
+use Rattle.rows.specs.Setters.{withPlace}
 use Rattle.calls.specs.declared.Item.{Item}
 use Rattle.calls.specs.declared.Items.{Items}
 use Rattle.calls.specs.declared.Call.the-variants.{Ask}
-use Rattle.calls.specs.Rules.{notHeld, withRows}
+use Rattle.calls.specs.Rules.{notHeld, withNewRows}
 use Rattle.calls.specs.Loans.{itemsOf, itemRow, moves, copyDepth, copyLent, Lending, toSystem, lendEnd, lendCopy, lendItem, lendItems, lent, newRequest, withRequest}
 use Rattle.calls.specs.Calls.{doAsk}
 use Rattle.calls.proofs.Stand.{held-there}
 use Rattle.calls.proofs.KeptMoved.{moved, moved-same}
-use Rattle.history.specs.Notes.{Noted, Loan, OnLoan, History, noted, notedOf, noLoan, loanOf, spoiled, standing, stands, isClosed, openLoans, addRow, endsNamed, copiesNoted, copied, noteAsk}
+use Rattle.history.specs.History.{withNoted, withRequests, withLoans, Noted, Loan, OnLoan, History}
+use Rattle.history.specs.Notes.{noted, notedOf, noLoan, loanOf, spoiled, standing, stands, isClosed, openLoans, addRow, endsNamed, copiesNoted, copied, noteAsk}
 use Rattle.history.specs.Reading.{itemsNamed, noteCall}
 use Rattle.history.proofs.Fit.{isEmpty, bearsWell, endsWell, portNoted, Fit}
 use Rattle.history.proofs.Inv.{Inv, view, ofRequest, ofLoan, throughNow}
@@ -37,7 +38,7 @@ use Rattle.history.proofs.StepAdd.{view-copy}
 -- h with the rows rs and the request v
 abbrev noting : List Noted → Loan → List OnLoan → History → History
 noting rs v os h =
-    record { text = h .text; rows = rs; requests = v ∷ h .requests; dropped = h .dropped; closedPorts = h .closedPorts; closedRequests = h .closedRequests; went = h .went; loans = os }
+    withNoted rs (withRequests (v ∷ h .requests) (withLoans os h))
 
 loan-there : (vs : List Loan) (q : ℕ) → 0 < q → eqb (loanOf vs q .number) q ≡ true → member q (map (λ v. v .number) vs) ≡ true
 unfolding loanOf noLoan
@@ -141,7 +142,7 @@ module _ (h : History) (st : State) (i : Inv h st) (p c : ℕ) (es : List ℕ) (
 -- ---- one item
 system-view : (e : ℕ) (r : Row) → view (toSystem e r) ≡ view r
 unfolding toSystem moved
-system-view e r = moved-same (λ n. eqb n e) withSystem view (λ r. unfold view placedIn sources in refl) r
+system-view e r = moved-same (λ n. eqb n e) withSystem view (λ r. unfold view withPlace sources in refl) r
 
 two-sources : (a b : ℕ) → 0 < a → 0 < b → nonzero (a ∷ b ∷ []) ≡ a ∷ b ∷ []
 unfolding nonzero filter
@@ -171,7 +172,7 @@ module _ (h : History) (st : State) (i : Inv h st) (s : Sound st) (p c : ℕ) (e
 
   lent-copy : (x : Item) (l : Lending) (rs : List Noted) → member (x .row) (numbers (st .rows)) ≡ true → moves st x ≡ false → Joint h st p c es os l rs
       → Joint h st p c es os (lendCopy st c (st .next) x l) (newNoted (l .next) (x .row ∷ c ∷ []) (st .next) 0 ∷ rs)
-  unfolding lendCopy copyLent moves addRow withRows
+  unfolding lendCopy copyLent moves addRow withNewRows
   lent-copy x l rs t end j =
       let hl = noting rs (loanBy st p c es) os h in
       let a = x .row in
@@ -179,7 +180,7 @@ module _ (h : History) (st : State) (i : Inv h st) (s : Sound st) (p c : ℕ) (e
       let qn : some (st .next) && member (st .next) (h .closedRequests) ≡ false = and-rf (some (st .next)) (member (st .next) (h .closedRequests)) (not-below (st .next) (h .closedRequests) (i .closed-below)) in
       let v : view (copyLent st c (st .next) (l .next) x) ≡ newNoted (l .next) (a ∷ c ∷ []) (st .next) 0 = view-copy (itemRow st x) (l .next) (x .rights) withSystem a c (copyDepth st c x) (st .next) end ∙ ap (λ ss. newNoted (l .next) ss (st .next) 0) (two-sources a c (row-below st s a t .0) (row-below st s c there .0)) in
       record {
-        inv = seen-inv (noting (newNoted (l .next) (a ∷ c ∷ []) (st .next) 0 ∷ rs) (loanBy st p c es) os h) (withRows (copyLent st c (st .next) (l .next) x ∷ l .rows) (suc (l .next)) (lending st p c l)) (lending st p c (lendCopy st c (st .next) x l)) refl (unfold newRequest ofRequest in refl) refl refl
+        inv = seen-inv (noting (newNoted (l .next) (a ∷ c ∷ []) (st .next) 0 ∷ rs) (loanBy st p c es) os h) (withNewRows (copyLent st c (st .next) (l .next) x ∷ l .rows) (suc (l .next)) (lending st p c l)) (lending st p c (lendCopy st c (st .next) x l)) refl (unfold newRequest ofRequest in refl) refl refl
             (add-row hl (lending st p c l) (copyLent st c (st .next) (l .next) x) (a ∷ c ∷ []) (st .next) 0 (j .inv) v older qn (unfold some in refl) (copy-fits hl (st .next) (l .next) a (loanBy st p c es) (h .requests) refl refl));
         still = λ k e.
             let up : stands hl k ≡ true = j .still k e in

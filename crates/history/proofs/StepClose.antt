@@ -19,7 +19,8 @@ use Rattle.closing.specs.Closing.{closeRequest, isEndOf, closePort, isRow, drop
 use Rattle.calls.specs.declared.Call.the-variants.{Drop, Close, Reply, Refuse, Revoke}
 use Rattle.calls.specs.Calls.{doDrop, doClose, doReply, doRefuse, doRevoke}
 use Rattle.calls.proofs.Stand.{held-there}
-use Rattle.history.specs.Notes.{Noted, History, noLoan, notedOf, spoiled, stands, openLoans, openRequest, noteDrop, noteClose, noteRevoke, noteEnd}
+use Rattle.history.specs.History.{Noted, History}
+use Rattle.history.specs.Notes.{noLoan, notedOf, spoiled, stands, openLoans, openRequest, noteDrop, noteClose, noteRevoke, noteEnd}
 use Rattle.history.specs.Reading.{noteCall}
 use Rattle.history.proofs.Inv.{Inv, view, ofRequest, ofLoan, noOpen}
 use Rattle.history.proofs.Keeps.{fit-same, Keeps, unless, taken-done}

@@ -17,16 +17,17 @@ use Rattle.rows.specs.Codes.{isSubdirectory, inClist}
 use Rattle.rows.specs.Tables.{State, noProcess, rowOf, openOn, processAt, isListed, sources, lists}
 use Rattle.rows.proofs.Bools.{clash, some-pos, none-zero}
 use Rattle.rows.proofs.SoundFacts.{listed-has-record}
-use Rattle.closing.specs.Closing.{placedIn}
+use Rattle.rows.specs.Setters.{withPlace}
 use Rattle.calls.specs.declared.Call.the-variants.{Go, Fetch, Comes}
 use Rattle.calls.specs.Answers.{refusalOf, valuesOf}
 use Rattle.calls.specs.Rules.{refusedIf, notHeld, withRecord}
-use Rattle.calls.specs.Loans.{handedTo, nowFetched, withFetched}
+use Rattle.calls.specs.Loans.{handedTo, nowFetched, handedOver}
 use Rattle.calls.specs.Calls.{done, goHome, goThrough, doGo, fetchedAnswer, doFetch, doComes}
 use Rattle.calls.proofs.Stand.{held-there}
 use Rattle.calls.proofs.KeptMoved.{moved, moved-same}
 use Rattle.calls.proofs.KeptLoans.{now-same}
-use Rattle.history.specs.Notes.{Went, History, spoiled, standing, stands, isClosed, openLoans, wentNowhere, lastGo, noteGo}
+use Rattle.history.specs.History.{Went, History}
+use Rattle.history.specs.Notes.{spoiled, standing, stands, isClosed, openLoans, wentNowhere, lastGo, noteGo}
 use Rattle.history.specs.Reading.{noteCall}
 use Rattle.history.proofs.Inv.{Inv, view, ofRequest, ofLoan, throughNow, firstValue}
 use Rattle.history.proofs.Keeps.{fit-same, seen-inv, Keeps, unless, taken, taken-done}
@@ -139,15 +140,15 @@ module _ (h : History) (st : State) (i : Inv h st) where
   -- ---- fetch
   hand-view : (p : ℕ) (v : Request) (r : Row) → view (handedTo p v r) ≡ view r
   unfolding handedTo moved
-  hand-view p v r = moved-same (λ n. lists n v) (inClist p) view (λ r. unfold view placedIn sources in refl) r
+  hand-view p v r = moved-same (λ n. lists n v) (inClist p) view (λ r. unfold view withPlace sources in refl) r
 
   fetched-view : (q : ℕ) (v : Request) → ofRequest (nowFetched q v) ≡ ofRequest v
   fetched-view q v = now-same q ofRequest (λ n c a k is. unfold ofRequest in refl) v
 
-  fetched-inv : (p : ℕ) (v : Request) → Inv h (withFetched p v st)
-  unfolding withFetched
+  fetched-inv : (p : ℕ) (v : Request) → Inv h (handedOver p v st)
+  unfolding handedOver
   fetched-inv p v =
-      seen-inv h st (withFetched p v st) (map-through view (handedTo p v) (hand-view p v) (st .rows)) (map-through ofRequest (nowFetched (v .number)) (fetched-view (v .number)) (st .requests)) refl refl i
+      seen-inv h st (handedOver p v st) (map-through view (handedTo p v) (hand-view p v) (st .rows)) (map-through ofRequest (nowFetched (v .number)) (fetched-view (v .number)) (st .requests)) refl refl i
 
   pub fetch-keeps : (p e : ℕ) → Keeps h (Fetch p e) (doFetch st p e)
   unfolding doFetch noteCall fetchedAnswer refusalOf valuesOf firstValue

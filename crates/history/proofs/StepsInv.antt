@@ -9,7 +9,7 @@ use Rattle.calls.specs.declared.Call.the-variants.{Go, Hold, Register, Drop, Po
 use Rattle.calls.specs.Calls.{perform, callerOf}
 use Rattle.text.specs.declared.Reading.the-variants.{Asks}
 use Rattle.text.specs.Entry.{callerUnlisted, answered}
-use Rattle.history.specs.Notes.{History}
+use Rattle.history.specs.History.{History}
 use Rattle.history.proofs.Inv.{Inv, noteAnswer}
 use Rattle.history.proofs.Keeps.{Keeps, unless}
 use Rattle.history.proofs.StepAdd.{hold-keeps, register-keeps, port-keeps}

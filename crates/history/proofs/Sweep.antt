@@ -8,7 +8,8 @@ use borrow.Author.Tests.{eqb-true, eq-eqb}
 use Rattle.rows.specs.Lists.{all, each, firstWith, rises, member}
 use Rattle.rows.proofs.Bools.{false-of, clash, and-l, and-r, and-i, not-t, or-map, or-r, all-mono, all-eq-on, eqb-sym-f}
 use Rattle.rows.proofs.Keyed.{rises-rest, rises-fresh}
-use Rattle.history.specs.Notes.{Noted, noted, nothingNoted, notedOf, survives, sweep}
+use Rattle.history.specs.History.{Noted}
+use Rattle.history.specs.Notes.{noted, nothingNoted, notedOf, survives, sweep}
 
 -- ---- the two conditions: numbers rise, and sources are noted and older
 abbrev pub rising : List Noted → Bool

@@ -15,7 +15,8 @@ use Rattle.calls.specs.declared.Answer.{Answer}
 use Rattle.calls.specs.declared.Answer.the-variants.{Done, Made, Fetched, Told, Refused}
 use Rattle.calls.specs.Rules.{Out, refusedIf}
 use Rattle.calls.specs.Calls.{done, doRevoke}
-use Rattle.history.specs.Notes.{History, stands, noteRevoke}
+use Rattle.history.specs.History.{History}
+use Rattle.history.specs.Notes.{stands, noteRevoke}
 use Rattle.history.specs.Chains.{ComesFrom}
 use Rattle.history.specs.Demand3.{InTables, Vanished}
 use Rattle.history.proofs.Inv.{Inv}

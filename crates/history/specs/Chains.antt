@@ -5,7 +5,8 @@ use mathlib.Core.Path.{_≡_}
 use mathlib.Core.Logic.{_⊎_}
 use lib.Dec.{eqb}
 use Rattle.rows.specs.Lists.{any, member}
-use Rattle.history.specs.Notes.{History, noted, notedOf, loanOf}
+use Rattle.history.specs.History.{History}
+use Rattle.history.specs.Notes.{noted, notedOf, loanOf}
 
 -- what can be dropped or closed
 pub data Thing : Type 0 where

@@ -14,7 +14,8 @@ use Rattle.calls.specs.declared.Call.the-variants.{Revoke}
 use Rattle.text.specs.declared.Reading.the-variants.{Asks}
 use Rattle.text.specs.CallLines.{readingOf}
 use Rattle.text.specs.Entry.{Replied, openEntry, callEntry}
-use Rattle.history.specs.Notes.{History, loanOf, stands, isClosed}
+use Rattle.history.specs.History.{History}
+use Rattle.history.specs.Notes.{loanOf, stands, isClosed}
 use Rattle.history.specs.Reading.{begun, accepts, noteLine, historyAfter}
 use Rattle.history.specs.Chains.{aRequest, aPort, IsPort, AskedOver, Gone, Stands, ComesFrom, HasOnLoan}
 

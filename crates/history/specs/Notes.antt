@@ -5,41 +5,7 @@ use mathlib.Core.List.{List, [], _∷_, _++_, map}
 use lib.Dec.{eqb}
 use Rattle.rows.specs.Lists.{if_then_else_, filter, any, all, firstWith, member, some}
 use Rattle.calls.specs.declared.Item.{Item}
-
--- a row noted: its sources, the request that it bears and the port that it is an end of, 0 for none
-pub record Noted : Type 0 where
-  pub number : ℕ
-  pub sources : List ℕ
-  pub request : ℕ
-  pub port : ℕ
-
--- "request v, lender p, port c, the ends named"
-pub record Loan : Type 0 where
-  pub number : ℕ
-  pub lender : ℕ
-  pub port : ℕ
-  pub ends : List ℕ
-
--- "Each process's last accepted `go` is kept."
-pub record Went : Type 0 where
-  pub process : ℕ
-  pub through : ℕ
-
--- a request has an end on loan
-pub record OnLoan : Type 0 where
-  pub request : ℕ
-  pub lent : ℕ
-
--- All newest first. `text`: the rows of the text. `dropped`, `closedPorts`, `closedRequests`: by a call.
-pub record History : Type 0 where
-  pub text : List ℕ
-  pub rows : List Noted
-  pub requests : List Loan
-  pub dropped : List ℕ
-  pub closedPorts : List ℕ
-  pub closedRequests : List ℕ
-  pub went : List Went
-  pub loans : List OnLoan
+use Rattle.history.specs.History.{Noted, Loan, Went, OnLoan, History, withNoted, withRequests, withDropped, withClosedPorts, withClosedRequests, withWent, withLoans}
 
 -- ---- look-up
 unfoldable pub noted : List Noted → List ℕ
@@ -102,18 +68,13 @@ unfoldable pub loansLeft : History → List OnLoan → List OnLoan
 loansLeft h [] = []
 loansLeft h (o ∷ older) = if staysOnLoan h older o then o ∷ loansLeft h older else loansLeft h older
 
-unfoldable pub withLoans : History → List OnLoan → History
-withLoans h os =
-    record { text = h .text; rows = h .rows; requests = h .requests; dropped = h .dropped; closedPorts = h .closedPorts; closedRequests = h .closedRequests; went = h .went; loans = os }
-
 -- ends whose loan is over go from the list
-unfoldable pub settled : History → History
-settled h = withLoans h (loansLeft h (h .loans))
+unfoldable pub loansSettled : History → History
+loansSettled h = withLoans (loansLeft h (h .loans)) h
 
 -- ---- notes
 unfoldable pub addRow : ℕ → List ℕ → ℕ → ℕ → History → History
-addRow n ss q c h =
-    record { text = h .text; rows = record { number = n; sources = ss; request = q; port = c } ∷ h .rows; requests = h .requests; dropped = h .dropped; closedPorts = h .closedPorts; closedRequests = h .closedRequests; went = h .went; loans = h .loans }
+addRow n ss q c h = withNoted (record { number = n; sources = ss; request = q; port = c } ∷ h .rows) h
 
 unfoldable pub wentNowhere : Went
 wentNowhere = record { process = 0; through = 0 }
@@ -122,8 +83,7 @@ unfoldable pub lastGo : List Went → ℕ → ℕ
 lastGo ws p = firstWith (λ w. w .process) wentNowhere ws p .through
 
 unfoldable pub noteGo : ℕ → ℕ → History → History
-noteGo p e h =
-    record { text = h .text; rows = h .rows; requests = h .requests; dropped = h .dropped; closedPorts = h .closedPorts; closedRequests = h .closedRequests; went = record { process = p; through = e } ∷ h .went; loans = h .loans }
+noteGo p e h = withWent (record { process = p; through = e } ∷ h .went) h
 
 -- "row n with source s, and e too if p's last `go` was `go e` and e stands"
 unfoldable pub heldSources : History → ℕ → ℕ → List ℕ
@@ -161,29 +121,19 @@ copied rs is = filter (λ i. not (isEndNoted rs i)) is
 unfoldable pub noteAsk : ℕ → ℕ → List Item → ℕ → History → History
 noteAsk p c is v h =
     let es = endsNamed (h .rows) is in
-    record {
-      text = h .text;
-      rows = copiesNoted v c (suc v) (copied (h .rows) is) (h .rows);
-      requests = record { number = v; lender = p; port = c; ends = es } ∷ h .requests;
-      dropped = h .dropped;
-      closedPorts = h .closedPorts;
-      closedRequests = h .closedRequests;
-      went = h .went;
-      loans = map (λ e. record { request = v; lent = e }) es ++ h .loans;
-    }
+    withNoted (copiesNoted v c (suc v) (copied (h .rows) is) (h .rows))
+    (withRequests (record { number = v; lender = p; port = c; ends = es } ∷ h .requests)
+    (withLoans (map (λ e. record { request = v; lent = e }) es ++ h .loans) h))
 
 -- "`drop e`: e dropped. `close c`: port c closed. `revoke q`: q closed."
 unfoldable pub noteDrop : ℕ → History → History
-noteDrop e h =
-    record { text = h .text; rows = h .rows; requests = h .requests; dropped = e ∷ h .dropped; closedPorts = h .closedPorts; closedRequests = h .closedRequests; went = h .went; loans = h .loans }
+noteDrop e h = withDropped (e ∷ h .dropped) h
 
 unfoldable pub noteClose : ℕ → History → History
-noteClose c h =
-    record { text = h .text; rows = h .rows; requests = h .requests; dropped = h .dropped; closedPorts = c ∷ h .closedPorts; closedRequests = h .closedRequests; went = h .went; loans = h .loans }
+noteClose c h = withClosedPorts (c ∷ h .closedPorts) h
 
 unfoldable pub noteRevoke : ℕ → History → History
-noteRevoke q h =
-    record { text = h .text; rows = h .rows; requests = h .requests; dropped = h .dropped; closedPorts = h .closedPorts; closedRequests = q ∷ h .closedRequests; went = h .went; loans = h .loans }
+noteRevoke q h = withClosedRequests (q ∷ h .closedRequests) h
 
 -- "`reply v`, `refuse v`: the open request on port v - 1 closed."
 unfoldable pub noteEnd : ℕ → History → History

@@ -14,7 +14,8 @@ use Rattle.text.specs.declared.Reading.the-variants.{Asks, Crowded, Refused}
 use Rattle.text.specs.Patterns.{form}
 use Rattle.text.specs.CallLines.{readingOf}
 use Rattle.text.specs.Opening.{Form, nodeForm, processForm, Opening, opens, refusedAt, linesOf, openingOf}
-use Rattle.history.specs.Notes.{Noted, History, settled, noteGo, noteHold, noteRegister, notePort, noteAsk, noteDrop, noteClose, noteRevoke, noteEnd}
+use Rattle.history.specs.History.{Noted, History}
+use Rattle.history.specs.Notes.{loansSettled, noteGo, noteHold, noteRegister, notePort, noteAsk, noteDrop, noteClose, noteRevoke, noteEnd}
 
 -- ---- "It begins with the rows of the text, numbered as there."
 unfoldable pub entryCount : List Form → ℕ
@@ -67,7 +68,7 @@ noteCall (Revoke p q) n h = noteRevoke q h
 noteCall (Comes e q) n h = h
 
 unfoldable pub noteReading : Reading → ℕ → History → History
-noteReading (Asks c) n h = settled (noteCall c n h)
+noteReading (Asks c) n h = loansSettled (noteCall c n h)
 noteReading (Crowded p) n h = h
 noteReading (Refused k) n h = h
 

@@ -13,15 +13,15 @@ use Rattle.rows.specs.Limits.{rowSlots, requestSlots}
 use Rattle.rows.specs.Tables.{State, lists, onLoan}
 use Rattle.rows.specs.Sound.{itemsFew}
 use Rattle.rows.specs.Layout.{rowColumns, requestColumns, requestsAt, requestField, requestAt, requestsTo, requestsIn}
-use Rattle.rows.specs.Lies.{Lies}
+use Rattle.rows.specs.contracts.Represents.{Represents}
 use Rattle.rows.proofs.Bools.{any-eq}
 use Rattle.rows.proofs.LayoutRequests.{requests-back}
-use Rattle.rows.proofs.LiesWords.{lies-well, lies-requests, lies-request}
+use Rattle.rows.proofs.RepresentedWords.{represented-well, represented-requests, represented-request}
 
--- the requests are read back from the words in which a state lies
-pub requests-read : {st : State} {t : List ℕ} → Lies st t → requestsTo t (requestsIn t) ≡ st .requests
+-- the requests are read back from the words that represent a state
+pub requests-read : {st : State} {t : List ℕ} → Represents t st → requestsTo t (requestsIn t) ≡ st .requests
 unfolding itemsFew requestSlots requestsAt rowColumns rowSlots requestColumns
-requests-read {st} {t} lie = rw (lies-requests lie) (requests-back t (st .requests) (lies-well lie .requests-fit) (lies-request lie) (lies-well lie .items-few))
+requests-read {st} {t} rep = rw (represented-requests rep) (requests-back t (st .requests) (represented-well rep .requests-fit) (represented-request rep) (represented-well rep .items-few))
 
 -- the four items of a slot
 at-column : (t : List ℕ) (c j n : ℕ) → 10240 + (c * 128 + j) ≡ n → requestField t c j ≡ getD t n 0
@@ -58,6 +58,6 @@ module _ (t : List ℕ) (e : ℕ) where
   unfolding listedTo any requestsTo
   listed-more j here found h f = rw (add-one j, h, f) refl
 
-  pub listed-loan : (found : Bool) → found ≡ listedTo (requestsIn t) → (st : State) → Lies st t → some e ≡ true → found ≡ onLoan (st .requests) e
+  pub listed-loan : (found : Bool) → found ≡ listedTo (requestsIn t) → (st : State) → Represents t st → some e ≡ true → found ≡ onLoan (st .requests) e
   unfolding listedTo onLoan lists
-  listed-loan found f st lie pos = f ∙ rw (requests-read lie) (any-eq listed (lists e) (λ v. rw pos refl) (st .requests))
+  listed-loan found f st rep pos = f ∙ rw (requests-read rep) (any-eq listed (lists e) (λ v. rw pos refl) (st .requests))

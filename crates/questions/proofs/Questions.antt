@@ -15,62 +15,63 @@ use Rattle.rows.specs.Limits.{greatestDepth}
 use Rattle.rows.specs.Codes.{operation, subdirectory, clientEnd, isOperation, isSubdirectory, isClient, isEnd, isCopied}
 use Rattle.rows.specs.Tables.{State, noRow, rowOf, numbers, sources, depthOver, reaches, marked, bears, comesFrom, onLoan, lentItself, isLent}
 use Rattle.rows.specs.Sound.{rowsRise, sound, isOpening, isRegistered, isHeld, isPortEnd, isLentCopy, sourceRight, sourcesRight, depthRight, depthsRight}
-use Rattle.rows.specs.Lies.{Lies, rowSlot}
-use Rattle.questions.specs.Questions.{touches, Touched, Reaches, ViaReaches, PortReaches}
+use Rattle.rows.specs.contracts.Represents.{Represents}
+use Rattle.rows.specs.Layout.{rowSlot}
+use Rattle.questions.specs.contracts.Questions.{touches, Touched, Reaches, ViaReaches, PortReaches}
 use Rattle.rows.proofs.Bools.{false-of, clash, and-l, and-r, or-r, or-false, some-pos, pos-some, any-eq}
 use Rattle.rows.proofs.Keyed.{olderOf, each-first, older-first, older-key, rises-range}
 use Rattle.rows.proofs.Sound.{Sound, sound-open}
 use Rattle.rows.proofs.RowSources.{Among, Shape, opening, registered, held, port-end, lent-copy, shape, shape-sources}
 use Rattle.rows.proofs.Marking.{marked-stands, marked-reaches, marked-closed}
 use Rattle.rows.proofs.Standing.{standing-shape, sources-older}
-use Rattle.rows.proofs.Slots.{slot-le, slot-there, lies-well, row-found, row-words, source-of, via-of}
+use Rattle.rows.proofs.Slots.{slot-le, slot-there, represented-well, row-found, row-words, source-of, via-of}
 
 -- ---- what is asked of the row in slot i, in its words
 module _ (t : List ℕ) (i q : ℕ) where
   pub touched-bears : (q ≡ 0 → ⊥) → Touched t i q (eqb (getD t (9216 + i) 0) q)
   unfolding Touched touches bears
-  touched-bears h st n lie e = rw (pos-some q (omega arith), row-words lie n i e .request) refl
+  touched-bears h st n rep e = rw (pos-some q (omega arith), row-words rep n i e .request) refl
 
   -- lent itself, where q is 0
-  lent-itself : (r : Bool) → q ≡ 0 → ((st : State) (n : ℕ) → Lies st t → rowSlot (st .rows) n ≡ suc i → r ≡ lentItself (st .requests) (rowOf (st .rows) n)) → Touched t i q r
+  lent-itself : (r : Bool) → q ≡ 0 → ((st : State) (n : ℕ) → Represents t st → rowSlot (st .rows) n ≡ suc i → r ≡ lentItself (st .requests) (rowOf (st .rows) n)) → Touched t i q r
   unfolding Touched touches some
-  lent-itself r z h st n lie e = rw z (h st n lie e)
+  lent-itself r z h st n rep e = rw z (h st n rep e)
 
   pub touched-bearing : q ≡ 0 → (getD t (9216 + i) 0 ≡ 0 → ⊥) → Touched t i q true
   unfolding lentItself
   touched-bearing z h =
       lent-itself true z
-      (λ st n lie e.
+      (λ st n rep e.
       let r = rowOf (st .rows) n in
-      let w = row-words lie n i e .request in
+      let w = row-words rep n i e .request in
       sym (or-r (isEnd (r .kind) && onLoan (st .requests) (r .number)) (some (r .request)) (pos-some (r .request) (omega arith))))
 
   -- not bearing a request: an end on loan
   no-request : (r : Bool) → q ≡ 0 → getD t (9216 + i) 0 ≡ 0
-      → ((st : State) (n : ℕ) → Lies st t → rowSlot (st .rows) n ≡ suc i → r ≡ isEnd (getD t (1024 + i) 0) && onLoan (st .requests) (rowOf (st .rows) n .number))
+      → ((st : State) (n : ℕ) → Represents t st → rowSlot (st .rows) n ≡ suc i → r ≡ isEnd (getD t (1024 + i) 0) && onLoan (st .requests) (rowOf (st .rows) n .number))
       → Touched t i q r
   unfolding lentItself some
   no-request r z h d =
       lent-itself r z
-      (λ st n lie e.
-      let w = row-words lie n i e in
+      (λ st n rep e.
+      let w = row-words rep n i e in
       let none : rowOf (st .rows) n .request ≡ 0 = sym (w .request) ∙ h in
-      rw (none, ← w .kind) (d st n lie e ∙ sym (or-false (isEnd (getD t (1024 + i) 0) && onLoan (st .requests) (rowOf (st .rows) n .number)))))
+      rw (none, ← w .kind) (d st n rep e ∙ sym (or-false (isEnd (getD t (1024 + i) 0) && onLoan (st .requests) (rowOf (st .rows) n .number)))))
 
   pub touched-loan : (r : Bool) → q ≡ 0 → getD t (9216 + i) 0 ≡ 0 → isEnd (getD t (1024 + i) 0) ≡ true
-      → ((st : State) → Lies st t → some (getD t (0 + i) 0) ≡ true → r ≡ onLoan (st .requests) (getD t (0 + i) 0))
+      → ((st : State) → Represents t st → some (getD t (0 + i) 0) ≡ true → r ≡ onLoan (st .requests) (getD t (0 + i) 0))
       → Touched t i q r
   unfolding numbers
   touched-loan r z h k d =
       no-request r z h
-      (λ st n lie e.
+      (λ st n rep e.
       let (there, own, lt) = row-found (st .rows) n i e in
-      let pos = rises-range (λ r. r .number) (st .rows) (lies-well lie .rows-rise) n there .0 in
-      let number : getD t (0 + i) 0 ≡ rowOf (st .rows) n .number = ap (λ (j : ℕ). getD t j 0) (omega arith) ∙ row-words lie n i e .number in
-      rw k (d st lie (pos-some (getD t (0 + i) 0) (omega arith)) ∙ ap (onLoan (st .requests)) number))
+      let pos = rises-range (λ r. r .number) (st .rows) (represented-well rep .rows-rise) n there .0 in
+      let number : getD t (0 + i) 0 ≡ rowOf (st .rows) n .number = ap (λ (j : ℕ). getD t j 0) (omega arith) ∙ row-words rep n i e .number in
+      rw k (d st rep (pos-some (getD t (0 + i) 0) (omega arith)) ∙ ap (onLoan (st .requests)) number))
 
   pub touched-other : q ≡ 0 → getD t (9216 + i) 0 ≡ 0 → isEnd (getD t (1024 + i) 0) ≡ false → Touched t i q false
-  touched-other z h k = no-request false z h (λ st n lie e. rw k refl)
+  touched-other z h k = no-request false z h (λ st n rep e. rw k refl)
 
 -- ---- one step back
 zero-some : some 0 ≡ false
@@ -179,7 +180,7 @@ module _ (t : List ℕ) (s q d : ℕ) where
   -- no row, or none so near
   pub question-none : (0 < d → 0 < s → s ≤ 1024 → ⊥) → Reaches t s q d false
   unfolding Reaches rowSlot numbers
-  question-none h st n so lie e deep =
+  question-none h st n so rep e deep =
       sym
       (reaches-none st (sound-open st so) (touches st q) n
       (false-of (member n (numbers (st .rows)))
@@ -187,16 +188,16 @@ module _ (t : List ℕ) (s q d : ℕ) where
       let (a, b, c) = depth-falls st (sound-open st so) n there in
       let first = slot-there (λ r. r .number) (st .rows) n there in
       let last = slot-le (λ r. r .number) (st .rows) n in
-      let fit = lies-well lie .rows-fit in
+      let fit = represented-well rep .rows-fit in
       h (omega arith) (omega arith) (omega arith))))
 
   pub row-port : (r : Bool) → Reaches t s q d r → PortReaches t s q d r
   unfolding Reaches PortReaches
-  row-port r h st n so lie e deep client = h st n so lie e deep
+  row-port r h st n so rep e deep client = h st n so rep e deep
 
 module _ (t : List ℕ) (i q d : ℕ) where
   -- the row itself
-  module _ (st : State) (n : ℕ) (so : sound st ≡ true) (lie : Lies st t) (e : rowSlot (st .rows) n ≡ suc i) (deep : rowOf (st .rows) n .depth ≤ d) where
+  module _ (st : State) (n : ℕ) (so : sound st ≡ true) (rep : Represents t st) (e : rowSlot (st .rows) n ≡ suc i) (deep : rowOf (st .rows) n .depth ≤ d) where
     whole : Sound st
     whole = sound-open st so
 
@@ -209,60 +210,60 @@ module _ (t : List ℕ) (i q d : ℕ) where
 
     itself : (r : Bool) → Touched t i q r → r ≡ touches st q (rowOf (st .rows) n)
     unfolding Touched
-    itself r h = h st n lie e
+    itself r h = h st n rep e
 
     source : (r : Bool) → Reaches t (getD t (6144 + i) 0) q (d - 1) r → r ≡ reaches (touches st q) (st .rows) (rowOf (st .rows) n .source)
     unfolding Reaches
     source r h =
         let (a, b, c) = depth-falls st whole n there in
-        h st (rowOf (st .rows) n .source) so lie
-        (sym (row-words lie n i e .source ∙ source-of st (lies-well lie) n i e .0)) (omega arith)
+        h st (rowOf (st .rows) n .source) so rep
+        (sym (row-words rep n i e .source ∙ source-of st (represented-well rep) n i e .0)) (omega arith)
 
     via : (r : Bool) → ViaReaches t i q d r → r ≡ reaches (touches st q) (st .rows) (rowOf (st .rows) n .via)
     unfolding ViaReaches
-    via r h = h st n so lie e deep
+    via r h = h st n so rep e deep
 
     via-slot : rowSlot (st .rows) (rowOf (st .rows) n .via) ≡ getD t (7168 + i) 0
-    via-slot = sym (row-words lie n i e .via ∙ via-of st (lies-well lie) n i e .0)
+    via-slot = sym (row-words rep n i e .via ∙ via-of st (represented-well rep) n i e .0)
 
   -- the second source: none, a row, a port under a copy
   pub via-row : (r : Bool) → Reaches t (getD t (7168 + i) 0) q (d - 1) r → ViaReaches t i q d r
   unfolding Reaches ViaReaches
-  via-row r h st n so lie e deep =
-      let (a, b, c) = depth-falls st (whole st n so lie e deep) n (there st n so lie e deep) in
-      h st (rowOf (st .rows) n .via) so lie (via-slot st n so lie e deep) (omega arith)
+  via-row r h st n so rep e deep =
+      let (a, b, c) = depth-falls st (whole st n so rep e deep) n (there st n so rep e deep) in
+      h st (rowOf (st .rows) n .via) so rep (via-slot st n so rep e deep) (omega arith)
 
   pub via-none : getD t (7168 + i) 0 ≡ 0 → ViaReaches t i q d false
   via-none z = via-row false (question-none t (getD t (7168 + i) 0) q (d - 1) (λ x y w. omega arith))
 
   pub via-port : (getD t (9216 + i) 0 ≡ 0 → ⊥) → (r : Bool) → PortReaches t (getD t (7168 + i) 0) q (d - 1) r → ViaReaches t i q d r
   unfolding PortReaches ViaReaches
-  via-port bears r h st n so lie e deep =
-      let (a, b, c) = depth-falls st (whole st n so lie e deep) n (there st n so lie e deep) in
-      h st (rowOf (st .rows) n .via) so lie (via-slot st n so lie e deep) (omega arith)
-      (copy-port st (whole st n so lie e deep) n (there st n so lie e deep) (λ z. bears (row-words lie n i e .request ∙ z)))
+  via-port bears r h st n so rep e deep =
+      let (a, b, c) = depth-falls st (whole st n so rep e deep) n (there st n so rep e deep) in
+      h st (rowOf (st .rows) n .via) so rep (via-slot st n so rep e deep) (omega arith)
+      (copy-port st (whole st n so rep e deep) n (there st n so rep e deep) (λ z. bears (row-words rep n i e .request ∙ z)))
 
   module _ (s : ℕ) (at : s ≡ suc i) where
     pub question-touched : Touched t i q true → Reaches t s q d true
     unfolding Reaches
-    question-touched h st n so lie e deep = sym (step st n so lie (e ∙ at) deep ∙ rw (← itself st n so lie (e ∙ at) deep true h) refl)
+    question-touched h st n so rep e deep = sym (step st n so rep (e ∙ at) deep ∙ rw (← itself st n so rep (e ∙ at) deep true h) refl)
 
     pub question-via : Touched t i q false → ViaReaches t i q d true → Reaches t s q d true
     unfolding Reaches
-    question-via h g st n so lie e deep =
+    question-via h g st n so rep e deep =
         sym
-        (step st n so lie (e ∙ at) deep
-        ∙ rw (← itself st n so lie (e ∙ at) deep false h, ← via st n so lie (e ∙ at) deep true g)
+        (step st n so rep (e ∙ at) deep
+        ∙ rw (← itself st n so rep (e ∙ at) deep false h, ← via st n so rep (e ∙ at) deep true g)
         (or-r (reaches (touches st q) (st .rows) (rowOf (st .rows) n .source)) true refl))
 
     -- the first source decides
     pub question-source : Touched t i q false → ViaReaches t i q d false → (r : Bool) → Reaches t (getD t (6144 + i) 0) q (d - 1) r → Reaches t s q d r
     unfolding Reaches
-    question-source h g r k st n so lie e deep =
+    question-source h g r k st n so rep e deep =
         sym
-        (step st n so lie (e ∙ at) deep
-        ∙ rw (← itself st n so lie (e ∙ at) deep false h, ← via st n so lie (e ∙ at) deep false g)
-        (or-false (reaches (touches st q) (st .rows) (rowOf (st .rows) n .source)) ∙ sym (source st n so lie (e ∙ at) deep r k)))
+        (step st n so rep (e ∙ at) deep
+        ∙ rw (← itself st n so rep (e ∙ at) deep false h, ← via st n so rep (e ∙ at) deep false g)
+        (or-false (reaches (touches st q) (st .rows) (rowOf (st .rows) n .source)) ∙ sym (source st n so rep (e ∙ at) deep r k)))
 
     -- a row that has no source answers itself
     pub question-alone : eqb (getD t (6144 + i) 0) 0 && eqb (getD t (7168 + i) 0) 0 ≡ true → (r : Bool) → Touched t i q r → Reaches t s q d r
@@ -274,18 +275,18 @@ module _ (t : List ℕ) (i q d : ℕ) where
 
     pub port-source : Touched t i q false → (r : Bool) → Reaches t (getD t (6144 + i) 0) q (d - 1) r → PortReaches t s q d r
     unfolding PortReaches
-    port-source h r g st n so lie e deep client =
+    port-source h r g st n so rep e deep client =
         sym
-        (step st n so lie (e ∙ at) deep
-        ∙ rw (← itself st n so lie (e ∙ at) deep false h, client-via st (whole st n so lie (e ∙ at) deep) n (there st n so lie (e ∙ at) deep) client, reaches-zero st (whole st n so lie (e ∙ at) deep) (touches st q))
-        (or-false (reaches (touches st q) (st .rows) (rowOf (st .rows) n .source)) ∙ sym (source st n so lie (e ∙ at) deep r g)))
+        (step st n so rep (e ∙ at) deep
+        ∙ rw (← itself st n so rep (e ∙ at) deep false h, client-via st (whole st n so rep (e ∙ at) deep) n (there st n so rep (e ∙ at) deep) client, reaches-zero st (whole st n so rep (e ∙ at) deep) (touches st q))
+        (or-false (reaches (touches st q) (st .rows) (rowOf (st .rows) n .source)) ∙ sym (source st n so rep (e ∙ at) deep r g)))
 
 -- ---- the two questions
-module _ (t : List ℕ) (e : ℕ) (st : State) (n : ℕ) (so : sound st ≡ true) (lie : Lies st t) (at : rowSlot (st .rows) n ≡ suc e) where
+module _ (t : List ℕ) (e : ℕ) (st : State) (n : ℕ) (so : sound st ≡ true) (rep : Represents t st) (at : rowSlot (st .rows) n ≡ suc e) where
   -- twelve steps suffice
   asked : (r : Bool) (q : ℕ) → Reaches t (e + 1) q 12 r → r ≡ reaches (touches st q) (st .rows) n
   unfolding Reaches
-  asked r q h = h st n so lie (at ∙ sym (add-one e)) (depth-falls st (sound-open st so) n (row-found (st .rows) n e at .0) .2)
+  asked r q h = h st n so rep (at ∙ sym (add-one e)) (depth-falls st (sound-open st so) n (row-found (st .rows) n e at .0) .2)
 
   module _ (q : ℕ) (pos : some q ≡ true) where
     pub comes-answer : (r : Bool) → Reaches t (e + 1) q 12 r → r ≡ comesFrom (st .rows) q n

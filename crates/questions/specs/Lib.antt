@@ -1,3 +1,2 @@
--- Definitions that the contracts of questions cite.
-pub mod Questions
-pub mod Computes
+-- The questions have no definitions of their own: rows/specs/Tables.antt has comesFrom, isLent and onLoan.
+pub mod contracts

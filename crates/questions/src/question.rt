@@ -18,9 +18,9 @@ ghost use lib.ListN.{length, getD};
 ghost use Rattle.rows.specs.Lists.{member, some};
 ghost use Rattle.rows.specs.Tables.{State, onLoan, comesFrom, isLent};
 ghost use Rattle.rows.specs.Sound.{sound};
-ghost use Rattle.rows.specs.Layout.{requestAt};
-ghost use Rattle.rows.specs.Lies.{Lies, rowSlot};
-ghost use Rattle.questions.specs.Questions.{Touched, Reaches, ViaReaches, PortReaches};
+ghost use Rattle.rows.specs.Layout.{requestAt, rowSlot};
+ghost use Rattle.rows.specs.contracts.Represents.{Represents};
+ghost use Rattle.questions.specs.contracts.Questions.{Touched, Reaches, ViaReaches, PortReaches};
 
 // the greatest source word: the last slot plus 1
 const LAST_WORD: u32 = 1024;
@@ -40,7 +40,7 @@ fn lists_item(t: &[u32], j: usize, e: u32) -> bool
 // Ruled out: no, where the last item of the newest request is e; yes, where e is only a request's port.
 pub fn on_loan(t: &[u32], e: u32) -> bool
     requires { ⌜ length (now t) ≡ 11265 ⌝ }
-    ensures { λ r. ⌜ ((st : State) → Lies st (now (t .entry)) → some e ≡ true → r ≡ onLoan (st .requests) e) ⌝ }
+    ensures { λ r. ⌜ ((st : State) → Represents (now (t .entry)) st → some e ≡ true → r ≡ onLoan (st .requests) e) ⌝ }
 {
     let count = requests_in(t);
     let mut found = false;
@@ -150,7 +150,7 @@ fn has_no_source(t: &[u32], e: usize) -> bool
 // Ruled out: no, where the port under a copy comes from q; the answer for the row in the next slot.
 pub fn comes(t: &[u32], e: usize, q: u32) -> bool
     requires { ⌜ (length (now t) ≡ 11265) × (e < 1024) ⌝ }
-    ensures { λ r. ⌜ ((st : State) (n : ℕ) → sound st ≡ true → Lies st (now (t .entry)) → rowSlot (st .rows) n ≡ suc e → some q ≡ true → r ≡ comesFrom (st .rows) q n) ⌝ }
+    ensures { λ r. ⌜ ((st : State) (n : ℕ) → sound st ≡ true → Represents (now (t .entry)) st → rowSlot (st .rows) n ≡ suc e → some q ≡ true → r ≡ comesFrom (st .rows) q n) ⌝ }
 {
     if t[REQUEST + e] == q {
         return true;
@@ -165,7 +165,7 @@ pub fn comes(t: &[u32], e: usize, q: u32) -> bool
 // Ruled out: no, where the oldest of twelve rows in a line is lent; yes, where a row bears no request and no end is on loan.
 pub fn lent(t: &[u32], e: usize) -> bool
     requires { ⌜ (length (now t) ≡ 11265) × (e < 1024) ⌝ }
-    ensures { λ r. ⌜ ((st : State) (n : ℕ) → sound st ≡ true → Lies st (now (t .entry)) → rowSlot (st .rows) n ≡ suc e → r ≡ isLent st n) ⌝ }
+    ensures { λ r. ⌜ ((st : State) (n : ℕ) → sound st ≡ true → Represents (now (t .entry)) st → rowSlot (st .rows) n ≡ suc e → r ≡ isLent st n) ⌝ }
 {
     if has_no_source(t, e) {
         return touched(t, e, 0);

@@ -11,8 +11,8 @@ use lib.Dec.{eqb}
 use lib.ListN.{length}
 use Rattle.rows.specs.declared.Found.{Found}
 use Rattle.rows.specs.declared.Found.the-variants.{At, Nothing}
-use Rattle.rows.specs.Lists.{firstWith, rises, member, each}
-use Rattle.rows.specs.Lies.{Within, foundSlot, slotWith}
+use Rattle.rows.specs.Lists.{firstWith, rises, member, each, slotWith}
+use Rattle.rows.specs.contracts.Slots.{Within, foundSlot}
 use Rattle.rows.proofs.Bools.{false-of, true-of, clash, and-l, and-r, eqb-sym, eqb-sym-f, eqb-self, member-here, member-there}
 use Rattle.rows.proofs.Keyed.{olderOf, first-key, rises-rest, rises-older, rises-range}
 

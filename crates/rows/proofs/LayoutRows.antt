@@ -1,4 +1,4 @@
--- Rows read back from the words in which they lie.
+-- Rows read back from the words in which they rep.
 use Prim.Native.Nat.{ℕ, zero, suc, _+_, _*_, _<_, _≤_}
 use mathlib.Core.Bool.{Bool, true, false, cond}
 use mathlib.Core.List.{List, [], _∷_, _++_, append-assoc, map}
@@ -10,11 +10,12 @@ use lib.Dec.{eqb}
 use lib.ListN.{length, getD, length-append}
 use Rattle.rows.specs.declared.Row.{Row}
 use Rattle.rows.specs.declared.Request.{Request}
-use Rattle.rows.specs.Lists.{each, rises, pad, laid, member, some}
+use Rattle.rows.specs.Lists.{each, rises, pad, laid, member, some, slotWith}
 use Rattle.rows.specs.Limits.{rowSlots}
 use Rattle.rows.specs.Tables.{numbers}
 use Rattle.rows.specs.Sound.{sourceRight}
-use Rattle.rows.specs.Layout.{rowColumns, slotOf, sourceSlot, rowWord, rowWords, rowField, numberAt, rowAt, rowsTo}
+use Rattle.rows.specs.Setters.{withSources}
+use Rattle.rows.specs.Layout.{rowColumns, rowSlot, sourceSlot, rowWord, rowWords, rowField, numberAt, rowAt, rowsTo, rawRow}
 use Rattle.rows.proofs.Bools.{clash, and-l, and-r, pos-some, eqb-sym-f}
 use Rattle.rows.proofs.Keyed.{rises-rest, rises-range}
 use Rattle.rows.proofs.LayoutColumns.{columns, laid-at}
@@ -40,13 +41,13 @@ module _ (t : List ℕ) (rows : List Row) (few : length rows ≤ rowSlots)
   further : (new : List Row) (r : Row) (old : List Row) → rows ≡ new ++ (r ∷ old) → rows ≡ (new ++ (r ∷ [])) ++ old
   further new r old e = e ∙ sym (append-assoc new (r ∷ []) old)
 
-  slot-back : (new old : List Row) → rows ≡ new ++ old → (n : ℕ) → member n (numbers old) ≡ true → numberAt t (length rows) (slotOf old n) ≡ n
-  unfolding slotOf numbers member numberAt rowWord rowColumns
+  slot-back : (new old : List Row) → rows ≡ new ++ old → (n : ℕ) → member n (numbers old) ≡ true → numberAt t (length rows) (rowSlot old n) ≡ n
+  unfolding rowSlot numbers member numberAt rowWord rowColumns slotWith
   slot-back new [] e n m = clash m refl
   slot-back new (r ∷ old) e n m = pick (slot-back (new ++ (r ∷ [])) old (further new r old e) n) (eqb (r .number) n) refl m
     where
-      pick : (member n (map (λ r. r .number) old) ≡ true → numberAt t (length rows) (slotOf old n) ≡ n) → (b : Bool) → eqb (r .number) n ≡ b → member n (r .number ∷ map (λ r. r .number) old) ≡ true
-          → numberAt t (length rows) (cond b (suc (length old)) (slotOf old n)) ≡ n
+      pick : (member n (map (λ r. r .number) old) ≡ true → numberAt t (length rows) (rowSlot old n) ≡ n) → (b : Bool) → eqb (r .number) n ≡ b → member n (r .number ∷ map (λ r. r .number) old) ≡ true
+          → numberAt t (length rows) (cond b (suc (length old)) (rowSlot old n)) ≡ n
       pick ih true q m =
           rw (lt-ltb (length old) (length rows) (omega (arith, shorter new (r ∷ old) e))) (field-at 0 new r old e (omega arith) ∙ eqb-true (r .number) n q)
       pick ih false q m = ih (rw (eqb-sym-f (r .number) n q) at m)
@@ -58,7 +59,7 @@ module _ (t : List ℕ) (rows : List Row) (few : length rows ≤ rowSlots)
 
   module _ (vs : List Request) where
     row-back : (new : List Row) (r : Row) (old : List Row) → rows ≡ new ++ (r ∷ old) → rises (λ r. r .number) old ≡ true → sourceRight vs r old ≡ true → rowAt t (length rows) (length old) ≡ r
-    unfolding rowAt rowWord rowColumns
+    unfolding rowAt rawRow withSources rowWord rowColumns
     row-back new r old e up s =
         let (a, b) = shape-sources vs r old (shape vs r old s) in
         let f = further new r old e in

@@ -1,4 +1,4 @@
--- A sound state lies in words and is read back from them; sound words are those of the state that is read from them.
+-- A sound state is represented by words and is read back from them; sound words are those of the state that is read from them.
 use Prim.Native.Nat.{ℕ, _*_, _≤_}
 use mathlib.Core.Bool.{true, _&&_}
 use mathlib.Core.List.{List}
@@ -17,7 +17,7 @@ use Rattle.rows.proofs.Sound.{Sound, sound-open, sound-close}
 use Rattle.rows.proofs.LayoutColumns.{same-list, list-same}
 use Rattle.rows.proofs.LayoutRows.{rows-back}
 use Rattle.rows.proofs.LayoutRequests.{requests-back, records-back, length-records, records-words}
-use Rattle.rows.proofs.LiesWords.{long-words, row-at, request-at, next-at, rows-in, requests-in}
+use Rattle.rows.proofs.RepresentedWords.{long-words, row-at, request-at, next-at, rows-in, requests-in}
 
 module _ (st : State) (s : Sound st) where
   few-rows : length (st .rows) ≤ rowSlots

@@ -19,16 +19,16 @@ pub mod Places
 pub mod SoundFacts
 -- what awaits a fetch, and the requests that list it
 pub mod Awaits
--- rows read back from the words in which they lie
+-- rows read back from the words in which they rep
 pub mod LayoutRows
 -- requests and process records read back
 pub mod LayoutRequests
--- a sound state and the words in which it lies
+-- a sound state and the words that represent it
 pub mod LayoutWords
 -- slots over any key: where an element stands
 pub mod KeySlots
--- the words in which a state lies
-pub mod LiesWords
+-- the words that represent a state
+pub mod RepresentedWords
 -- the words of a request's slot
 pub mod RequestSlots
 -- slots of rows, requests and sources, and what the words of a slot are
@@ -41,7 +41,7 @@ pub mod Marking
 pub mod Standing
 -- keys that rise: each element is found by its key, also among those that a test picks
 pub mod Picked
--- what the searches find where a state lies in the words
+-- what the searches find where the words represent a state
 pub mod Lookups
 -- process records in their words, one after the other
 pub mod ProcessRecords

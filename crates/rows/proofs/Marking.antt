@@ -10,7 +10,7 @@ use native.Mathlib.Omega.{arith}
 use Rattle.rows.specs.declared.Row.{Row}
 use Rattle.rows.specs.Lists.{any, all, each, rises, member}
 use Rattle.rows.specs.Tables.{noRow, rowOf, numbers, sources, reaches, mark, marked}
-use Rattle.rows.specs.Lies.{sourcesOlder}
+use Rattle.rows.specs.contracts.Represents.{sourcesOlder}
 use Rattle.rows.proofs.Bools.{clash, false-of, bool-eq, and-l, and-r, or-l, or-r, or-map, or-cases, all-mono, any-eq, any-mono, eqb-sym-f, member-here, member-there}
 use Rattle.rows.proofs.Keyed.{olderOf, each-first, older-key, rises-rest, rises-older, rises-fresh}
 use Rattle.rows.proofs.Agree.{Agree, first-here, first-older}

@@ -8,17 +8,18 @@ use borrow.Author.Tests.{eqb-true}
 use lib.Dec.{eqb}
 use lib.ListN.{length, getD, length-append}
 use Rattle.rows.specs.declared.Request.{Request}
-use Rattle.rows.specs.Lists.{firstWith, all, laid, member}
+use Rattle.rows.specs.Lists.{firstWith, all, laid, member, slotWith}
 use Rattle.rows.specs.Limits.{rowSlots, requestSlots, mostItems}
 use Rattle.rows.specs.Tables.{State, noRequest, requestOf, openOn}
 use Rattle.rows.specs.Sound.{itemsFew}
 use Rattle.rows.specs.Layout.{rowColumns, requestsAt, requestWord, requestField, requestAt}
-use Rattle.rows.specs.Lies.{Lies, slotWith, requestSlot, openSlot}
+use Rattle.rows.specs.contracts.Represents.{Represents}
+use Rattle.rows.specs.contracts.Slots.{requestSlot, openSlot}
 use Rattle.rows.proofs.Bools.{and-l, and-r}
 use Rattle.rows.proofs.Keyed.{olderOf, first-none}
 use Rattle.rows.proofs.LayoutColumns.{laid-at}
 use Rattle.rows.proofs.KeySlots.{slot-none, slot-member, slot-older, slot-found, newerOf, cut-first}
-use Rattle.rows.proofs.LiesWords.{lies-well, lies-request}
+use Rattle.rows.proofs.RepresentedWords.{represented-well, represented-request}
 use Rattle.rows.proofs.LayoutRequests.{four}
 
 pub record RequestWords (t : List ℕ) (j : ℕ) (v : Request) : Type 0 where
@@ -64,18 +65,18 @@ unfolding all
 all-cut P [] x old e = and-l (P x) (all P old) e
 all-cut P (y ∷ new) x old e = all-cut P new x old (and-r (P y) (all P (new ++ (x ∷ old))) e)
 
-module _ {st : State} {t : List ℕ} (lie : Lies st t) where
+module _ {st : State} {t : List ℕ} (rep : Represents t st) where
   module _ (new : List Request) (v : Request) (old : List Request) (e : st .requests ≡ new ++ (v ∷ old)) where
     request-word : (c n : ℕ) → c < 8 → 10240 + (c * 128 + length old) ≡ n → getD t n 0 ≡ requestWord c v old
     request-word c n h d =
         ap (λ (k : ℕ). getD t k 0) (sym d)
-        ∙ lies-request lie c (length old) h (omega (arith, lies-well lie .requests-fit, ap length e, length-append new (v ∷ old)))
+        ∙ represented-request rep c (length old) h (omega (arith, represented-well rep .requests-fit, ap length e, length-append new (v ∷ old)))
         ∙ ap (λ (l : List Request). getD (laid (requestWord c) l) (length old) 0) e
         ∙ laid-at (requestWord c) new v old
 
     four-items : length (v .items) ≡ 4
     unfolding itemsFew mostItems
-    four-items = eqb-true (length (v .items)) 4 (all-cut (λ v. eqb (length (v .items)) 4) new v old (rw e at (lies-well lie .items-few)))
+    four-items = eqb-true (length (v .items)) 4 (all-cut (λ v. eqb (length (v .items)) 4) new v old (rw e at (represented-well rep .items-few)))
 
     -- by the place in the list
     pub request-words-at : RequestWords t (length old) v

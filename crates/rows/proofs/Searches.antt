@@ -14,10 +14,10 @@ use lib.ListN.{length, getD, take, drop, length-append}
 use lib.Seq.{getD-take, getD-drop}
 use Rattle.rows.specs.declared.Found.{Found}
 use Rattle.rows.specs.declared.Found.the-variants.{At, Nothing}
-use Rattle.rows.specs.Lists.{rises, member, some}
+use Rattle.rows.specs.Lists.{rises, member, some, slotWith}
 use Rattle.rows.specs.Layout.{leading}
-use Rattle.rows.specs.Lies.{Within, foundSlot, slotWith}
-use Rattle.rows.specs.Searches.{Ups, Placed}
+use Rattle.rows.specs.contracts.Slots.{Within, foundSlot}
+use Rattle.rows.specs.contracts.Searches.{Ascending, LastAt}
 use Rattle.rows.proofs.Bools.{pos-some, member-here, member-there}
 use Rattle.rows.proofs.Keyed.{rises-rest, rises-older}
 
@@ -33,13 +33,13 @@ module _ (l : List ℕ) (k n : ℕ) where
   pub bracket : Bracket 0 k
   bracket = record { below = λ j h. absurd (omega arith); above = λ j h g. absurd (omega arith) }
 
-  pub half-up : Ups k l → (lo hi mid : ℕ) → mid < k → getD l mid 0 < n → Bracket lo hi → Bracket (mid + 1) hi
-  unfolding Ups
+  pub half-up : Ascending k l → (lo hi mid : ℕ) → mid < k → getD l mid 0 < n → Bracket lo hi → Bracket (mid + 1) hi
+  unfolding Ascending
   half-up u lo hi mid h x b =
       record { below = below-more (λ j. getD l j 0 < n) mid (λ j j<. let y : getD l j 0 < getD l mid 0 = u j mid j< h in omega arith) x; above = b .above }
 
-  pub half-down : Ups k l → (lo hi mid : ℕ) → n < getD l mid 0 → Bracket lo hi → Bracket lo mid
-  unfolding Ups
+  pub half-down : Ascending k l → (lo hi mid : ℕ) → n < getD l mid 0 → Bracket lo hi → Bracket lo mid
+  unfolding Ascending
   half-down u lo hi mid x b =
       record {
         below = b .below;
@@ -48,12 +48,12 @@ module _ (l : List ℕ) (k n : ℕ) where
             ⊎-elim (λ e. rw (← e) x) (λ lt. let y : getD l mid 0 < getD l j 0 = u mid j lt j<k in omega arith) (eq-or-lt-of-le m≤j);
       }
 
-  pub half-hit : Ups k l → (mid : ℕ) → mid < k → getD l mid 0 ≡ n → Placed l k n (At mid)
-  unfolding Ups Placed
+  pub half-hit : Ascending k l → (mid : ℕ) → mid < k → getD l mid 0 ≡ n → LastAt l k n (At mid)
+  unfolding Ascending LastAt
   half-hit u mid h e = (h, e, (λ j lt g d. let y : getD l mid 0 < getD l j 0 = u mid j lt g in omega arith))
 
-  pub half-none : (lo hi : ℕ) → hi ≤ lo → Bracket lo hi → Placed l k n Nothing
-  unfolding Placed
+  pub half-none : (lo hi : ℕ) → hi ≤ lo → Bracket lo hi → LastAt l k n Nothing
+  unfolding LastAt
   half-none lo hi h b =
       λ j j<k e.
       ⊎-elim (λ lt. let y : getD l j 0 < n = b .below j lt in omega arith) (λ ge. let y : n < getD l j 0 = b .above j (omega arith) j<k in omega arith) (lt-or-ge j lo)
@@ -65,12 +65,12 @@ module _ (l : List ℕ) (k n : ℕ) where
   pub back-more : (i : ℕ) → 0 < i → FreeFrom i → (getD l (i - 1) 0 ≡ n → ⊥) → FreeFrom (i - 1)
   back-more i h free x j g j<k e = ⊎-elim (λ d. x (rw d e)) (λ lt. free j (omega arith) j<k e) (eq-or-lt-of-le g)
 
-  pub back-hit : (i : ℕ) → 0 < i → i ≤ k → FreeFrom i → getD l (i - 1) 0 ≡ n → Placed l k n (At (i - 1))
-  unfolding Placed
+  pub back-hit : (i : ℕ) → 0 < i → i ≤ k → FreeFrom i → getD l (i - 1) 0 ≡ n → LastAt l k n (At (i - 1))
+  unfolding LastAt
   back-hit i h g free e = (omega arith, e, (λ j lt. free j (omega arith)))
 
-  pub back-none : (i : ℕ) → i ≤ 0 → FreeFrom i → Placed l k n Nothing
-  unfolding Placed
+  pub back-none : (i : ℕ) → i ≤ 0 → FreeFrom i → LastAt l k n Nothing
+  unfolding LastAt
   back-none i h free = λ j. free j (omega arith)
 
 -- ---- the words before the first 0
@@ -102,13 +102,13 @@ module _ {A : Type 0} (key : A → ℕ) where
   Keys l [] = Unit {0}
   Keys l (x ∷ xs) = (getD l (length xs) 0 ≡ key x) × Keys l xs
 
-  pub placed-slot : (l : List ℕ) (n : ℕ) (xs : List A) (r : Found) → Keys l xs → Placed l (length xs) n r → r ≡ foundSlot (slotWith key xs n)
-  unfolding Placed foundSlot slotWith
+  pub placed-slot : (l : List ℕ) (n : ℕ) (xs : List A) (r : Found) → Keys l xs → LastAt l (length xs) n r → r ≡ foundSlot (slotWith key xs n)
+  unfolding LastAt foundSlot slotWith
   placed-slot l n [] (At i) ks p = absurd (omega (arith, p .0))
   placed-slot l n [] Nothing ks p = refl
   placed-slot l n (x ∷ xs) (At i) ks p = pick (placed-slot l n xs (At i) (ks .1)) (eqb (key x) n) refl
     where
-      pick : (Placed l (length xs) n (At i) → At i ≡ foundSlot (slotWith key xs n)) → (b : Bool) → eqb (key x) n ≡ b → At i ≡ foundSlot (cond b (suc (length xs)) (slotWith key xs n))
+      pick : (LastAt l (length xs) n (At i) → At i ≡ foundSlot (slotWith key xs n)) → (b : Bool) → eqb (key x) n ≡ b → At i ≡ foundSlot (cond b (suc (length xs)) (slotWith key xs n))
       pick ih true q =
           ⊎-elim (λ e. ap At e) (λ lt. absurd (p .2 (length xs) lt (omega arith) (ks .0 ∙ eqb-true (key x) n q))) (eq-or-lt-of-le (le-of-suc-le-suc (p .0)))
       pick ih false q =
@@ -116,7 +116,7 @@ module _ {A : Type 0} (key : A → ℕ) where
           (λ lt. ih (lt, p .1, (λ j g h. p .2 j g (omega arith)))) (eq-or-lt-of-le (le-of-suc-le-suc (p .0)))
   placed-slot l n (x ∷ xs) Nothing ks p = pick (placed-slot l n xs Nothing (ks .1)) (eqb (key x) n) refl
     where
-      pick : (Placed l (length xs) n Nothing → Nothing ≡ foundSlot (slotWith key xs n)) → (b : Bool) → eqb (key x) n ≡ b → Nothing ≡ foundSlot (cond b (suc (length xs)) (slotWith key xs n))
+      pick : (LastAt l (length xs) n Nothing → Nothing ≡ foundSlot (slotWith key xs n)) → (b : Bool) → eqb (key x) n ≡ b → Nothing ≡ foundSlot (cond b (suc (length xs)) (slotWith key xs n))
       pick ih true q = absurd (p (length xs) (omega arith) (ks .0 ∙ eqb-true (key x) n q))
       pick ih false q = ih (λ j h. p j (omega arith))
 
@@ -128,8 +128,8 @@ module _ {A : Type 0} (key : A → ℕ) where
       (λ e. subst (λ (n : ℕ). member n (key x ∷ map key xs) ≡ true) (sym (ap (λ (j : ℕ). getD l j 0) e ∙ ks .0)) (member-here (key x) (map key xs)))
       (λ lt. member-there (getD l i 0) (key x) (map key xs) (keys-member l xs (ks .1) i lt)) (eq-or-lt-of-le (le-of-suc-le-suc h))
 
-  pub keys-rise : (l : List ℕ) (xs : List A) → Keys l xs → rises key xs ≡ true → Ups (length xs) l
-  unfolding Ups
+  pub keys-rise : (l : List ℕ) (xs : List A) → Keys l xs → rises key xs ≡ true → Ascending (length xs) l
+  unfolding Ascending
   keys-rise l [] ks up = λ i j lt h. absurd (omega arith)
   keys-rise l (x ∷ xs) ks up =
       λ i j lt h.

@@ -9,13 +9,15 @@ use borrow.Author.Tests.{ne-eqb}
 use lib.Dec.{eqb}
 use lib.ListN.{length, getD, take, drop, length-append, length-take}
 use Rattle.rows.specs.declared.Row.{Row}
-use Rattle.rows.specs.Lists.{filter, firstWith, rises, laid, member, all, some, nonzero}
+use Rattle.rows.specs.Lists.{filter, firstWith, rises, laid, member, all, some, nonzero, slotWith}
 use Rattle.rows.specs.Tables.{State, noRow, rowOf, numbers, sources}
 use Rattle.rows.specs.declared.Found.{Found}
 use Rattle.rows.specs.declared.Found.the-variants.{At, Nothing}
 use Rattle.rows.specs.Limits.{rowSlots, requestSlots}
-use Rattle.rows.specs.Layout.{requestsAt, slotOf, sourceSlot, rowWord, rowField, rowsIn, requestsIn}
-use Rattle.rows.specs.Lies.{sourcesOlder, Lies, Within, slotWith, rowSlot, rawRow, withSources, slotted, numberOfSlot}
+use Rattle.rows.specs.Layout.{requestsAt, rowSlot, sourceSlot, rowWord, rowField, rowsIn, requestsIn, rawRow}
+use Rattle.rows.specs.contracts.Represents.{sourcesOlder, Represents}
+use Rattle.rows.specs.contracts.Slots.{Within, slotted, numberOfSlot}
+use Rattle.rows.specs.Setters.{withSources}
 use Rattle.rows.proofs.Bools.{and-l, and-r, pos-some, eqb-self, member-there}
 use Rattle.rows.proofs.Keyed.{olderOf, first-none, rises-rest}
 use Rattle.rows.proofs.RowSources.{Among}
@@ -23,7 +25,7 @@ use Rattle.rows.proofs.LayoutColumns.{laid-at}
 use Rattle.rows.proofs.Searches.{leading-le}
 pub use Rattle.rows.proofs.KeySlots.{found-at, found-nothing, at-below, slot-le, slot-there, none-slot, slot-none, slot-member, slot-older, slot-found, cut-first, rises-old, slot-kept, slot-number, older-slot, slot-zero, each-cut, Cut, cut-at}
 unfoldable pub use Rattle.rows.proofs.KeySlots.{newerOf}
-pub use Rattle.rows.proofs.LiesWords.{Well, well-open, sound-lies, lies-well, lies-length, lies-rows, lies-requests, lies-next, lies-row, lies-request}
+pub use Rattle.rows.proofs.RepresentedWords.{Well, well-open, sound-represents, represented-well, represented-length, represented-rows, represented-requests, represented-next, represented-row, represented-request}
 pub use Rattle.rows.proofs.RequestSlots.{RequestWords, request-of-words, request-words-at, request-words, request-read, raw-request, open-words, raw-open, request-found, request-absent, open-found, open-absent}
 
 -- ---- slots in use, of any words
@@ -43,14 +45,9 @@ pub request-below : (t : List ℕ) (r : Found) (j : ℕ) → Within (requestsIn 
 request-below t r j h e = omega (arith, at-below (requestsIn t) r j h e, requests-most t)
 
 -- ---- the slot of a source
-slot-of : (rs : List Row) (n : ℕ) → slotOf rs n ≡ rowSlot rs n
-unfolding slotOf rowSlot slotWith
-slot-of [] n = refl
-slot-of (r ∷ rs) n = ap (λ (s : ℕ). cond (eqb (r .number) n) (suc (length rs)) s) (slot-of rs n)
-
 pub source-slot : (rs : List Row) (s : ℕ) → 0 < s → sourceSlot rs s ≡ rowSlot rs s
 unfolding sourceSlot
-source-slot rs s h = rw (pos-some s h) (slot-of rs s)
+source-slot rs s h = rw (pos-some s h) refl
 
 pub source-zero : (rs : List Row) → sourceSlot rs 0 ≡ 0
 unfolding sourceSlot some
@@ -200,10 +197,10 @@ raw-words t i r old w =
       request = w .request j;
     }
 
-module _ {st : State} {t : List ℕ} (lie : Lies st t) where
+module _ {st : State} {t : List ℕ} (rep : Represents t st) where
   row-word : (c : ℕ) (new : List Row) (r : Row) (old : List Row) → st .rows ≡ new ++ (r ∷ old) → c < 10 → getD t (c * 1024 + length old) 0 ≡ rowWord c r old
   row-word c new r old e h =
-      lies-row lie c (length old) h (omega (arith, lies-well lie .rows-fit, ap length e, length-append new (r ∷ old)))
+      represented-row rep c (length old) h (omega (arith, represented-well rep .rows-fit, ap length e, length-append new (r ∷ old)))
       ∙ ap (λ (l : List Row). getD (laid (rowWord c) l) (length old) 0) e
       ∙ laid-at (rowWord c) new r old
 

@@ -18,7 +18,7 @@ use Rattle.rows.proofs.Bools.{false-of, clash, not-t, and-l, and-r, and
 use Rattle.rows.proofs.Keyed.{olderOf, each-first, older-first, older-key, rises-range}
 use Rattle.rows.proofs.Sound.{Sound}
 use Rattle.rows.proofs.RowSources.{Among, Shape, opening, registered, held, port-end, lent-copy, shape, shape-sources}
-use Rattle.rows.specs.Lies.{sourcesOlder}
+use Rattle.rows.specs.contracts.Represents.{sourcesOlder}
 use Rattle.rows.proofs.Marking.{marked-least}
 
 module _ (st : State) (s : Sound st) (n : ℕ) (t : member n (numbers (st .rows)) ≡ true) where

@@ -1,4 +1,4 @@
--- How a state lies in the two lent runs of words, and how it is read back.
+-- How the two lent runs of words represent a state, and how it is read back.
 use Prim.Native.Nat.{ℕ, zero, suc, _+_, _*_}
 use mathlib.Core.Bool.{Bool, _&&_}
 use mathlib.Core.List.{List, [], _∷_, _++_}
@@ -7,9 +7,10 @@ use lib.ListN.{length, getD, take, drop, replicate}
 use Rattle.rows.specs.declared.Row.{Row}
 use Rattle.rows.specs.declared.Request.{Request}
 use Rattle.rows.specs.declared.Process.{Process}
-use Rattle.rows.specs.Lists.{if_then_else_, pad, laid, sameList, some}
+use Rattle.rows.specs.Lists.{if_then_else_, pad, laid, slotWith, sameList, some}
 use Rattle.rows.specs.Limits.{processes, rowSlots, requestSlots}
 use Rattle.rows.specs.Tables.{State, empty}
+use Rattle.rows.specs.Setters.{withSources}
 use Rattle.rows.specs.Sound.{sound}
 
 -- ---- sizes: ten columns of 1,024 words, eight of 128, the next number; 64 records of three words
@@ -34,13 +35,12 @@ processesLength = 3 * processes
 
 -- ---- state to words
 -- the slot, plus 1, of the row numbered n; 0 for none
-unfoldable pub slotOf : List Row → ℕ → ℕ
-slotOf [] n = 0
-slotOf (r ∷ rs) n = if eqb (r .number) n then suc (length rs) else slotOf rs n
+unfoldable pub rowSlot : List Row → ℕ → ℕ
+rowSlot rs n = slotWith (λ r. r .number) rs n
 
 -- a source as its slot plus 1; none is 0
 unfoldable pub sourceSlot : List Row → ℕ → ℕ
-sourceSlot rs n = if some n then slotOf rs n else 0
+sourceSlot rs n = if some n then rowSlot rs n else 0
 
 -- the word of row r in column c, rs the older rows
 unfoldable pub rowWord : ℕ → Row → List Row → ℕ
@@ -101,8 +101,9 @@ unfoldable pub numberAt : List ℕ → ℕ → ℕ → ℕ
 numberAt t n zero = 0
 numberAt t n (suc i) = if ltb i n then rowField t 0 i else 0
 
-unfoldable pub rowAt : List ℕ → ℕ → ℕ → Row
-rowAt t n i =
+-- the words of a slot as a row: its sources are slots plus 1
+unfoldable pub rawRow : List ℕ → ℕ → Row
+rawRow t i =
     record {
       number = rowField t 0 i;
       kind = rowField t 1 i;
@@ -110,11 +111,15 @@ rowAt t n i =
       operation = rowField t 3 i;
       rights = rowField t 4 i;
       place = rowField t 5 i;
-      source = numberAt t n (rowField t 6 i);
-      via = numberAt t n (rowField t 7 i);
+      source = rowField t 6 i;
+      via = rowField t 7 i;
       depth = rowField t 8 i;
       request = rowField t 9 i;
     }
+
+-- the row of a slot, its sources as numbers
+unfoldable pub rowAt : List ℕ → ℕ → ℕ → Row
+rowAt t n i = let r = rawRow t i in withSources (numberAt t n (r .source)) (numberAt t n (r .via)) r
 
 -- the rows of the first i slots, newest first
 unfoldable pub rowsTo : List ℕ → ℕ → ℕ → List Row
@@ -154,7 +159,7 @@ stateOf t p =
 unfoldable pub rightLengths : List ℕ → List ℕ → Bool
 rightLengths t p = eqb (length t) tablesLength && eqb (length p) processesLength
 
--- of the right length, every unused word 0 and every source word the slot of its row (so that the state lies in them), and sound
+-- of the right length, every unused word 0 and every source word the slot of its row (so that they represent the state), and sound
 unfoldable pub soundWords : List ℕ → List ℕ → Bool
 soundWords t p = rightLengths t p && (sameList (wordsOf (stateOf t p)) t && sound (stateOf t p))
 

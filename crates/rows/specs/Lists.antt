@@ -5,6 +5,7 @@ use Prim.Native.String.{String, [] as []ˢ, _∷_ as _∷ˢ_}
 use mathlib.Core.Bool.{Bool, true, false, not, cond, _&&_, _||_}
 use mathlib.Core.List.{List, [], _∷_, _++_}
 use lib.Dec.{leb, ltb, eqb}
+use lib.ListN.{length}
 
 infix 10 if_then_else_
 abbrev pub if_then_else_ : {A : Type 0} → Bool → A → A → A
@@ -32,6 +33,11 @@ module _ {A : Type 0} where
   unfoldable pub firstWith : (A → ℕ) → A → List A → ℕ → A
   firstWith key none [] n = none
   firstWith key none (x ∷ xs) n = if eqb (key x) n then x else firstWith key none xs n
+
+  -- how many elements come after the first whose key is n, plus 1; 0 for none
+  unfoldable pub slotWith : (A → ℕ) → List A → ℕ → ℕ
+  slotWith key [] n = 0
+  slotWith key (x ∷ xs) n = if eqb (key x) n then suc (length xs) else slotWith key xs n
 
   -- the key of the first element, 0 for none
   unfoldable pub topOf : (A → ℕ) → List A → ℕ

@@ -9,16 +9,17 @@ ghost use mathlib.Core.Path.{_≡_};
 ghost use Prim.Native.Nat.{_≤_};
 ghost use lib.ListN.{length};
 ghost use Rattle.rows.specs.Tables.{State};
-ghost use Rattle.rows.specs.Layout.{leading, rowsIn, requestsIn};
-ghost use Rattle.rows.specs.Lies.{Lies, Within, foundSlot, rowSlot, requestSlot, openSlot};
-ghost use Rattle.rows.specs.Searches.{Ups, Placed};
+ghost use Rattle.rows.specs.Layout.{leading, rowsIn, requestsIn, rowSlot};
+ghost use Rattle.rows.specs.contracts.Represents.{Represents};
+ghost use Rattle.rows.specs.contracts.Slots.{Within, foundSlot, requestSlot, openSlot};
+ghost use Rattle.rows.specs.contracts.Searches.{Ascending, LastAt};
 
 // The place of n among the first words of a column, which rise: by halves.
 // Ruled out: a place at or past the count; nothing where n is there.
 pub fn search(column: &[u32], count: usize, n: u32) -> Found
     requires { ⌜ count ≤ length (now column) ⌝ }
     ensures within { λ r. ⌜ Within count r ⌝ }
-    ensures found { λ r. ⌜ (Ups count (now (column .entry)) → Placed (now (column .entry)) count n r) ⌝ }
+    ensures found { λ r. ⌜ (Ascending count (now (column .entry)) → LastAt (now (column .entry)) count n r) ⌝ }
 {
     let mut lo = 0;
     let mut hi = count;
@@ -42,7 +43,7 @@ pub fn search(column: &[u32], count: usize, n: u32) -> Found
 pub fn search_back(column: &[u32], count: usize, n: u32) -> Found
     requires { ⌜ count ≤ length (now column) ⌝ }
     ensures within { λ r. ⌜ Within count r ⌝ }
-    ensures found { λ r. ⌜ Placed (now (column .entry)) count n r ⌝ }
+    ensures found { λ r. ⌜ LastAt (now (column .entry)) count n r ⌝ }
 {
     let mut i = count;
     while 0 < i {
@@ -95,7 +96,7 @@ pub fn requests_in(t: &[u32]) -> usize
 pub fn row_among(t: &[u32], count: usize, n: u32) -> Found
     requires { ⌜ (length (now t) ≡ 11265) × (count ≤ 1024) ⌝ }
     ensures within { λ r. ⌜ Within count r ⌝ }
-    ensures found { λ r. ⌜ ((st : State) → Lies st (now (t .entry)) → count ≡ length (st .rows) → r ≡ foundSlot (rowSlot (st .rows) n)) ⌝ }
+    ensures found { λ r. ⌜ ((st : State) → Represents (now (t .entry)) st → count ≡ length (st .rows) → r ≡ foundSlot (rowSlot (st .rows) n)) ⌝ }
 {
     search(&t[NUMBER..KIND], count, n)
 }
@@ -105,7 +106,7 @@ pub fn row_among(t: &[u32], count: usize, n: u32) -> Found
 pub fn row_slot(t: &[u32], n: u32) -> Found
     requires { ⌜ length (now t) ≡ 11265 ⌝ }
     ensures within { λ r. ⌜ Within (rowsIn (now (t .entry))) r ⌝ }
-    ensures found { λ r. ⌜ ((st : State) → Lies st (now (t .entry)) → r ≡ foundSlot (rowSlot (st .rows) n)) ⌝ }
+    ensures found { λ r. ⌜ ((st : State) → Represents (now (t .entry)) st → r ≡ foundSlot (rowSlot (st .rows) n)) ⌝ }
 {
     let count = rows_in(t);
     row_among(t, count, n)
@@ -116,7 +117,7 @@ pub fn row_slot(t: &[u32], n: u32) -> Found
 pub fn request_slot(t: &[u32], q: u32) -> Found
     requires { ⌜ length (now t) ≡ 11265 ⌝ }
     ensures within { λ r. ⌜ Within (requestsIn (now (t .entry))) r ⌝ }
-    ensures found { λ r. ⌜ ((st : State) → Lies st (now (t .entry)) → r ≡ foundSlot (requestSlot (st .requests) q)) ⌝ }
+    ensures found { λ r. ⌜ ((st : State) → Represents (now (t .entry)) st → r ≡ foundSlot (requestSlot (st .requests) q)) ⌝ }
 {
     let count = requests_in(t);
     search(&t[Q_NUMBER..Q_PORT], count, q)
@@ -127,7 +128,7 @@ pub fn request_slot(t: &[u32], q: u32) -> Found
 pub fn open_on(t: &[u32], c: u32) -> Found
     requires { ⌜ length (now t) ≡ 11265 ⌝ }
     ensures within { λ r. ⌜ Within (requestsIn (now (t .entry))) r ⌝ }
-    ensures found { λ r. ⌜ ((st : State) → Lies st (now (t .entry)) → r ≡ foundSlot (openSlot (st .requests) c)) ⌝ }
+    ensures found { λ r. ⌜ ((st : State) → Represents (now (t .entry)) st → r ≡ foundSlot (openSlot (st .requests) c)) ⌝ }
 {
     let count = requests_in(t);
     search_back(&t[Q_PORT..Q_ASKER], count, c)

@@ -20,8 +20,7 @@ use crate::layout::VIA;
 ghost use mathlib.Core.Path.{_≡_};
 ghost use Prim.Native.Nat.{_<_};
 ghost use lib.ListN.{length, getD};
-ghost use Rattle.rows.specs.Layout.{requestAt};
-ghost use Rattle.rows.specs.Lies.{rawRow};
+ghost use Rattle.rows.specs.Layout.{requestAt, rawRow};
 
 // The row at slot i, its sources as slots plus 1.
 // Ruled out: a word of another column; a word of the next slot.

@@ -1,4 +1,4 @@
--- Words in which rows and requests are laid hold the state that is read from them, and a state that lies in words is laid in them.
+-- Words in which rows and requests are laid represent the state that is read from them, and a state that words represent is laid in them.
 use Prim.Native.Nat.{ℕ, zero, suc, _+_, _*_, _-_, _<_, _≤_}
 use mathlib.Core.Bool.{Bool, true, false, cond}
 use mathlib.Core.List.{List, [], _∷_}
@@ -13,17 +13,18 @@ use lib.ListN.{length, getD, take, drop, length-take}
 use lib.Seq.{getD-drop, ext-getD}
 use Rattle.rows.specs.declared.Row.{Row}
 use Rattle.rows.specs.declared.Request.{Request}
-use Rattle.rows.specs.Lists.{rises, member, all, each, laid, filter, some, nonzero}
+use Rattle.rows.specs.Lists.{rises, member, all, each, laid, filter, some, nonzero, slotWith}
 use Rattle.rows.specs.Limits.{rowSlots, requestSlots, mostItems}
 use Rattle.rows.specs.Tables.{numbers, sources}
 use Rattle.rows.specs.Sound.{rowsRise, requestsRise, rowsFit, requestsFit, itemsFew}
-use Rattle.rows.specs.Layout.{wordsOf, nextAt, requestColumns, sourceSlot, rowWord, requestWord, rowField, numberAt, rowAt, rowsTo, rowColumns, requestsAt, requestField, requestAt, requestsTo, rowsIn, requestsIn, stateOf}
-use Rattle.rows.specs.Lies.{sourcesOlder, laidWell, Lies, slotWith, rowSlot}
-use Rattle.soundness.specs.Laid.{Rising, RowsLaid, RequestsLaid}
+use Rattle.rows.specs.Layout.{wordsOf, nextAt, requestColumns, sourceSlot, rowWord, requestWord, rowField, numberAt, rowAt, rowsTo, rowColumns, requestsAt, requestField, requestAt, requestsTo, rowsIn, requestsIn, stateOf, rowSlot, rawRow}
+use Rattle.rows.specs.Setters.{withSources}
+use Rattle.rows.specs.contracts.Represents.{sourcesOlder, laidWell, Represents}
+use Rattle.soundness.specs.contracts.Laid.{Rising, RowsLaid, RequestsLaid}
 use Rattle.rows.proofs.Bools.{and-i}
 use Rattle.rows.proofs.RowSources.{Among}
 use Rattle.rows.proofs.Searches.{leading-le}
-use Rattle.rows.proofs.Slots.{slot-member, source-zero, source-rises, source-le, lies-well, lies-length, lies-row, lies-request, lies-next}
+use Rattle.rows.proofs.Slots.{slot-member, source-zero, source-rises, source-le, represented-well, represented-length, represented-row, represented-request, represented-next}
 use Rattle.soundness.proofs.ListTo.{listTo, length-to, each-to, all-to, laid-past, laid-to, slot-to, rises-to, to-rises}
 
 lt-or-ge : (a b : ℕ) → (a < b) ⊎ (b ≤ a)
@@ -41,7 +42,7 @@ requests-list t zero = refl
 requests-list t (suc k) = ap (λ (l : List Request). requestAt t k ∷ l) (requests-list t k)
 
 number-word : (t : List ℕ) (n i : ℕ) → getD t i 0 ≡ rowAt t n i .number
-unfolding rowAt rowField rowSlots
+unfolding rowAt rawRow withSources rowField rowSlots
 number-word t n i = ap (λ (j : ℕ). getD t j 0) (omega arith)
 
 request-number-word : (t : List ℕ) (i : ℕ) → getD (drop 10240 t) i 0 ≡ requestAt t i .number
@@ -65,7 +66,7 @@ module _ (t : List ℕ) (n : ℕ) (laid-well : RowsLaid t n) where
   below-rises k h = rises-to (rowAt t n) (λ r. r .number) t (number-word t n) k (λ i lt. laid-well .numbers i (omega arith))
 
   number-at : (j : ℕ) → j < n → numberAt t n (suc j) ≡ rowAt t n j .number
-  unfolding numberAt rowAt
+  unfolding numberAt rowAt rawRow withSources
   number-at j h = rw (lt-ltb j n h) refl
 
   -- the slot, plus 1, of one of the first k rows, read as its number and found again
@@ -80,7 +81,7 @@ module _ (t : List ℕ) (n : ℕ) (laid-well : RowsLaid t n) where
       )
 
   row-word : (c i : ℕ) → c < 10 → i < n → rowWord c (rowAt t n i) (listTo (rowAt t n) i) ≡ rowField t c i
-  unfolding rowWord rowAt rowField rowSlots
+  unfolding rowWord rowAt rawRow withSources rowField rowSlots
   row-word zero i h lt = refl
   row-word (suc zero) i h lt = refl
   row-word (suc (suc zero)) i h lt = refl
@@ -105,7 +106,7 @@ module _ (t : List ℕ) (n : ℕ) (laid-well : RowsLaid t n) where
   rows-read-rise = rw (rows-list t n n) (below-rises n (omega arith))
 
   pub rows-read-older : sourcesOlder (rowsTo t n n) ≡ true
-  unfolding sourcesOlder sources rowAt rowField rowSlots all nonzero filter
+  unfolding sourcesOlder sources rowAt rowField rowSlots all nonzero filter withSources numberAt rawRow
   rows-read-older =
       rw (rows-list t n n)
       (each-to (rowAt t n) (λ r rs. all (λ s. member s (numbers rs)) (sources r)) n
@@ -171,24 +172,24 @@ module _ (t p : List ℕ) where
       (rw (le-leb (rowsIn t) 1024 (rows-few t), le-leb (requestsIn t) 128 (requests-few t), items-read) (rows-read-older t (rowsIn t) rows))
 
   module _ (rows : RowsLaid t (rowsIn t)) (requests : RequestsLaid t (requestsIn t)) where
-    lie : Lies (stateOf t p) (wordsOf (stateOf t p))
-    lie = record { well = well-read rows requests; words = refl }
+    rep : Represents (wordsOf (stateOf t p)) (stateOf t p)
+    rep = record { well = well-read rows requests; words = refl }
 
     row-same : (i : ℕ) → i < 10240 → getD t i 0 ≡ getD (wordsOf (stateOf t p)) i 0
     unfolding stateOf
     row-same =
         at-place (λ i. getD t i 0 ≡ getD (wordsOf (stateOf t p)) i 0) 1024 10
-        (λ c j hc hj. row-laid t (rowsIn t) rows c j hc hj ∙ sym (lies-row lie c j hc hj))
+        (λ c j hc hj. row-laid t (rowsIn t) rows c j hc hj ∙ sym (represented-row rep c j hc hj))
 
     request-same : (i : ℕ) → i < 1024 → getD t (10240 + i) 0 ≡ getD (wordsOf (stateOf t p)) (10240 + i) 0
     unfolding stateOf
     request-same =
         at-place (λ i. getD t (10240 + i) 0 ≡ getD (wordsOf (stateOf t p)) (10240 + i) 0) 128 8
-        (λ c j hc hj. request-laid t (requestsIn t) requests c j hc hj ∙ sym (lies-request lie c j hc hj))
+        (λ c j hc hj. request-laid t (requestsIn t) requests c j hc hj ∙ sym (represented-request rep c j hc hj))
 
     next-same : getD t 11264 0 ≡ getD (wordsOf (stateOf t p)) 11264 0
     unfolding stateOf nextAt requestsAt rowColumns requestColumns rowSlots requestSlots
-    next-same = sym (lies-next lie)
+    next-same = sym (represented-next rep)
 
     word-same : (i : ℕ) → i < 11265 → getD t i 0 ≡ getD (wordsOf (stateOf t p)) i 0
     word-same i h =
@@ -199,43 +200,43 @@ module _ (t p : List ℕ) where
         (λ top. let e : 11264 ≡ i = omega arith in subst (λ (k : ℕ). getD t k 0 ≡ getD (wordsOf (stateOf t p)) k 0) e next-same) (lt-or-ge i 11264))
         (lt-or-ge i 10240)
 
-    -- where rows and requests are laid in the words, the state read from them lies there
-    pub laid-lies : length t ≡ 11265 → Lies (stateOf t p) t
-    laid-lies long =
-        record { well = well-read rows requests; words = ext-getD 0 t (wordsOf (stateOf t p)) (long ∙ sym (lies-length lie)) (λ i h. word-same i (omega arith)) }
+    -- where rows and requests are laid in the words, they represent the state read from them
+    pub laid-represents : length t ≡ 11265 → Represents t (stateOf t p)
+    laid-represents long =
+        record { well = well-read rows requests; words = ext-getD 0 t (wordsOf (stateOf t p)) (long ∙ sym (represented-length rep)) (λ i h. word-same i (omega arith)) }
 
   -- and the other way round
-  module _ (lie : Lies (stateOf t p) t) where
+  module _ (rep : Represents t (stateOf t p)) where
     source-word : (c : ℕ) (f : Row → ℕ) → c < 10 → ((r : Row) (rs : List Row) → rowWord c r rs ≡ sourceSlot rs (f r)) → (i : ℕ) → i < rowsIn t → getD t (c * 1024 + i) 0 ≤ i
     unfolding stateOf
     source-word c f h word i lt =
         let rs : List Row = listTo (rowAt t (rowsIn t)) i in
         let r : Row = rowAt t (rowsIn t) i in
         let e : getD t (c * 1024 + i) 0 ≡ sourceSlot rs (f r) =
-        lies-row lie c i h (omega (arith, rows-few t))
+        represented-row rep c i h (omega (arith, rows-few t))
         ∙ ap (λ (l : List Row). getD (laid (rowWord c) l) i 0) (rows-list t (rowsIn t) (rowsIn t))
         ∙ laid-to (rowAt t (rowsIn t)) (rowWord c) (rowsIn t) i lt
         ∙ word r rs in
         omega (arith, source-le rs (f r), length-to (rowAt t (rowsIn t)) i)
 
-    pub lies-rows-laid : RowsLaid t (rowsIn t)
+    pub represented-rows-laid : RowsLaid t (rowsIn t)
     unfolding stateOf rowWord
-    lies-rows-laid =
+    represented-rows-laid =
         record {
           numbers =
               to-rises (rowAt t (rowsIn t)) (λ r. r .number) t (number-word t (rowsIn t)) (rowsIn t)
-              (rw (rows-list t (rowsIn t) (rowsIn t)) at (lies-well lie .rows-rise));
+              (rw (rows-list t (rowsIn t) (rowsIn t)) at (represented-well rep .rows-rise));
           sources = source-word 6 (λ r. r .source) (omega arith) (λ r rs. refl);
           vias = source-word 7 (λ r. r .via) (omega arith) (λ r rs. refl);
-          unused = λ c i h ge hi. lies-row lie c i h hi ∙ laid-past (rowWord c) (rowsTo t (rowsIn t) (rowsIn t)) i (omega (arith, length-rows t (rowsIn t) (rowsIn t)));
+          unused = λ c i h ge hi. represented-row rep c i h hi ∙ laid-past (rowWord c) (rowsTo t (rowsIn t) (rowsIn t)) i (omega (arith, length-rows t (rowsIn t) (rowsIn t)));
         }
 
-    pub lies-requests-laid : RequestsLaid t (requestsIn t)
+    pub represented-requests-laid : RequestsLaid t (requestsIn t)
     unfolding stateOf
-    lies-requests-laid =
+    represented-requests-laid =
         record {
           numbers =
               to-rises (requestAt t) (λ v. v .number) (drop 10240 t) (request-number-word t) (requestsIn t)
-              (rw (requests-list t (requestsIn t)) at (lies-well lie .requests-rise));
-          unused = λ c i h ge hi. lies-request lie c i h hi ∙ laid-past (requestWord c) (requestsTo t (requestsIn t)) i (omega (arith, length-requests t (requestsIn t)));
+              (rw (requests-list t (requestsIn t)) at (represented-well rep .requests-rise));
+          unused = λ c i h ge hi. represented-request rep c i h hi ∙ laid-past (requestWord c) (requestsTo t (requestsIn t)) i (omega (arith, length-requests t (requestsIn t)));
         }

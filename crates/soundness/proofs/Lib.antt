@@ -1,6 +1,6 @@
 -- Laws behind the functions of soundness. One line a file:
 -- answers that tell whether something holds, of each place that a loop has passed
-pub mod Tells
+pub mod Decides
 -- lists read slot by slot
 pub mod ListTo
 -- words in which rows and requests are laid, and the state that is read from them

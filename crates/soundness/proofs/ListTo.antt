@@ -7,9 +7,8 @@ use mathlib.Core.Logic.{⊎-elim}
 use native.Mathlib.Nat.{eq-or-lt-of-le, le-of-suc-le-suc}
 use native.Mathlib.Omega.{arith}
 use lib.ListN.{length, getD, length-append, List·getD-eq-default}
-use Rattle.rows.specs.Lists.{all, each, topOf, rises, laid}
-use Rattle.rows.specs.Lies.{slotWith}
-use Rattle.soundness.specs.Laid.{before, Rising}
+use Rattle.rows.specs.Lists.{all, each, topOf, rises, laid, slotWith}
+use Rattle.soundness.specs.contracts.Laid.{before, Rising}
 use Rattle.rows.proofs.Bools.{and-i}
 use Rattle.rows.proofs.Keyed.{rises-first, rises-rest, rises-cons}
 use Rattle.rows.proofs.KeySlots.{slot-number}

@@ -16,11 +16,14 @@ use Rattle.rows.specs.Lists.{all, topOf, some}
 use Rattle.rows.specs.Codes.{subdirectory, isSubdirectory, inClist}
 use Rattle.rows.specs.Tables.{State, noRow, rowOf}
 use Rattle.rows.specs.Sound.{processPlaced, placedFrom}
-use Rattle.rows.specs.Lies.{Lies, rowSlot, rawRow, withSources, slotted}
-use Rattle.soundness.specs.Laid.{before}
+use Rattle.rows.specs.contracts.Represents.{Represents}
+use Rattle.rows.specs.Layout.{rowSlot, rawRow}
+use Rattle.rows.specs.Setters.{withSources}
+use Rattle.rows.specs.contracts.Slots.{slotted}
+use Rattle.soundness.specs.contracts.Laid.{before}
 use Rattle.rows.proofs.Bools.{pos-some}
 use Rattle.rows.proofs.Keyed.{first-none}
-use Rattle.rows.proofs.Slots.{slot-none, lies-well, row-words-at, raw-row, request-words-at}
+use Rattle.rows.proofs.Slots.{slot-none, represented-well, row-words-at, raw-row, request-words-at}
 
 -- ---- the next number
 pub before-last : (l : List ℕ) (k : ℕ) → (k ≡ 0 → ⊥) → getD l (k - 1) 0 ≡ before l k
@@ -28,7 +31,7 @@ unfolding before
 before-last l zero h = absurd (h refl)
 before-last l (suc k) h = ap (λ (i : ℕ). getD l i 0) (omega arith)
 
-module _ {st : State} {t : List ℕ} (lie : Lies st t) where
+module _ {st : State} {t : List ℕ} (rep : Represents t st) where
   -- the word before slot k of a column of keys is the newest key
   top-before : {A : Type 0} (key : A → ℕ) (xs : List A) (a w k : ℕ) → k ≡ length xs → k ≤ w
       → ((x : A) (older : List A) → xs ≡ x ∷ older → getD t (a + length older) 0 ≡ key x) → before (take w (drop a t)) k ≡ topOf key xs
@@ -41,12 +44,12 @@ module _ {st : State} {t : List ℕ} (lie : Lies st t) where
 
   pub top-row : (n : ℕ) → n ≡ length (st .rows) → before (take 1024 (drop 0 t)) n ≡ topOf (λ r. r .number) (st .rows)
   top-row n e =
-      top-before (λ r. r .number) (st .rows) 0 1024 n e (omega (arith, lies-well lie .rows-fit))
-      (λ r older d. let z : 0 + length older ≡ length older = omega arith in ap (λ (i : ℕ). getD t i 0) z ∙ row-words-at lie [] r older d .number)
+      top-before (λ r. r .number) (st .rows) 0 1024 n e (omega (arith, represented-well rep .rows-fit))
+      (λ r older d. let z : 0 + length older ≡ length older = omega arith in ap (λ (i : ℕ). getD t i 0) z ∙ row-words-at rep [] r older d .number)
 
   pub top-request : (m : ℕ) → m ≡ length (st .requests) → before (take 128 (drop 10240 t)) m ≡ topOf (λ v. v .number) (st .requests)
   top-request m e =
-      top-before (λ v. v .number) (st .requests) 10240 128 m e (omega (arith, lies-well lie .requests-fit)) (λ v older d. request-words-at lie [] v older d .number)
+      top-before (λ v. v .number) (st .requests) 10240 128 m e (omega (arith, represented-well rep .requests-fit)) (λ v older d. request-words-at rep [] v older d .number)
 
 -- ---- records one after the other
 and-assoc : (a b c : Bool) → a && (b && c) ≡ (a && b) && c
@@ -106,7 +109,7 @@ module _ (st : State) (q : ℕ) (x : Process) (gone : x .through ≡ 0 → ⊥) 
   unfolding rowSlot rowOf noRow isSubdirectory subdirectory
   placed-nowhere e = sym (placed-there ∙ rw (first-none (λ r. r .number) noRow (st .rows) (x .through) (slot-none (λ r. r .number) (st .rows) (x .through) e)) refl)
 
-  pub placed-at : {t : List ℕ} → Lies st t → (i : ℕ) (w : Row) → rowSlot (st .rows) (x .through) ≡ suc i → w ≡ rawRow t i
+  pub placed-at : {t : List ℕ} → Represents t st → (i : ℕ) (w : Row) → rowSlot (st .rows) (x .through) ≡ suc i → w ≡ rawRow t i
       → eqb (w .kind) 2 && (eqb (w .place) (100 + q) && eqb (w .object) (x .active)) ≡ processPlaced (st .rows) q x
   unfolding isSubdirectory subdirectory inClist slotted withSources
-  placed-at lie i w e d = rw (d ∙ raw-row lie (x .through) i e) (sym placed-there)
+  placed-at rep i w e d = rw (d ∙ raw-row rep (x .through) i e) (sym placed-there)

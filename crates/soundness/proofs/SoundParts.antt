@@ -10,15 +10,15 @@ use Rattle.rows.specs.Limits.{processes, rowSlots, requestSlots}
 use Rattle.rows.specs.Tables.{State}
 use Rattle.rows.specs.Sound.{rowsRise, requestsRise, numbersApart, belowNext, nextInRange, rowsFit, requestsFit, recordsFit, objectsInRange, rightsInRange, placesInRange, fetchedInRange, sourcesRight, depthsRight, copiesMatch, recordsInRange, endsPaired, portsStand, requestersListed, itemsFew, itemsApart, itemsLent, onePerPort, copiesListed, olderFetched, systemHolds, processesPlaced, sound}
 use Rattle.rows.specs.Layout.{rowColumns, requestColumns, requestsAt, nextAt, tablesLength, processesLength, wordsOf, recordsIn, rowsIn, requestsIn, stateOf, rightLengths, soundWords}
-use Rattle.rows.specs.Lies.{laidWell, Lies}
-use Rattle.soundness.specs.Laid.{Tells, RowsLaid, RequestsLaid}
+use Rattle.rows.specs.contracts.Represents.{laidWell, Represents}
+use Rattle.soundness.specs.contracts.Laid.{Decides, RowsLaid, RequestsLaid}
 use Rattle.rows.proofs.Bools.{false-of, clash, bool-eq, and-l, and-r, and-i, not-t, not-f}
 use Rattle.rows.proofs.Sound.{Sound, sound-open, sound-close}
 use Rattle.rows.proofs.LayoutColumns.{list-same}
 use Rattle.rows.proofs.LayoutWords.{words-state}
 use Rattle.rows.proofs.ProcessRecords.{length-in}
-use Rattle.rows.proofs.LiesWords.{sound-lies}
-use Rattle.soundness.proofs.LaidWords.{laid-lies, lies-rows-laid, lies-requests-laid}
+use Rattle.rows.proofs.RepresentedWords.{sound-represents}
+use Rattle.soundness.proofs.LaidWords.{laid-represents, represented-rows-laid, represented-requests-laid}
 
 -- ---- the groups
 abbrev pub ofNext : State → Bool
@@ -55,12 +55,12 @@ module _ (st : State) (e : sound st ≡ true) where
   sound-holders = let s = sound-open st e in rw (s .older-fetched, s .system-holds) refl
 
 -- and soundness from all of them
-module _ (st : State) {t : List ℕ} (lie : Lies st t) (fit : recordsFit st ≡ true) (next : ofNext st ≡ true) (records : recordsInRange st ≡ true)
+module _ (st : State) {t : List ℕ} (rep : Represents t st) (fit : recordsFit st ≡ true) (next : ofNext st ≡ true) (records : recordsInRange st ≡ true)
     (rows : ofRows st ≡ true) (requests : ofRequests st ≡ true) (holders : ofHolders st ≡ true) where
   all-clauses : processesPlaced st ≡ true → Sound st
   unfolding laidWell
   all-clauses placed =
-      let well : rowsRise st && (requestsRise st && (rowsFit st && (requestsFit st && (itemsFew st && _)))) ≡ true = lie .well in
+      let well : rowsRise st && (requestsRise st && (rowsFit st && (requestsFit st && (itemsFew st && _)))) ≡ true = rep .well in
       let later : depthsRight st && (copiesMatch st && (endsPaired st && copiesListed st)) ≡ true = search and-r in
       record {
         rows-rise = search and-l;
@@ -93,7 +93,7 @@ module _ (st : State) {t : List ℕ} (lie : Lies st t) (fit : recordsFit st ≡ 
       }
 
 -- the tests of the groups, each of which may take those before it as given
-module _ (st : State) {t : List ℕ} (lie : Lies st t) (fit : recordsFit st ≡ true) where
+module _ (st : State) {t : List ℕ} (rep : Represents t st) (fit : recordsFit st ≡ true) where
   pub groups-sound : (rows requests holders placed : Bool) → rows ≡ ofRows st → requests ≡ ofRequests st → (itemsLent st ≡ true → holders ≡ ofHolders st) → placed ≡ processesPlaced st
       → ofNext st ≡ true → recordsInRange st ≡ true → rows && (requests && (holders && placed)) ≡ sound st
   groups-sound rows requests holders placed er eq eh ep next records = bool-eq (rows && (requests && (holders && placed))) (sound st) forth back
@@ -103,7 +103,7 @@ module _ (st : State) {t : List ℕ} (lie : Lies st t) (fit : recordsFit st ≡ 
           let q : ofRequests st ≡ true = sym eq ∙ and-l requests (holders && placed) (and-r rows (requests && (holders && placed)) e) in
           let rest : holders && placed ≡ true = and-r requests (holders && placed) (and-r rows (requests && (holders && placed)) e) in
           sound-close st
-          (all-clauses st lie fit next records (sym er ∙ and-l rows (requests && (holders && placed)) e) q (sym (eh (search (and-l, and-r))) ∙ and-l holders placed rest)
+          (all-clauses st rep fit next records (sym er ∙ and-l rows (requests && (holders && placed)) e) q (sym (eh (search (and-l, and-r))) ∙ and-l holders placed rest)
           (sym ep ∙ and-r holders placed rest))
 
       back : sound st ≡ true → rows && (requests && (holders && placed)) ≡ true
@@ -134,30 +134,30 @@ module _ (t p : List ℕ) where
   records-short e h = rw (eq-eqb (length t) 11265 e, ne-eqb (length p) 192 h) refl
 
   -- sound words hold the state read from them
-  pub sound-words-lie : soundWords t p ≡ true → Lies (stateOf t p) t
+  pub sound-words-rep : soundWords t p ≡ true → Represents t (stateOf t p)
   unfolding soundWords
-  sound-words-lie e =
+  sound-words-rep e =
       let s : sound (stateOf t p) ≡ true = search and-r in
-      subst (λ (l : List ℕ). Lies (stateOf t p) l) (words-state t p e .0) (sound-lies (stateOf t p) (sound-open (stateOf t p) s))
+      subst (λ (l : List ℕ). Represents l (stateOf t p)) (words-state t p e .0) (sound-represents (stateOf t p) (sound-open (stateOf t p) s))
 
   -- so tests that tell whether rows and requests are laid refuse where one fails
-  module _ (n m : ℕ) (a b : Bool) (en : n ≡ rowsIn t) (em : m ≡ requestsIn t) (rows : Tells a (RowsLaid t n)) (requests : Tells b (RequestsLaid t m)) where
+  module _ (n m : ℕ) (a b : Bool) (en : n ≡ rowsIn t) (em : m ≡ requestsIn t) (rows : Decides a (RowsLaid t n)) (requests : Decides b (RequestsLaid t m)) where
     pub not-laid : not (a && b) ≡ true → false ≡ soundWords t p
     not-laid h =
         sym (false-of (soundWords t p)
         (λ s.
-        let lie = sound-words-lie s in
-        clash (and-i a b (rows .only (rw en (lies-rows-laid t p lie))) (requests .only (rw em (lies-requests-laid t p lie)))) (not-t (a && b) h)))
+        let rep = sound-words-rep s in
+        clash (and-i a b (rows .says (rw en (represented-rows-laid t p rep))) (requests .says (rw em (represented-requests-laid t p rep)))) (not-t (a && b) h)))
 
-    -- and where none fails, the state read from the words lies in them
-    pub tells-lies : length t ≡ 11265 → not (a && b) ≡ false → Lies (stateOf t p) t
-    tells-lies long h =
+    -- and where none fails, the words represent the state read from them
+    pub decided-represents : length t ≡ 11265 → not (a && b) ≡ false → Represents t (stateOf t p)
+    decided-represents long h =
         let both : a && b ≡ true = not-f (a && b) h in
-        laid-lies t p (subst (λ (k : ℕ). RowsLaid t k) en (rows .yes′ (and-l a b both))) (subst (λ (k : ℕ). RequestsLaid t k) em (requests .yes′ (and-r a b both))) long
+        laid-represents t p (subst (λ (k : ℕ). RowsLaid t k) en (rows .holds (and-l a b both))) (subst (λ (k : ℕ). RequestsLaid t k) em (requests .holds (and-r a b both))) long
 
-  -- where the state read from the words lies in them, its clauses decide
-  pub laid-sound : length t ≡ 11265 → length p ≡ 192 → Lies (stateOf t p) t → sound (stateOf t p) ≡ soundWords t p
+  -- where the words represent the state read from them, its clauses decide
+  pub laid-sound : length t ≡ 11265 → length p ≡ 192 → Represents t (stateOf t p) → sound (stateOf t p) ≡ soundWords t p
   unfolding soundWords rightLengths tablesLength nextAt requestsAt rowColumns requestColumns rowSlots requestSlots processesLength processes
-  laid-sound et ep lie =
-      let same : sameList (wordsOf (stateOf t p)) t ≡ true = subst (λ (l : List ℕ). sameList (wordsOf (stateOf t p)) l ≡ true) (sym (lie .words)) (list-same (wordsOf (stateOf t p))) in
+  laid-sound et ep rep =
+      let same : sameList (wordsOf (stateOf t p)) t ≡ true = subst (λ (l : List ℕ). sameList (wordsOf (stateOf t p)) l ≡ true) (sym (rep .words)) (list-same (wordsOf (stateOf t p))) in
       rw (eq-eqb (length t) 11265 et, eq-eqb (length p) 192 ep, same) refl

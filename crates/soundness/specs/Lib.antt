@@ -1,3 +1,2 @@
--- Definitions that the contracts of soundness cite.
-pub mod Laid
-pub mod Computes
+-- The test of the lent words has no definitions of its own: rows/specs/Layout.antt has soundWords.
+pub mod contracts

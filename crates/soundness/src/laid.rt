@@ -12,12 +12,12 @@ use rows::layout::VIA;
 ghost use mathlib.Core.Path.{_≡_};
 ghost use Prim.Native.Nat.{ℕ, _+_, _*_, _<_, _≤_};
 ghost use lib.ListN.{length, getD};
-ghost use Rattle.soundness.specs.Laid.{Tells, Rising, Older, ZeroFrom, RowsLaid, RequestsLaid};
+ghost use Rattle.soundness.specs.contracts.Laid.{Decides, Rising, Older, ZeroFrom, RowsLaid, RequestsLaid};
 
 // Whether the words of a column from place k on are 0.
 // Ruled out: yes where the last word is not 0; no for what stands before place k.
 pub fn zero_from(column: &[u32], k: usize) -> bool
-    ensures { λ r. ⌜ Tells r (ZeroFrom k (now (column .entry))) ⌝ }
+    ensures { λ r. ⌜ Decides r (ZeroFrom k (now (column .entry))) ⌝ }
 {
     let mut zero = true;
     let mut i = k;
@@ -32,7 +32,7 @@ pub fn zero_from(column: &[u32], k: usize) -> bool
 // Ruled out: yes where two words are the same; yes where the first is 0.
 pub fn rising(column: &[u32], k: usize) -> bool
     requires { ⌜ k ≤ length (now column) ⌝ }
-    ensures { λ r. ⌜ Tells r (Rising k (now (column .entry))) ⌝ }
+    ensures { λ r. ⌜ Decides r (Rising k (now (column .entry))) ⌝ }
 {
     let mut rise = true;
     let mut last: u32 = 0;
@@ -50,7 +50,7 @@ pub fn rising(column: &[u32], k: usize) -> bool
 // Ruled out: yes where a row is its own source; no where it comes from the row just before it.
 pub fn older(column: &[u32], k: usize) -> bool
     requires { ⌜ (k ≤ length (now column)) × (k ≤ 1024) ⌝ }
-    ensures { λ r. ⌜ Tells r (Older k (now (column .entry))) ⌝ }
+    ensures { λ r. ⌜ Decides r (Older k (now (column .entry))) ⌝ }
 {
     let mut old = true;
     let mut i = 0;
@@ -67,7 +67,7 @@ pub fn older(column: &[u32], k: usize) -> bool
 // Ruled out: yes where a word of one column alone is left; no for the row at slot n - 1.
 pub fn rows_unused(t: &[u32], n: usize) -> bool
     requires { ⌜ length (now t) ≡ 11265 ⌝ }
-    ensures { λ r. ⌜ Tells r ((c i : ℕ) → c < 10 → n ≤ i → i < 1024 → getD (now (t .entry)) (c * 1024 + i) 0 ≡ 0) ⌝ }
+    ensures { λ r. ⌜ Decides r ((c i : ℕ) → c < 10 → n ≤ i → i < 1024 → getD (now (t .entry)) (c * 1024 + i) 0 ≡ 0) ⌝ }
 {
     let mut unused = true;
     let mut c = 0;
@@ -84,7 +84,7 @@ pub fn rows_unused(t: &[u32], n: usize) -> bool
 // Ruled out: yes where an item is left in a slot; no for the next number, which follows the columns.
 pub fn requests_unused(t: &[u32], m: usize) -> bool
     requires { ⌜ length (now t) ≡ 11265 ⌝ }
-    ensures { λ r. ⌜ Tells r ((c i : ℕ) → c < 8 → m ≤ i → i < 128 → getD (now (t .entry)) (10240 + (c * 128 + i)) 0 ≡ 0) ⌝ }
+    ensures { λ r. ⌜ Decides r ((c i : ℕ) → c < 8 → m ≤ i → i < 128 → getD (now (t .entry)) (10240 + (c * 128 + i)) 0 ≡ 0) ⌝ }
 {
     let mut unused = true;
     let mut c = 0;
@@ -101,7 +101,7 @@ pub fn requests_unused(t: &[u32], m: usize) -> bool
 // Ruled out: yes where a source is not older than its row; yes where two numbers fall.
 pub fn rows_laid(t: &[u32], n: usize) -> bool
     requires { ⌜ (length (now t) ≡ 11265) × (n ≤ 1024) ⌝ }
-    ensures { λ r. ⌜ Tells r (RowsLaid (now (t .entry)) n) ⌝ }
+    ensures { λ r. ⌜ Decides r (RowsLaid (now (t .entry)) n) ⌝ }
 {
     let numbers = rising(&t[NUMBER..KIND], n);
     let sources = older(&t[SOURCE..VIA], n);
@@ -114,7 +114,7 @@ pub fn rows_laid(t: &[u32], n: usize) -> bool
 // Ruled out: yes where two requests have one number; yes where a slot after them is in use.
 pub fn requests_laid(t: &[u32], m: usize) -> bool
     requires { ⌜ (length (now t) ≡ 11265) × (m ≤ 128) ⌝ }
-    ensures { λ r. ⌜ Tells r (RequestsLaid (now (t .entry)) m) ⌝ }
+    ensures { λ r. ⌜ Decides r (RequestsLaid (now (t .entry)) m) ⌝ }
 {
     let numbers = rising(&t[Q_NUMBER..Q_PORT], m);
     let unused = requests_unused(t, m);

@@ -19,8 +19,8 @@ ghost use lib.ListN.{length, getD};
 ghost use Rattle.rows.specs.Tables.{State, noProcess};
 ghost use Rattle.rows.specs.Sound.{belowNext, nextInRange, recordInRange, recordsInRange, processPlaced, processesPlaced};
 ghost use Rattle.rows.specs.Layout.{recordsIn};
-ghost use Rattle.rows.specs.Lies.{Lies};
-ghost use Rattle.soundness.specs.Laid.{before};
+ghost use Rattle.rows.specs.contracts.Represents.{Represents};
+ghost use Rattle.soundness.specs.contracts.Laid.{before};
 
 // one more than the greatest number
 const LAST_NEXT: u32 = 1000001;
@@ -40,7 +40,7 @@ pub fn last_of(column: &[u32], k: usize) -> u32
 // Ruled out: a next number of 1,000,002; one that a row or a request has.
 pub fn next_sound(t: &[u32], n: usize, m: usize) -> bool
     requires { ⌜ (length (now t) ≡ 11265) × (n ≤ 1024) × (m ≤ 128) ⌝ }
-    ensures { λ r. ⌜ ((st : State) → Lies st (now (t .entry)) → n ≡ length (st .rows) → m ≡ length (st .requests) → r ≡ (nextInRange st && belowNext st)) ⌝ }
+    ensures { λ r. ⌜ ((st : State) → Represents (now (t .entry)) st → n ≡ length (st .rows) → m ≡ length (st .requests) → r ≡ (nextInRange st && belowNext st)) ⌝ }
 {
     let next = t[NEXT];
     let row = last_of(&t[NUMBER..KIND], n);
@@ -91,7 +91,7 @@ pub fn records_sound(p: &[u32]) -> bool
 // Of the record of process q. Ruled out: a row of another process's c-list; one that is no subdirectory.
 pub fn process_placed(t: &[u32], n: usize, q: u32, x: Process) -> bool
     requires { ⌜ (length (now t) ≡ 11265) × (n ≤ 1024) × (q ≤ 64) ⌝ }
-    ensures { λ r. ⌜ ((st : State) → Lies st (now (t .entry)) → n ≡ length (st .rows) → r ≡ processPlaced (st .rows) q x) ⌝ }
+    ensures { λ r. ⌜ ((st : State) → Represents (now (t .entry)) st → n ≡ length (st .rows) → r ≡ processPlaced (st .rows) q x) ⌝ }
 {
     if x.through == 0 {
         return x.active == x.prime;
@@ -107,7 +107,7 @@ pub fn process_placed(t: &[u32], n: usize, q: u32, x: Process) -> bool
 // Ruled out: yes where process 64 is not in its place; the records counted from 0.
 pub fn processes_placed(t: &[u32], p: &[u32], n: usize) -> bool
     requires { ⌜ (length (now t) ≡ 11265) × (length (now p) ≡ 192) × (n ≤ 1024) ⌝ }
-    ensures { λ r. ⌜ ((st : State) → Lies st (now (t .entry)) → st .processes ≡ recordsIn (now (p .entry)) → n ≡ length (st .rows) → r ≡ processesPlaced st) ⌝ }
+    ensures { λ r. ⌜ ((st : State) → Represents (now (t .entry)) st → st .processes ≡ recordsIn (now (p .entry)) → n ≡ length (st .rows) → r ≡ processesPlaced st) ⌝ }
 {
     let mut placed = true;
     let mut i = 0;

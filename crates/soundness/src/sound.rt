@@ -4,13 +4,13 @@ use crate::laid::rows_laid;
 use crate::record_clauses::next_sound;
 use crate::record_clauses::processes_placed;
 use crate::record_clauses::records_sound;
-use loanclauses::holder_clauses::holders_sound;
-use loanclauses::request_clauses::requests_sound;
-use rowclauses::rows_sound::rows_sound;
 use rows::find::requests_in;
 use rows::find::rows_in;
 use rows::layout::LENGTH;
 use rows::layout::RECORDS;
+use soundness_loans::holder_clauses::holders_sound;
+use soundness_loans::request_clauses::requests_sound;
+use soundness_rows::rows_sound::rows_sound;
 ghost use mathlib.Core.Path.{_≡_};
 ghost use mathlib.Core.Bool.{true, _&&_};
 ghost use Prim.Native.Nat.{ℕ, _+_, _<_, _≤_};
@@ -18,14 +18,14 @@ ghost use lib.ListN.{length, getD};
 ghost use Rattle.rows.specs.Tables.{State};
 ghost use Rattle.rows.specs.Sound.{belowNext, nextInRange, recordsInRange, sound};
 ghost use Rattle.rows.specs.Layout.{recordsIn, soundWords};
-ghost use Rattle.rows.specs.Lies.{Lies};
+ghost use Rattle.rows.specs.contracts.Represents.{Represents};
 
 // The clauses of rows, requests and processes, where the next number and the records are in range.
 fn tables_sound(t: &[u32], p: &[u32], n: usize, m: usize) -> bool
     requires sizes { ⌜ (length (now t) ≡ 11265) × (length (now p) ≡ 192) × (n ≤ 1024) × (m ≤ 128) ⌝ }
     requires sources { ⌜ ((i : ℕ) → i < n → getD (now t) (6144 + i) 0 ≤ i) ⌝ }
     requires vias { ⌜ ((i : ℕ) → i < n → getD (now t) (7168 + i) 0 ≤ i) ⌝ }
-    ensures { λ r. ⌜ ((st : State) → Lies st (now (t .entry)) → st .processes ≡ recordsIn (now (p .entry)) → n ≡ length (st .rows) → m ≡ length (st .requests) → nextInRange st && belowNext st ≡ true → recordsInRange st ≡ true → r ≡ sound st) ⌝ }
+    ensures { λ r. ⌜ ((st : State) → Represents (now (t .entry)) st → st .processes ≡ recordsIn (now (p .entry)) → n ≡ length (st .rows) → m ≡ length (st .requests) → nextInRange st && belowNext st ≡ true → recordsInRange st ≡ true → r ≡ sound st) ⌝ }
 {
     let rows = rows_sound(t, p, n, m);
     let requests = requests_sound(t, p, n, m);
@@ -39,7 +39,7 @@ fn clauses_sound(t: &[u32], p: &[u32], n: usize, m: usize) -> bool
     requires sizes { ⌜ (length (now t) ≡ 11265) × (length (now p) ≡ 192) × (n ≤ 1024) × (m ≤ 128) ⌝ }
     requires sources { ⌜ ((i : ℕ) → i < n → getD (now t) (6144 + i) 0 ≤ i) ⌝ }
     requires vias { ⌜ ((i : ℕ) → i < n → getD (now t) (7168 + i) 0 ≤ i) ⌝ }
-    ensures { λ r. ⌜ ((st : State) → Lies st (now (t .entry)) → st .processes ≡ recordsIn (now (p .entry)) → n ≡ length (st .rows) → m ≡ length (st .requests) → r ≡ sound st) ⌝ }
+    ensures { λ r. ⌜ ((st : State) → Represents (now (t .entry)) st → st .processes ≡ recordsIn (now (p .entry)) → n ≡ length (st .rows) → m ≡ length (st .requests) → r ≡ sound st) ⌝ }
 {
     let next = next_sound(t, n, m);
     let records = records_sound(p);

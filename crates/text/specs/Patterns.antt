@@ -46,8 +46,8 @@ began i = record { good = true; next = i; word = 0; a = 0; b = 0; c = 0 }
 unfoldable pub counted : Read → Run → Read
 counted r n = record { good = true; next = n .next; word = r .word; a = r .b; b = r .c; c = n .value }
 
-unfoldable pub named : Read → Run → Read
-named r w = record { good = true; next = w .next; word = w .value; a = r .a; b = r .b; c = r .c }
+unfoldable pub worded : Read → Run → Read
+worded r w = record { good = true; next = w .next; word = w .value; a = r .a; b = r .b; c = r .c }
 
 unfoldable pub passed : Read → Read
 passed r = record { good = true; next = r .next + 1; word = r .word; a = r .a; b = r .b; c = r .c }
@@ -61,7 +61,7 @@ number s r =
 
 -- a word: letters, at least one
 unfoldable pub word : List ℕ → Read → Read
-word s r = if isLetter (getD s (r .next) 0) then named r (letters s (r .next)) else bad
+word s r = if isLetter (getD s (r .next) 0) then worded r (letters s (r .next)) else bad
 
 -- any other byte of a pattern: itself
 unfoldable pub itself : List ℕ → Read → ℕ → Read

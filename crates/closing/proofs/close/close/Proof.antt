@@ -4,10 +4,10 @@ use mathlib.Core.List.{map}
 use mathlib.Core.Path.{sym, ap, _∙_}
 use denote.Ref.{now}
 use Rattle.rows.specs.Tables.{marked}
-use Rattle.rows.proofs.LiesWords.{lies-rows}
+use Rattle.rows.proofs.RepresentedWords.{represented-rows}
 use Rattle.closing.specs.Closing.{homed, settled, closing}
-use Rattle.closing.specs.Seeds.{seedOf, closingFrom}
-use Rattle.closing.proofs.CloseParts.{lies-closed}
+use Rattle.closing.specs.contracts.Seeds.{seedOf, closingFrom}
+use Rattle.closing.proofs.CloseParts.{represented-closed}
 use Rattle.closing.proofs.close.close.Statement.{statement}
 use Rattle.closing.proofs.close.close.Tie as tie
 
@@ -34,12 +34,12 @@ returns c =
     let marks = c .before .before .before .before .before .before .before .before .mark-rows in
     let home = c .before .before .before .before .before .home-all in
     let out = c .before .before .take-out in (
-      (λ st sd lie same.
+      (λ st sd rep same.
           let g = marked (seedOf (s .args .s)) (st .rows) in
-          let count = counted .ensures .0 ∙ lies-rows lie in
-          let gone = marks .ensures st lie count in (
-            out .ensures .0 st g sd lie count gone (lies-closed (seedOf (s .args .s)) st (now (s .args .t)) lie),
-            home .ensures st g sd lie count gone same ∙ ap (map (homed g)) (sym same),
+          let count = counted .ensures .0 ∙ represented-rows rep in
+          let gone = marks .ensures st rep count in (
+            out .ensures .0 st g sd rep count gone (represented-closed (seedOf (s .args .s)) st (now (s .args .t)) rep),
+            home .ensures st g sd rep count gone same ∙ ap (map (homed g)) (sym same),
           )),
       out .ensures .1,
     )

@@ -1,7 +1,7 @@
 -- `close::close_port`: its seeds are those of `closePort`.
 use borrow.Author.Needs.{needs}
 use Rattle.closing.specs.Closing.{closePort}
-use Rattle.closing.specs.Seeds.{seedOf, closesOf, closingFrom}
+use Rattle.closing.specs.contracts.Seeds.{seedOf, closesOf, closingFrom}
 use Rattle.closing.proofs.close.close_port.Statement.{statement}
 use Rattle.closing.proofs.close.close_port.Tie as tie
 

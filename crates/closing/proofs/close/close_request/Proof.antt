@@ -1,7 +1,7 @@
 -- `close::close_request`: its seeds are those of `closeRequest`.
 use borrow.Author.Needs.{needs}
 use Rattle.closing.specs.Closing.{closeRequest}
-use Rattle.closing.specs.Seeds.{seedOf, closesOf, closingFrom}
+use Rattle.closing.specs.contracts.Seeds.{seedOf, closesOf, closingFrom}
 use Rattle.closing.proofs.close.close_request.Statement.{statement}
 use Rattle.closing.proofs.close.close_request.Tie as tie
 

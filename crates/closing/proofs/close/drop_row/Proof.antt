@@ -1,7 +1,7 @@
 -- `close::drop_row`: its seeds are those of `dropRow`.
 use borrow.Author.Needs.{needs}
 use Rattle.closing.specs.Closing.{dropRow}
-use Rattle.closing.specs.Seeds.{seedOf, closesOf, closingFrom}
+use Rattle.closing.specs.contracts.Seeds.{seedOf, closesOf, closingFrom}
 use Rattle.closing.proofs.close.drop_row.Statement.{statement}
 use Rattle.closing.proofs.close.drop_row.Tie as tie
 

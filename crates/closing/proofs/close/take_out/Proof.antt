@@ -2,9 +2,9 @@
 use borrow.Author.Needs.{needs}
 use mathlib.Core.Path.{_∙_}
 use denote.Ref.{now}
-use Rattle.rows.proofs.LiesWords.{lies-requests}
+use Rattle.rows.proofs.RepresentedWords.{represented-requests}
 use Rattle.closing.specs.Closing.{closes}
-use Rattle.closing.specs.Seeds.{closesOf}
+use Rattle.closing.specs.contracts.Seeds.{closesOf}
 use Rattle.closing.proofs.ListsSettled.{closes-blind}
 use Rattle.closing.proofs.CloseParts.{taken-out}
 use Rattle.closing.proofs.close.take_out.Statement.{statement}
@@ -36,12 +36,12 @@ returns c =
     let lists = c .before .before .before .before .before .before .before .before .before .before .before .settle-lists in
     let rows = c .before .before .before .before .before .before .before .remove-rows in
     let requests = c .before .before .remove-requests in (
-      (λ st g sd lie count gone under.
+      (λ st g sd rep count gone under.
           let f = closes (closesOf (s .args .s)) g in
-          let long = counted .ensures .0 ∙ lies-requests lie in
-          let ended = marks .ensures st g sd lie count long gone in
+          let long = counted .ensures .0 ∙ represented-requests rep in
+          let ended = marks .ensures st g sd rep count long gone in
           taken-out (s .args .n) (now (s .args .removed)) (marks .result) (lists .last .0) (rows .last .0) (requests .last .0) (rows .ensures) (requests .ensures) g f (closes-blind (closesOf (s .args .s)) g) st
-          count gone ended under (lists .ensures .0 st g f sd lie count long gone ended)),
+          count gone ended under (lists .ensures .0 st g f sd rep count long gone ended)),
       requests .kept .0 ∙ rows .kept .0 ∙ lists .ensures .1,
     )
 

@@ -9,7 +9,7 @@ use Rattle.closing.proofs.homes.home.Statement.{statement}
 use Rattle.closing.proofs.homes.home.Tie as tie
 
 returns : tie.Need-returns
-returns c = λ st g lie count gone there. homed-none g (c .before .before .before .args .x) (c .if1 .taken)
+returns c = λ st g rep count gone there. homed-none g (c .before .before .before .args .x) (c .if1 .taken)
 
 is-marked-requires : tie.Need-is-marked-requires
 is-marked-requires c κs = search needs
@@ -18,13 +18,13 @@ returns-2 : tie.Need-returns-2
 returns-2 c =
     let x = c .before .before .before .before .before .args .x in
     let sm = not-zero (x .through) (ne-eqb (x .through) 0 (c .before .before .if1 .left)) in
-    λ st g lie count gone there. homed-told g x true sm (sym (c .before .is-marked .ensures st g lie count gone (there sm)) ∙ c .if2 .taken)
+    λ st g rep count gone there. homed-told g x true sm (sym (c .before .is-marked .ensures st g rep count gone (there sm)) ∙ c .if2 .taken)
 
 returns-3 : tie.Need-returns-3
 returns-3 c =
     let x = c .before .before .before .before .before .args .x in
     let sm = not-zero (x .through) (ne-eqb (x .through) 0 (c .before .before .if1 .left)) in
-    λ st g lie count gone there. homed-told g x false sm (sym (c .before .is-marked .ensures st g lie count gone (there sm)) ∙ c .if2 .left)
+    λ st g rep count gone there. homed-told g x false sm (sym (c .before .is-marked .ensures st g rep count gone (there sm)) ∙ c .if2 .left)
 
 pub home-spec : {M : Type 1} → statement M
 home-spec = tie.close (tie.spec returns is-marked-requires returns-2 returns-3)

@@ -9,8 +9,8 @@ use lib.ListN.{length, length-set}
 use Rattle.rows.specs.Lists.{pad}
 use Rattle.rows.specs.Tables.{State, noProcess}
 use Rattle.rows.specs.Sound.{sound}
-use Rattle.rows.specs.Lies.{Lies}
-use Rattle.changes.specs.Marks.{marksOf}
+use Rattle.rows.specs.contracts.Represents.{Represents}
+use Rattle.changes.specs.contracts.Marks.{marksOf}
 use Rattle.closing.proofs.HomesAll.{HomedTo, homed-start, homed-next, homed-turn, homed-end}
 use Rattle.closing.proofs.homes.home_all.Statement.{statement}
 use Rattle.closing.proofs.homes.home_all.Tie as tie
@@ -18,13 +18,13 @@ use Rattle.closing.proofs.homes.home_all.Tie as tie
 abbrev Inv-loop : tie.InvT-loop
 Inv-loop t n removed to₀ i₀ to i =
     (i ≤ 64) × (length to ≡ 64)
-    × ((st : State) (g : List ℕ) → sound st ≡ true → Lies st t → n ≡ length (st .rows) → removed ≡ pad false 1024 (marksOf g (st .rows)) → st .processes ≡ to₀ → HomedTo g to₀ to i)
+    × ((st : State) (g : List ℕ) → sound st ≡ true → Represents t st → n ≡ length (st .rows) → removed ≡ pad false 1024 (marksOf g (st .rows)) → st .processes ≡ to₀ → HomedTo g to₀ to i)
 
 abbrev μ-loop : tie.MeasureT-loop
 μ-loop t n removed to₀ i₀ to i = 64 - i
 
 loop-holds : tie.Need-loop-holds Inv-loop μ-loop
-loop-holds c = (search needs, c .before .good .1 .1 .0 .1 .0 .1, (λ st g sd lie count gone same. homed-start g (c .before .args .ps)))
+loop-holds c = (search needs, c .before .good .1 .1 .0 .1 .0 .1, (λ st g sd rep count gone same. homed-start g (c .before .args .ps)))
 
 mul-home : tie.Need-mul-home Inv-loop μ-loop
 mul-home c = search needs
@@ -54,10 +54,10 @@ loop-again c =
     let l = c .before .before .before .loop in (
       search needs,
       simp length-set (l .inv .1),
-      (λ st g sd lie count gone same.
-          let so = l .inv .2 st g sd lie count gone same in
+      (λ st g sd rep count gone same.
+          let so = l .inv .2 st g sd rep count gone same in
           homed-turn g (s .args .ps) (l .to) (l .i) (c .home .result) (omega (arith, l .inv .1, c .before .before .loop-test .taken))
-          (c .home .ensures st g lie count gone (homed-next g (s .args .ps) st sd same (l .to) (l .i) so)) so),
+          (c .home .ensures st g rep count gone (homed-next g (s .args .ps) st sd same (l .to) (l .i) so)) so),
     )
 
 returns : tie.Need-returns Inv-loop μ-loop
@@ -65,7 +65,7 @@ returns c =
     let s = c .before .before .before in
     let l = c .before .loop in
     let end : l .i ≡ 64 = omega (arith, l .inv .0, c .loop-test .left) in
-    λ st g sd lie count gone same. homed-end g (s .args .ps) (l .to) (l .i) (l .inv .1 ∙ sym end) (s .good .1 .1 .0 .1 .0 .1 ∙ sym end) (l .inv .2 st g sd lie count gone same)
+    λ st g sd rep count gone same. homed-end g (s .args .ps) (l .to) (l .i) (l .inv .1 ∙ sym end) (s .good .1 .1 .0 .1 .0 .1 ∙ sym end) (l .inv .2 st g sd rep count gone same)
 
 pub home-all-spec : {M : Type 1} → statement M
 home-all-spec =

@@ -5,8 +5,9 @@ use native.Mathlib.Omega.{arith}
 use mathlib.Core.Path.{_≡_, sym, subst, _∙_}
 use denote.Ref.{now}
 use Rattle.rows.specs.Codes.{inClist}
-use Rattle.rows.specs.Lies.{Lies, rowSlot, changeRow}
-use Rattle.changes.specs.Changes.{placed}
+use Rattle.rows.specs.contracts.Represents.{Represents, changeRow}
+use Rattle.rows.specs.Layout.{rowSlot}
+use Rattle.rows.specs.Setters.{withPlace}
 use Rattle.rows.proofs.Bools.{pos-some}
 use Rattle.rows.proofs.Slots.{at-below, found-at, found-nothing}
 use Rattle.closing.proofs.ListsMarks.{mark-read}
@@ -17,7 +18,7 @@ use Rattle.closing.proofs.lists.item_back.Tie as tie
 returns : tie.Need-returns
 returns c =
     let s = c .before .before in
-    ((λ st b lie count few m. back-zero b (s .args .asker) st (now (s .args .t)) (now (s .args .back)) lie m (s .args .e) (c .if1 .taken)), s .pre .0)
+    ((λ st b rep count few m. back-zero b (s .args .asker) st (now (s .args .t)) (now (s .args .back)) rep m (s .args .e) (c .if1 .taken)), s .pre .0)
 
 row-among-requires : tie.Need-row-among-requires
 row-among-requires c κs = search needs
@@ -35,8 +36,8 @@ returns-2 : tie.Need-returns-2
 returns-2 c =
     let s = c .before .before .before .before .before .before in
     let found = c .before .before .row-among in (
-      (λ st b lie count few m. back-absent b (s .args .asker) st (now (s .args .t)) (now (s .args .back)) lie m (s .args .e) (pos-some (s .args .e) (omega (arith, c .before .before .before .before .if1 .left)))
-          (found-nothing (rowSlot (st .rows) (s .args .e)) (found .ensures .1 st lie count) (c .enum-told .given .1))),
+      (λ st b rep count few m. back-absent b (s .args .asker) st (now (s .args .t)) (now (s .args .back)) rep m (s .args .e) (pos-some (s .args .e) (omega (arith, c .before .before .before .before .if1 .left)))
+          (found-nothing (rowSlot (st .rows) (s .args .e)) (found .ensures .1 st rep count) (c .enum-told .given .1))),
       s .pre .0,
     )
 
@@ -51,8 +52,8 @@ returns-3 c =
     let s = c .before .before .before .before .before .before .before .before .before in
     let found = c .before .before .before .before .before .row-among in
     let i = c .before .before .before .i .given .0 .0 in (
-      (λ st b lie count few m. back-before b (s .args .asker) st (now (s .args .t)) (now (s .args .back)) lie m (s .args .e) (pos-some (s .args .e) (omega (arith, c .before .before .before .before .before .before .before .if1 .left)))
-          (sym (mark-read b (st .rows) (s .args .e) i (found-at (rowSlot (st .rows) (s .args .e)) i (found .ensures .1 st lie count) (c .before .before .before .i .given .1)) (now (s .args .back)) m) ∙ c .if2 .taken)),
+      (λ st b rep count few m. back-before b (s .args .asker) st (now (s .args .t)) (now (s .args .back)) rep m (s .args .e) (pos-some (s .args .e) (omega (arith, c .before .before .before .before .before .before .before .if1 .left)))
+          (sym (mark-read b (st .rows) (s .args .e) i (found-at (rowSlot (st .rows) (s .args .e)) i (found .ensures .1 st rep count) (c .before .before .before .i .given .1)) (now (s .args .back)) m) ∙ c .if2 .taken)),
       s .pre .0,
     )
 
@@ -76,12 +77,12 @@ returns-4 c =
     let found = c .before .before .before .before .before .before .before .before .before .before .row-among in
     let put = c .before .before .set-place in
     let i = c .before .before .before .before .before .before .before .before .i .given .0 .0 in (
-      (λ st b lie count few m.
-          let slot : rowSlot (st .rows) (s .args .e) ≡ suc i = found-at (rowSlot (st .rows) (s .args .e)) i (found .ensures .1 st lie count) (c .before .before .before .before .before .before .before .before .i .given .1) in
+      (λ st b rep count few m.
+          let slot : rowSlot (st .rows) (s .args .e) ≡ suc i = found-at (rowSlot (st .rows) (s .args .e)) i (found .ensures .1 st rep count) (c .before .before .before .before .before .before .before .before .i .given .1) in
           let place : c .before .before .before .before .clist .result ≡ inClist (s .args .asker) = c .before .before .before .before .clist .ensures few in
-          back-now b (s .args .asker) st (now (s .args .t)) (put .last .0) (now (s .args .back)) lie m (s .args .e) (pos-some (s .args .e) (omega (arith, c .before .before .before .before .before .before .before .before .before .before .before .before .if1 .left)))
+          back-now b (s .args .asker) st (now (s .args .t)) (put .last .0) (now (s .args .back)) rep m (s .args .e) (pos-some (s .args .e) (omega (arith, c .before .before .before .before .before .before .before .before .before .before .before .before .if1 .left)))
           (sym (mark-read b (st .rows) (s .args .e) i slot (now (s .args .back)) m) ∙ c .before .before .before .before .before .if2 .left) i slot
-          (subst (λ (p : ℕ). Lies (changeRow (s .args .e) (placed p) st) (put .last .0)) place (put .ensures .0 st (s .args .e) lie slot))),
+          (subst (λ (p : ℕ). Represents (put .last .0) (changeRow (s .args .e) (withPlace p) st)) place (put .ensures .0 st (s .args .e) rep slot))),
       put .ensures .1,
     )
 

@@ -6,7 +6,7 @@ use mathlib.Core.Bool.{true, false, _||_}
 use mathlib.Core.Path.{_≡_, sym, _∙_}
 use denote.Ref.{now}
 use Rattle.rows.specs.Lists.{some}
-use Rattle.rows.specs.Lies.{rowSlot}
+use Rattle.rows.specs.Layout.{rowSlot}
 use Rattle.rows.proofs.Bools.{clash, and-i, pos-some}
 use Rattle.rows.proofs.Slots.{at-below, found-at, found-nothing, row-none}
 use Rattle.closing.proofs.ListsMarks.{marks-read}
@@ -17,7 +17,7 @@ use Rattle.closing.proofs.lists.item_out.Tie as tie
 returns : tie.Need-returns
 returns c =
     let s = c .before .before in
-    ((λ st g b new w old lie count cut slot stands gone back. out-same lie new w old cut (λ n. g n || b n) (s .args .k) (s .args .e) (none-zero (s .args .e) (c .if1 .taken) (g (s .args .e) || b (s .args .e)))), s .pre .0)
+    ((λ st g b new w old rep count cut slot stands gone back. out-same rep new w old cut (λ n. g n || b n) (s .args .k) (s .args .e) (none-zero (s .args .e) (c .if1 .taken) (g (s .args .e) || b (s .args .e)))), s .pre .0)
 
 row-among-requires : tie.Need-row-among-requires
 row-among-requires c κs = search needs
@@ -35,10 +35,10 @@ returns-2 : tie.Need-returns-2
 returns-2 c =
     let s = c .before .before .before .before .before .before in
     let found = c .before .before .row-among in (
-      (λ st g b new w old lie count cut slot stands gone back.
+      (λ st g b new w old rep count cut slot stands gone back.
           let e = s .args .e in
           let h : some e ≡ true = pos-some e (omega (arith, c .before .before .before .before .if1 .left)) in
-          clash (stands h) (row-none (st .rows) e (found-nothing (rowSlot (st .rows) e) (found .ensures .1 st lie count) (c .enum-told .given .1)))),
+          clash (stands h) (row-none (st .rows) e (found-nothing (rowSlot (st .rows) e) (found .ensures .1 st rep count) (c .enum-told .given .1)))),
       s .pre .0,
     )
 
@@ -62,12 +62,12 @@ returns-3 c =
     let found = c .before .before .before .before .before .before .before .before .before .before .row-among in
     let cleared = c .before .before .clear-item in
     let i = c .before .before .before .before .before .before .before .before .i .given .0 .0 in (
-      (λ st g b new w old lie count cut slot stands gone back.
+      (λ st g b new w old rep count cut slot stands gone back.
           let e = s .args .e in
-          let at-i : rowSlot (st .rows) e ≡ suc i = found-at (rowSlot (st .rows) e) i (found .ensures .1 st lie count) (c .before .before .before .before .before .before .before .before .i .given .1) in
+          let at-i : rowSlot (st .rows) e ≡ suc i = found-at (rowSlot (st .rows) e) i (found .ensures .1 st rep count) (c .before .before .before .before .before .before .before .before .i .given .1) in
           let goes : g e || b e ≡ true = sym (marks-read g b (st .rows) e i at-i (now (s .args .removed)) (now (s .args .back)) gone back) ∙ c .before .before .before .before .if2 .taken in
-          out-now lie new w old cut (λ n. g n || b n) (s .args .k) (s .args .e) (and-i (some e) (g e || b e) (pos-some e (omega (arith, c .before .before .before .before .before .before .before .before .before .before .before .before .if1 .left))) goes) (cleared .last .0)
-          (cleared .ensures .0 st (w .number) lie (slot-here lie new w old cut (s .args .j) slot))),
+          out-now rep new w old cut (λ n. g n || b n) (s .args .k) (s .args .e) (and-i (some e) (g e || b e) (pos-some e (omega (arith, c .before .before .before .before .before .before .before .before .before .before .before .before .if1 .left))) goes) (cleared .last .0)
+          (cleared .ensures .0 st (w .number) rep (slot-here rep new w old cut (s .args .j) slot))),
       cleared .ensures .1,
     )
 
@@ -79,11 +79,11 @@ returns-4 c =
     let s = c .before .before .before .before .before .before .before .before .before .before in
     let found = c .before .before .before .before .before .before .row-among in
     let i = c .before .before .before .before .i .given .0 .0 in (
-      (λ st g b new w old lie count cut slot stands gone back.
+      (λ st g b new w old rep count cut slot stands gone back.
           let e = s .args .e in
-          let at-i : rowSlot (st .rows) e ≡ suc i = found-at (rowSlot (st .rows) e) i (found .ensures .1 st lie count) (c .before .before .before .before .i .given .1) in
+          let at-i : rowSlot (st .rows) e ≡ suc i = found-at (rowSlot (st .rows) e) i (found .ensures .1 st rep count) (c .before .before .before .before .i .given .1) in
           let stays : g e || b e ≡ false = sym (marks-read g b (st .rows) e i at-i (now (s .args .removed)) (now (s .args .back)) gone back) ∙ c .if2 .left in
-          out-same lie new w old cut (λ n. g n || b n) (s .args .k) (s .args .e) (none-passes (some e) (g e || b e) stays)),
+          out-same rep new w old cut (λ n. g n || b n) (s .args .k) (s .args .e) (none-passes (some e) (g e || b e) stays)),
       s .pre .0,
     )
 

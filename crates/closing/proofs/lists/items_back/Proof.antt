@@ -7,8 +7,8 @@ use mathlib.Core.Path.{_≡_, sym, _∙_}
 use denote.Ref.{now}
 use lib.ListN.{length, take, length-map}
 use Rattle.rows.specs.Tables.{State}
-use Rattle.rows.specs.Lies.{Lies}
-use Rattle.closing.specs.Lists.{slotMarks, among, itemsBack, WentBack}
+use Rattle.rows.specs.contracts.Represents.{Represents}
+use Rattle.closing.specs.contracts.Lists.{slotMarks, among, itemsBack, WentBack}
 use Rattle.closing.proofs.ListsBack.{back-start, back-count, back-marks, back-turn, back-end}
 use Rattle.closing.proofs.lists.items_back.Statement.{statement}
 use Rattle.closing.proofs.lists.items_back.Tie as tie
@@ -16,7 +16,7 @@ use Rattle.closing.proofs.lists.items_back.Tie as tie
 abbrev Inv-loop : tie.InvT-loop
 Inv-loop t₀ n back₀ items asker k₀ t back k =
     (k ≤ 4) × (length t ≡ 11265)
-    × ((st : State) (b : ℕ → Bool) → Lies st t₀ → n ≡ length (st .rows) → asker ≤ 64 → back₀ ≡ slotMarks b (st .rows) → WentBack b asker (take k items) st t back)
+    × ((st : State) (b : ℕ → Bool) → Represents t₀ st → n ≡ length (st .rows) → asker ≤ 64 → back₀ ≡ slotMarks b (st .rows) → WentBack b asker (take k items) st t back)
 
 abbrev μ-loop : tie.MeasureT-loop
 μ-loop t₀ n back₀ items asker k₀ t back k = 4 - k
@@ -24,7 +24,7 @@ abbrev μ-loop : tie.MeasureT-loop
 loop-holds : tie.Need-loop-holds Inv-loop μ-loop
 loop-holds c =
     let s = c .before .before in
-    (search needs, s .pre .0, (λ st b lie count few m. back-start b (s .args .v .asker) st (now (s .args .t)) (now (s .args .back)) lie m))
+    (search needs, s .pre .0, (λ st b rep count few m. back-start b (s .args .v .asker) st (now (s .args .t)) (now (s .args .back)) rep m))
 
 mul-e : tie.Need-mul-e Inv-loop μ-loop
 mul-e c = search needs
@@ -50,10 +50,10 @@ loop-again c =
     let four : length (v .items) ≡ 4 = sym (length-map (v .items) (λ x. x)) ∙ s .good .1 .1 .0 .1 .1 .1 .1 .1 .1 .0 .1 .0 .1 in (
       search needs,
       called .ensures .1,
-      (λ st b lie count few m.
-          let w = l .inv .2 st b lie count few m in
+      (λ st b rep count few m.
+          let w = l .inv .2 st b rep count few m in
           back-turn b (v .asker) st (v .items) (l .k) (omega (arith, c .before .before .before .before .before .loop-test .taken)) (called .last .0) (called .last .1 .1 .1 .1 .0)
-          (called .ensures .0 (itemsBack b (v .asker) (take (l .k) (v .items)) st) (λ n. b n || among (take (l .k) (v .items)) n) (w .lies)
+          (called .ensures .0 (itemsBack b (v .asker) (take (l .k) (v .items)) st) (λ n. b n || among (take (l .k) (v .items)) n) (w .represents)
           (back-count b (v .asker) st (take (l .k) (v .items)) (s .args .n) count) few (back-marks b (v .asker) st (take (l .k) (v .items)) (l .t) (l .back) w))),
     )
 
@@ -66,7 +66,7 @@ returns c =
     let l = c .before .loop in
     let v = s .args .v in
     let four : length (v .items) ≡ 4 = sym (length-map (v .items) (λ x. x)) ∙ s .good .1 .1 .0 .1 .1 .1 .1 .1 .1 .0 .1 .0 .1 in
-    ((λ st b lie count few m. back-end b (v .asker) st (v .items) (l .k) (omega (arith, c .loop-test .left)) (l .t) (l .back) (l .inv .2 st b lie count few m)), l .inv .1)
+    ((λ st b rep count few m. back-end b (v .asker) st (v .items) (l .k) (omega (arith, c .loop-test .left)) (l .t) (l .back) (l .inv .2 st b rep count few m)), l .inv .1)
 
 pub items-back-spec : {M : Type 1} → statement M
 items-back-spec =

@@ -2,7 +2,7 @@
 use borrow.Author.Needs.{needs}
 use native.Mathlib.Omega.{arith}
 use denote.Ref.{now}
-use Rattle.rows.specs.Lies.{rowSlot}
+use Rattle.rows.specs.Layout.{rowSlot}
 use Rattle.rows.proofs.Slots.{at-below, found-at, found-nothing}
 use Rattle.closing.proofs.MarksRequests.{unmarked-absent, marked-found}
 use Rattle.closing.proofs.marks.is_marked.Statement.{statement}
@@ -21,7 +21,7 @@ returns : tie.Need-returns
 returns c =
     let a = c .before .before .before .before .args in
     let found = c .before .before .row-among in
-    λ st g lie count marked there. unmarked-absent st g (a .e) there (found-nothing (rowSlot (st .rows) (a .e)) (found .ensures .1 st lie count) (c .enum-told .given .1))
+    λ st g rep count marked there. unmarked-absent st g (a .e) there (found-nothing (rowSlot (st .rows) (a .e)) (found .ensures .1 st rep count) (c .enum-told .given .1))
 
 element-copy-out-result : tie.Need-element-copy-out-result
 element-copy-out-result c =
@@ -32,7 +32,7 @@ returns-2 c =
     let a = c .before .before .before .before .before .before .args in
     let found = c .before .before .before .before .row-among in
     let i = c .before .before .i .given .0 .0 in
-    λ st g lie count marked there. marked-found st g (a .e) (now (a .marks)) marked i (found-at (rowSlot (st .rows) (a .e)) i (found .ensures .1 st lie count) (c .before .before .i .given .1))
+    λ st g rep count marked there. marked-found st g (a .e) (now (a .marks)) marked i (found-at (rowSlot (st .rows) (a .e)) i (found .ensures .1 st rep count) (c .before .before .i .given .1))
 
 pub is-marked-spec : {M : Type 1} → statement M
 is-marked-spec =

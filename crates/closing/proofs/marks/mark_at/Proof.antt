@@ -1,7 +1,7 @@
 -- `marks::mark_at`: the word 0 has no mark, nor has one past the last slot.
 use borrow.Author.Needs.{needs}
 use denote.Ref.{now}
-use Rattle.closing.specs.Seeds.{markAt}
+use Rattle.closing.specs.contracts.Seeds.{markAt}
 use Rattle.closing.proofs.MarksRows.{mark-past, mark-within}
 use Rattle.closing.proofs.marks.mark_at.Statement.{statement}
 use Rattle.closing.proofs.marks.mark_at.Tie as tie

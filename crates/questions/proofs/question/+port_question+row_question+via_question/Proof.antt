@@ -4,7 +4,7 @@ use Prim.Native.Nat.{ℕ, _+_, _-_, _<_, _≤_}
 use native.Mathlib.Omega.{arith}
 use mathlib.Core.Bool.{Bool, true, false}
 use denote.Ref.{now}
-use Rattle.questions.specs.Questions.{Reaches}
+use Rattle.questions.specs.contracts.Questions.{Reaches}
 use Rattle.questions.proofs.Questions.{question-none, question-touched, question-via, question-source, via-none, via-row, via-port, row-port, port-source}
 use borrow.Fn.Kinds.{In}
 use borrow.Fn.PlainCycle.{Measures, is, falls, and}

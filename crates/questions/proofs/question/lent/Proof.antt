@@ -9,12 +9,12 @@ use Rattle.questions.proofs.question.lent.Tie as tie
 returns : tie.Need-returns
 returns c =
     let a = c .before .before .before .before .args in
-    λ st n so lie at. lent-first (now (a .t)) (a .e) st n so lie at (sym (c .before .before .has-no-source .ensures) ∙ c .before .if1 .taken) (c .touched .result) (c .touched .ensures)
+    λ st n so rep at. lent-first (now (a .t)) (a .e) st n so rep at (sym (c .before .before .has-no-source .ensures) ∙ c .before .if1 .taken) (c .touched .result) (c .touched .ensures)
 
 returns-2 : tie.Need-returns-2
 returns-2 c =
     let a = c .before .before .before .before .args in
-    λ st n so lie at. lent-answer (now (a .t)) (a .e) st n so lie at (c .row-question .result) (c .row-question .ensures)
+    λ st n so rep at. lent-answer (now (a .t)) (a .e) st n so rep at (c .row-question .result) (c .row-question .ensures)
 
 pub lent-spec : {M : Type 1} → statement M
 lent-spec =

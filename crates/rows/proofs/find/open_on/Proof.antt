@@ -1,8 +1,8 @@
 -- `find::open_on` meets its contract: it counts the slots in use and searches the column.
 use borrow.Author.Needs.{needs}
 use mathlib.Core.Path.{subst, _∙_}
-use Rattle.rows.specs.Lies.{Within}
-use Rattle.rows.proofs.Slots.{lies-requests}
+use Rattle.rows.specs.contracts.Slots.{Within}
+use Rattle.rows.proofs.Slots.{represented-requests}
 use Rattle.rows.proofs.Lookups.{open-search}
 use Prim.Native.Nat.{ℕ}
 use Rattle.rows.proofs.find.open_on.Statement.{statement}
@@ -28,7 +28,7 @@ returns c =
     let b = c .before .before in
     let counted = b .requests-in .ensures .0 in (
       subst (λ (k : ℕ). Within k (c .search-back .result)) counted (c .search-back .ensures .0),
-      (λ st lie. open-search lie (b .requests-in .result) (b .before .before .args .c) (c .search-back .result) (counted ∙ lies-requests lie) (c .search-back .ensures .1)),
+      (λ st rep. open-search rep (b .requests-in .result) (b .before .before .args .c) (c .search-back .result) (counted ∙ represented-requests rep) (c .search-back .ensures .1)),
     )
 
 pub open-on-spec : {M : Type 1} → statement M

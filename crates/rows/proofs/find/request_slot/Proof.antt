@@ -1,8 +1,8 @@
 -- `find::request_slot` meets its contract: it counts the slots in use and searches the column.
 use borrow.Author.Needs.{needs}
 use mathlib.Core.Path.{subst, _∙_}
-use Rattle.rows.specs.Lies.{Within}
-use Rattle.rows.proofs.Slots.{lies-requests}
+use Rattle.rows.specs.contracts.Slots.{Within}
+use Rattle.rows.proofs.Slots.{represented-requests}
 use Rattle.rows.proofs.Lookups.{request-search}
 use Prim.Native.Nat.{ℕ}
 use Rattle.rows.proofs.find.request_slot.Statement.{statement}
@@ -28,7 +28,7 @@ returns c =
     let b = c .before .before in
     let counted = b .requests-in .ensures .0 in (
       subst (λ (k : ℕ). Within k (c .search .result)) counted (c .search .ensures .0),
-      (λ st lie. request-search lie (b .requests-in .result) (b .before .before .args .q) (c .search .result) (counted ∙ lies-requests lie) (c .search .ensures .1)),
+      (λ st rep. request-search rep (b .requests-in .result) (b .before .before .args .q) (c .search .result) (counted ∙ represented-requests rep) (c .search .ensures .1)),
     )
 
 pub request-slot-spec : {M : Type 1} → statement M

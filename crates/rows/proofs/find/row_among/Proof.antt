@@ -19,7 +19,7 @@ search-requires c κs = search needs
 returns : tie.Need-returns
 returns c =
     let b = c .before .before .before in
-    (c .search .ensures .0, (λ st lie e. row-search lie (b .args .count) (b .args .n) (c .search .result) e (c .search .ensures .1)))
+    (c .search .ensures .0, (λ st rep e. row-search rep (b .args .count) (b .args .n) (c .search .result) e (c .search .ensures .1)))
 
 pub row-among-spec : {M : Type 1} → statement M
 row-among-spec =

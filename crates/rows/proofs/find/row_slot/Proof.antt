@@ -2,8 +2,8 @@
 use borrow.Author.Needs.{needs}
 use Prim.Native.Nat.{ℕ}
 use mathlib.Core.Path.{subst, _∙_}
-use Rattle.rows.specs.Lies.{Within}
-use Rattle.rows.proofs.Slots.{lies-rows}
+use Rattle.rows.specs.contracts.Slots.{Within}
+use Rattle.rows.proofs.Slots.{represented-rows}
 use Rattle.rows.proofs.find.row_slot.Statement.{statement}
 use Rattle.rows.proofs.find.row_slot.Tie as tie
 
@@ -17,7 +17,7 @@ returns : tie.Need-returns
 returns c =
     let b = c .before in
     let counted = b .rows-in .ensures .0 in
-    (subst (λ (k : ℕ). Within k (c .row-among .result)) counted (c .row-among .ensures .0), (λ st lie. c .row-among .ensures .1 st lie (counted ∙ lies-rows lie)))
+    (subst (λ (k : ℕ). Within k (c .row-among .result)) counted (c .row-among .ensures .0), (λ st rep. c .row-among .ensures .1 st rep (counted ∙ represented-rows rep)))
 
 pub row-slot-spec : {M : Type 1} → statement M
 row-slot-spec = tie.close (tie.spec rows-in-requires row-among-requires returns)

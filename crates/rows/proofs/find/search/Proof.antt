@@ -3,14 +3,14 @@ use borrow.Author.Needs.{needs}
 use Prim.Native.Nat.{ℕ, _≤_, _<_, _-_, _+_, _/_}
 use native.Mathlib.Omega.{arith}
 use denote.Ref.{now}
-use Rattle.rows.specs.Lies.{Within}
-use Rattle.rows.specs.Searches.{Ups}
+use Rattle.rows.specs.contracts.Slots.{Within}
+use Rattle.rows.specs.contracts.Searches.{Ascending}
 use Rattle.rows.proofs.Searches.{Bracket, bracket, half-up, half-down, half-hit, half-none}
 use Rattle.rows.proofs.find.search.Statement.{statement}
 use Rattle.rows.proofs.find.search.Tie as tie
 
 abbrev Inv-loop : tie.InvT-loop
-Inv-loop column count n lo₀ hi₀ lo hi = (hi ≤ count) × (Ups count column → Bracket column count n lo hi)
+Inv-loop column count n lo₀ hi₀ lo hi = (hi ≤ count) × (Ascending count column → Bracket column count n lo hi)
 
 abbrev μ-loop : tie.MeasureT-loop
 μ-loop column count n lo₀ hi₀ lo hi = hi - lo

@@ -3,7 +3,7 @@ use borrow.Author.Needs.{needs}
 use Prim.Native.Nat.{ℕ, _≤_, _<_, _-_, _+_}
 use native.Mathlib.Omega.{arith}
 use denote.Ref.{now}
-use Rattle.rows.specs.Lies.{Within}
+use Rattle.rows.specs.contracts.Slots.{Within}
 use Rattle.rows.proofs.Searches.{FreeFrom, back-more, back-hit, back-none}
 use Rattle.rows.proofs.find.search_back.Statement.{statement}
 use Rattle.rows.proofs.find.search_back.Tie as tie

@@ -2,8 +2,7 @@
 use borrow.Author.Needs.{needs}
 use mathlib.Core.Path.{refl}
 use Rattle.rows.specs.Limits.{rowSlots}
-use Rattle.rows.specs.Layout.{rowField}
-use Rattle.rows.specs.Lies.{rawRow}
+use Rattle.rows.specs.Layout.{rowField, rawRow}
 use Rattle.rows.proofs.read.row_at.Statement.{statement}
 use Rattle.rows.proofs.read.row_at.Tie as tie
 

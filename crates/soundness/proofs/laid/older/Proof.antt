@@ -4,19 +4,19 @@ use Prim.Native.Nat.{_≤_, _<_, _-_, _+_}
 use native.Mathlib.Omega.{arith}
 use denote.Ref.{now}
 use lib.ListN.{getD}
-use Rattle.soundness.specs.Laid.{Tells, Older}
-use Rattle.soundness.proofs.Tells.{Between, tells-none, tells-more, tells-as, tells-ltb, tells-below}
+use Rattle.soundness.specs.contracts.Laid.{Decides, Older}
+use Rattle.soundness.proofs.Decides.{Between, decides-none, decides-more, decides-as, decides-ltb, decides-below}
 use Rattle.soundness.proofs.laid.older.Statement.{statement}
 use Rattle.soundness.proofs.laid.older.Tie as tie
 
 abbrev Inv-loop : tie.InvT-loop
-Inv-loop column k old₀ i₀ old i = (i ≤ k) × Tells old (Between 0 i (λ j. getD column j 0 ≤ j))
+Inv-loop column k old₀ i₀ old i = (i ≤ k) × Decides old (Between 0 i (λ j. getD column j 0 ≤ j))
 
 abbrev μ-loop : tie.MeasureT-loop
 μ-loop column k old₀ i₀ old i = k - i
 
 loop-holds : tie.Need-loop-holds Inv-loop μ-loop
-loop-holds c = (search needs, tells-none (λ j. getD (now (c .args .column)) j 0 ≤ j) 0)
+loop-holds c = (search needs, decides-none (λ j. getD (now (c .args .column)) j 0 ≤ j) 0)
 
 mul-s : tie.Need-mul-s Inv-loop μ-loop
 mul-s c = search needs
@@ -39,15 +39,15 @@ loop-again c =
     let l = now (b .before .args .column) in
     let i = b .loop .i in (
       search needs,
-      tells-more (λ j. getD l j 0 ≤ j) 0 i (b .loop .old) _ (omega arith) (b .loop .inv .1)
-          (tells-as (λ h. let x : getD l i 0 < i + 1 = h in omega arith) (λ h. let x : getD l i 0 ≤ i = h in omega arith) (tells-ltb (getD l i 0) (i + 1))),
+      decides-more (λ j. getD l j 0 ≤ j) 0 i (b .loop .old) _ (omega arith) (b .loop .inv .1)
+          (decides-as (λ h. let x : getD l i 0 < i + 1 = h in omega arith) (λ h. let x : getD l i 0 ≤ i = h in omega arith) (decides-ltb (getD l i 0) (i + 1))),
     )
 
 returns : tie.Need-returns Inv-loop μ-loop
 unfolding Older
 returns c =
     let l = now (c .before .before .args .column) in
-    tells-below (λ j. getD l j 0 ≤ j) _ (c .before .loop .i) _ (c .before .loop .inv .0) (c .loop-test .left) (c .before .loop .inv .1)
+    decides-below (λ j. getD l j 0 ≤ j) _ (c .before .loop .i) _ (c .before .loop .inv .0) (c .loop-test .left) (c .before .loop .inv .1)
 
 pub older-spec : {M : Type 1} → statement M
 older-spec =

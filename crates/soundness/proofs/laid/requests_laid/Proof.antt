@@ -1,7 +1,7 @@
 -- `laid::requests_laid` meets its contract: its two tests tell of the two parts.
 use borrow.Author.Needs.{needs}
 use denote.Ref.{now}
-use Rattle.soundness.proofs.Tells.{tells-requests}
+use Rattle.soundness.proofs.Decides.{decides-requests}
 use Rattle.soundness.proofs.laid.requests_laid.Statement.{statement}
 use Rattle.soundness.proofs.laid.requests_laid.Tie as tie
 
@@ -23,7 +23,7 @@ requests-unused-requires c κs = search needs
 returns : tie.Need-returns
 returns c =
     let s = c .before .before .before .before in
-    tells-requests (now (s .args .t)) (s .args .m) _ _ (s .pre .1) (c .before .rising .ensures) (c .requests-unused .ensures)
+    decides-requests (now (s .args .t)) (s .args .m) _ _ (s .pre .1) (c .before .rising .ensures) (c .requests-unused .ensures)
 
 pub requests-laid-spec : {M : Type 1} → statement M
 requests-laid-spec =

@@ -6,8 +6,8 @@ use denote.Ref.{now}
 use mathlib.Core.Path.{_≡_}
 use mathlib.Core.List.{List}
 use lib.ListN.{getD}
-use Rattle.soundness.specs.Laid.{Tells}
-use Rattle.soundness.proofs.Tells.{Between, tells-none, tells-more, tells-below, tells-part, tells-columns}
+use Rattle.soundness.specs.contracts.Laid.{Decides}
+use Rattle.soundness.proofs.Decides.{Between, decides-none, decides-more, decides-below, decides-part, decides-columns}
 use Rattle.soundness.proofs.laid.requests_unused.Statement.{statement}
 use Rattle.soundness.proofs.laid.requests_unused.Tie as tie
 
@@ -16,13 +16,13 @@ abbrev Empty : List ℕ → ℕ → ℕ → Type 0
 Empty t n c = (i : ℕ) → n ≤ i → i < 128 → getD t (10240 + (c * 128 + i)) 0 ≡ 0
 
 abbrev Inv-loop : tie.InvT-loop
-Inv-loop t m unused₀ c₀ unused c = (c ≤ 8) × Tells unused (Between 0 c (Empty t m))
+Inv-loop t m unused₀ c₀ unused c = (c ≤ 8) × Decides unused (Between 0 c (Empty t m))
 
 abbrev μ-loop : tie.MeasureT-loop
 μ-loop t m unused₀ c₀ unused c = 8 - c
 
 loop-holds : tie.Need-loop-holds Inv-loop μ-loop
-loop-holds c = (search needs, tells-none (Empty (now (c .before .args .t)) (c .before .args .m)) 0)
+loop-holds c = (search needs, decides-none (Empty (now (c .before .args .t)) (c .before .args .m)) 0)
 
 mul-start : tie.Need-mul-start Inv-loop μ-loop
 mul-start c = search needs
@@ -60,15 +60,15 @@ loop-again c =
     let s = b .before .before in
     let k = b .loop .c in (
       search needs,
-      tells-more (Empty (now (s .args .t)) (s .args .m)) 0 k (b .loop .unused) (c .zero-from .result) (omega arith) (b .loop .inv .1)
-          (tells-part (now (s .args .t)) (s .args .m) (10240 + k * 128) (10240 + k * 128 + 128 - (10240 + k * 128)) 128 (λ i. 10240 + (k * 128 + i)) (c .zero-from .result) (omega arith) (λ i. omega arith) (c .zero-from .ensures)),
+      decides-more (Empty (now (s .args .t)) (s .args .m)) 0 k (b .loop .unused) (c .zero-from .result) (omega arith) (b .loop .inv .1)
+          (decides-part (now (s .args .t)) (s .args .m) (10240 + k * 128) (10240 + k * 128 + 128 - (10240 + k * 128)) 128 (λ i. 10240 + (k * 128 + i)) (c .zero-from .result) (omega arith) (λ i. omega arith) (c .zero-from .ensures)),
     )
 
 returns : tie.Need-returns Inv-loop μ-loop
 returns c =
     let s = c .before .before .before in
-    tells-columns (λ c i. getD (now (s .args .t)) (10240 + (c * 128 + i)) 0 ≡ 0) (s .args .m) 8 128 (c .before .loop .unused)
-    (tells-below (Empty (now (s .args .t)) (s .args .m)) 8 (c .before .loop .c) (c .before .loop .unused) (c .before .loop .inv .0) (c .loop-test .left) (c .before .loop .inv .1))
+    decides-columns (λ c i. getD (now (s .args .t)) (10240 + (c * 128 + i)) 0 ≡ 0) (s .args .m) 8 128 (c .before .loop .unused)
+    (decides-below (Empty (now (s .args .t)) (s .args .m)) 8 (c .before .loop .c) (c .before .loop .unused) (c .before .loop .inv .0) (c .loop-test .left) (c .before .loop .inv .1))
 
 pub requests-unused-spec : {M : Type 1} → statement M
 requests-unused-spec =

@@ -7,8 +7,8 @@ use mathlib.Core.Path.{_≡_, refl}
 use lib.ListN.{getD}
 use mathlib.Core.List.{List}
 use native.Mathlib.Numerals.{add-one}
-use Rattle.soundness.specs.Laid.{Tells, before, Rising}
-use Rattle.soundness.proofs.Tells.{Between, tells-none, tells-more, tells-ltb, tells-below}
+use Rattle.soundness.specs.contracts.Laid.{Decides, before, Rising}
+use Rattle.soundness.proofs.Decides.{Between, decides-none, decides-more, decides-ltb, decides-below}
 use Rattle.soundness.proofs.laid.rising.Statement.{statement}
 use Rattle.soundness.proofs.laid.rising.Tie as tie
 
@@ -17,7 +17,7 @@ unfolding before
 before-next l i = rw add-one refl
 
 abbrev Inv-loop : tie.InvT-loop
-Inv-loop column k rise₀ last₀ i₀ rise last i = (i ≤ k) × (last ≡ before column i) × Tells rise (Between 0 i (λ j. before column j < getD column j 0))
+Inv-loop column k rise₀ last₀ i₀ rise last i = (i ≤ k) × (last ≡ before column i) × Decides rise (Between 0 i (λ j. before column j < getD column j 0))
 
 abbrev μ-loop : tie.MeasureT-loop
 μ-loop column k rise₀ last₀ i₀ rise last i = k - i
@@ -26,7 +26,7 @@ loop-holds : tie.Need-loop-holds Inv-loop μ-loop
 unfolding before
 loop-holds c =
     let l = now (c .args .column) in
-    (search needs, refl, tells-none (λ j. before l j < getD l j 0) 0)
+    (search needs, refl, decides-none (λ j. before l j < getD l j 0) 0)
 
 mul-n : tie.Need-mul-n Inv-loop μ-loop
 mul-n c = search needs
@@ -47,15 +47,15 @@ loop-again c =
     let i = b .loop .i in (
       search needs,
       before-next l i,
-      tells-more (λ j. before l j < getD l j 0) 0 i (b .loop .rise) _ (omega arith) (b .loop .inv .2)
-          (rw (b .loop .inv .1) (tells-ltb (before l i) (getD l i 0))),
+      decides-more (λ j. before l j < getD l j 0) 0 i (b .loop .rise) _ (omega arith) (b .loop .inv .2)
+          (rw (b .loop .inv .1) (decides-ltb (before l i) (getD l i 0))),
     )
 
 returns : tie.Need-returns Inv-loop μ-loop
 unfolding Rising
 returns c =
     let l = now (c .before .before .args .column) in
-    tells-below (λ j. before l j < getD l j 0) _ (c .before .loop .i) _ (c .before .loop .inv .0) (c .loop-test .left) (c .before .loop .inv .2)
+    decides-below (λ j. before l j < getD l j 0) _ (c .before .loop .i) _ (c .before .loop .inv .0) (c .loop-test .left) (c .before .loop .inv .2)
 
 pub rising-spec : {M : Type 1} → statement M
 rising-spec =

@@ -1,7 +1,7 @@
 -- `laid::rows_laid` meets its contract: its four tests tell of the four parts.
 use borrow.Author.Needs.{needs}
 use denote.Ref.{now}
-use Rattle.soundness.proofs.Tells.{tells-rows}
+use Rattle.soundness.proofs.Decides.{decides-rows}
 use Rattle.soundness.proofs.laid.rows_laid.Statement.{statement}
 use Rattle.soundness.proofs.laid.rows_laid.Tie as tie
 
@@ -48,7 +48,7 @@ returns : tie.Need-returns
 returns c =
     let b = c .before in
     let s = b .before .before .before .before .before .before .before in
-    tells-rows (now (s .args .t)) (s .args .n) _ _ _ _ (s .pre .1) (b .before .before .before .before .rising .ensures) (b .before .before .older .ensures) (b .older2 .ensures) (c .rows-unused .ensures)
+    decides-rows (now (s .args .t)) (s .args .n) _ _ _ _ (s .pre .1) (b .before .before .before .before .rising .ensures) (b .before .before .older .ensures) (b .older2 .ensures) (c .rows-unused .ensures)
 
 pub rows-laid-spec : {M : Type 1} → statement M
 rows-laid-spec =

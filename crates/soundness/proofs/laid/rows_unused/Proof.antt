@@ -6,8 +6,8 @@ use denote.Ref.{now}
 use mathlib.Core.Path.{_≡_}
 use mathlib.Core.List.{List}
 use lib.ListN.{getD}
-use Rattle.soundness.specs.Laid.{Tells}
-use Rattle.soundness.proofs.Tells.{Between, tells-none, tells-more, tells-below, tells-part, tells-columns}
+use Rattle.soundness.specs.contracts.Laid.{Decides}
+use Rattle.soundness.proofs.Decides.{Between, decides-none, decides-more, decides-below, decides-part, decides-columns}
 use Rattle.soundness.proofs.laid.rows_unused.Statement.{statement}
 use Rattle.soundness.proofs.laid.rows_unused.Tie as tie
 
@@ -16,13 +16,13 @@ abbrev Empty : List ℕ → ℕ → ℕ → Type 0
 Empty t n c = (i : ℕ) → n ≤ i → i < 1024 → getD t (c * 1024 + i) 0 ≡ 0
 
 abbrev Inv-loop : tie.InvT-loop
-Inv-loop t n unused₀ c₀ unused c = (c ≤ 10) × Tells unused (Between 0 c (Empty t n))
+Inv-loop t n unused₀ c₀ unused c = (c ≤ 10) × Decides unused (Between 0 c (Empty t n))
 
 abbrev μ-loop : tie.MeasureT-loop
 μ-loop t n unused₀ c₀ unused c = 10 - c
 
 loop-holds : tie.Need-loop-holds Inv-loop μ-loop
-loop-holds c = (search needs, tells-none (Empty (now (c .before .args .t)) (c .before .args .n)) 0)
+loop-holds c = (search needs, decides-none (Empty (now (c .before .args .t)) (c .before .args .n)) 0)
 
 mul-start : tie.Need-mul-start Inv-loop μ-loop
 mul-start c = search needs
@@ -57,15 +57,15 @@ loop-again c =
     let s = b .before .before in
     let k = b .loop .c in (
       search needs,
-      tells-more (Empty (now (s .args .t)) (s .args .n)) 0 k (b .loop .unused) (c .zero-from .result) (omega arith) (b .loop .inv .1)
-          (tells-part (now (s .args .t)) (s .args .n) (k * 1024) (k * 1024 + 1024 - k * 1024) 1024 (λ i. k * 1024 + i) (c .zero-from .result) (omega arith) (λ i. omega arith) (c .zero-from .ensures)),
+      decides-more (Empty (now (s .args .t)) (s .args .n)) 0 k (b .loop .unused) (c .zero-from .result) (omega arith) (b .loop .inv .1)
+          (decides-part (now (s .args .t)) (s .args .n) (k * 1024) (k * 1024 + 1024 - k * 1024) 1024 (λ i. k * 1024 + i) (c .zero-from .result) (omega arith) (λ i. omega arith) (c .zero-from .ensures)),
     )
 
 returns : tie.Need-returns Inv-loop μ-loop
 returns c =
     let s = c .before .before .before in
-    tells-columns (λ c i. getD (now (s .args .t)) (c * 1024 + i) 0 ≡ 0) (s .args .n) 10 1024 (c .before .loop .unused)
-    (tells-below (Empty (now (s .args .t)) (s .args .n)) 10 (c .before .loop .c) (c .before .loop .unused) (c .before .loop .inv .0) (c .loop-test .left) (c .before .loop .inv .1))
+    decides-columns (λ c i. getD (now (s .args .t)) (c * 1024 + i) 0 ≡ 0) (s .args .n) 10 1024 (c .before .loop .unused)
+    (decides-below (Empty (now (s .args .t)) (s .args .n)) 10 (c .before .loop .c) (c .before .loop .unused) (c .before .loop .inv .0) (c .loop-test .left) (c .before .loop .inv .1))
 
 pub rows-unused-spec : {M : Type 1} → statement M
 rows-unused-spec =

@@ -2,7 +2,7 @@
 use borrow.Author.Needs.{needs}
 use mathlib.Core.Path.{refl}
 use denote.Ref.{now}
-use Rattle.soundness.specs.Laid.{before}
+use Rattle.soundness.specs.contracts.Laid.{before}
 use Rattle.soundness.proofs.RecordClauses.{before-last}
 use Rattle.soundness.proofs.record_clauses.last_of.Statement.{statement}
 use Rattle.soundness.proofs.record_clauses.last_of.Tie as tie

@@ -4,7 +4,7 @@ use mathlib.Core.Path.{_∙_}
 use Rattle.rows.specs.Lists.{between}
 use Rattle.rows.specs.Limits.{greatestNumber}
 use Rattle.rows.specs.Sound.{belowNext, nextInRange}
-use Rattle.rows.proofs.Slots.{lies-next}
+use Rattle.rows.proofs.Slots.{represented-next}
 use Rattle.soundness.proofs.RecordClauses.{top-row, top-request}
 use Rattle.soundness.proofs.record_clauses.next_sound.Statement.{statement}
 use Rattle.soundness.proofs.record_clauses.next_sound.Tie as tie
@@ -41,7 +41,7 @@ unfolding nextInRange belowNext between greatestNumber
 returns c =
     let b = c .before .before in
     let s = b .before .before .before .before in
-    λ st lie e d. rw (b .last-of .ensures ∙ top-row lie (s .args .n) e, c .last-of2 .ensures ∙ top-request lie (s .args .m) d, lies-next lie)
+    λ st rep e d. rw (b .last-of .ensures ∙ top-row rep (s .args .n) e, c .last-of2 .ensures ∙ top-request rep (s .args .m) d, represented-next rep)
 
 pub next-sound-spec : {M : Type 1} → statement M
 next-sound-spec =

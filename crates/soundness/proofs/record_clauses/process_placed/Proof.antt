@@ -1,7 +1,7 @@
 -- `record_clauses::process_placed` meets its contract: the row gone through is looked up by its number.
 use borrow.Author.Needs.{needs}
 use native.Mathlib.Omega.{arith}
-use Rattle.rows.specs.Lies.{rowSlot}
+use Rattle.rows.specs.Layout.{rowSlot}
 use Rattle.rows.proofs.KeySlots.{found-at, found-nothing, at-below}
 use Rattle.soundness.proofs.RecordClauses.{placed-prime, placed-nowhere, placed-at}
 use Rattle.soundness.proofs.record_clauses.process_placed.Statement.{statement}
@@ -10,7 +10,7 @@ use Rattle.soundness.proofs.record_clauses.process_placed.Tie as tie
 returns : tie.Need-returns
 returns c =
     let s = c .before .before .before .before in
-    λ st lie e. placed-prime (st .rows) (s .args .q) (s .args .x) (c .before .if1 .taken)
+    λ st rep e. placed-prime (st .rows) (s .args .q) (s .args .x) (c .before .if1 .taken)
 
 row-among-requires : tie.Need-row-among-requires
 row-among-requires c κs = search needs
@@ -25,8 +25,8 @@ returns-2 : tie.Need-returns-2
 returns-2 c =
     let b = c .before .before in
     let s = b .before .before .before .before in
-    λ st lie e.
-    placed-nowhere st (s .args .q) (s .args .x) (b .before .if1 .left) (found-nothing (rowSlot (st .rows) (s .args .x .through)) (b .row-among .ensures .1 st lie e) (c .enum-told .given .1))
+    λ st rep e.
+    placed-nowhere st (s .args .q) (s .args .x) (b .before .if1 .left) (found-nothing (rowSlot (st .rows) (s .args .x .through)) (b .row-among .ensures .1 st rep e) (c .enum-told .given .1))
 
 row-at-requires : tie.Need-row-at-requires
 row-at-requires c κs =
@@ -42,9 +42,9 @@ returns-3 c =
     let w = c .before .before .before .before in
     let b = w .before .before .before .before in
     let s = b .before .before .before .before in
-    λ st lie e.
-    placed-at st (s .args .q) (s .args .x) (b .before .if1 .left) lie _ (w .row-at .result)
-    (found-at (rowSlot (st .rows) (s .args .x .through)) _ (b .row-among .ensures .1 st lie e) (w .before .before .i .given .1)) (w .row-at .ensures)
+    λ st rep e.
+    placed-at st (s .args .q) (s .args .x) (b .before .if1 .left) rep _ (w .row-at .result)
+    (found-at (rowSlot (st .rows) (s .args .x .through)) _ (b .row-among .ensures .1 st rep e) (w .before .before .i .given .1)) (w .row-at .ensures)
 
 pub process-placed-spec : {M : Type 1} → statement M
 process-placed-spec =

@@ -8,21 +8,21 @@ use lib.ListN.{length, take}
 use Rattle.rows.specs.Tables.{State, noProcess}
 use Rattle.rows.specs.Sound.{placedFrom, processesPlaced}
 use Rattle.rows.specs.Layout.{recordsIn}
-use Rattle.rows.specs.Lies.{Lies}
+use Rattle.rows.specs.contracts.Represents.{Represents}
 use Rattle.rows.proofs.ProcessRecords.{length-in}
 use Rattle.soundness.proofs.RecordClauses.{placed-more, taken-all}
 use Rattle.soundness.proofs.record_clauses.processes_placed.Statement.{statement}
 use Rattle.soundness.proofs.record_clauses.processes_placed.Tie as tie
 
 abbrev Inv-loop : tie.InvT-loop
-Inv-loop t p n placed₀ i₀ placed i = (i ≤ 64) × ((st : State) → Lies st t → n ≡ length (st .rows) → placed ≡ placedFrom (st .rows) 1 (take i (recordsIn p)))
+Inv-loop t p n placed₀ i₀ placed i = (i ≤ 64) × ((st : State) → Represents t st → n ≡ length (st .rows) → placed ≡ placedFrom (st .rows) 1 (take i (recordsIn p)))
 
 abbrev μ-loop : tie.MeasureT-loop
 μ-loop t p n placed₀ i₀ placed i = 64 - i
 
 loop-holds : tie.Need-loop-holds Inv-loop μ-loop
 unfolding placedFrom
-loop-holds c = (search needs, (λ st lie e. refl))
+loop-holds c = (search needs, (λ st rep e. refl))
 
 record-at-requires : tie.Need-record-at-requires Inv-loop μ-loop
 record-at-requires c κs = search needs
@@ -49,8 +49,8 @@ loop-again c =
     let p = now (s .args .p) in
     let i = b .loop .i in (
       search needs,
-      (λ st lie e.
-          rw (b .loop .inv .1 st lie e, c .process-placed .ensures st lie e, c .before .record-at .ensures)
+      (λ st rep e.
+          rw (b .loop .inv .1 st rep e, c .process-placed .ensures st rep e, c .before .record-at .ensures)
           (sym (placed-more (st .rows) noProcess (recordsIn p) i (omega (arith, length-in 64 p (s .pre .1)))))),
     )
 
@@ -60,8 +60,8 @@ returns c =
     let b = c .before in
     let s = b .before .before .before in
     let p = now (s .args .p) in
-    λ st lie d e.
-    b .loop .inv .1 st lie e ∙ ap (placedFrom (st .rows) 1) (taken-all (recordsIn p) (b .loop .i) 64 (length-in 64 p (s .pre .1)) (c .loop-test .left) ∙ sym d)
+    λ st rep d e.
+    b .loop .inv .1 st rep e ∙ ap (placedFrom (st .rows) 1) (taken-all (recordsIn p) (b .loop .i) 64 (length-in 64 p (s .pre .1)) (c .loop-test .left) ∙ sym d)
 
 pub processes-placed-spec : {M : Type 1} → statement M
 processes-placed-spec =

@@ -15,9 +15,9 @@ tables-sound-requires : tie.Need-tables-sound-requires
 tables-sound-requires c κs = search needs
 
 returns : tie.Need-returns
-returns c = λ st lie pe en em.
+returns c = λ st rep pe en em.
     clauses-sound st (c .before .before .next-sound .result) (c .before .records-sound .result) (c .tables-sound .result)
-    (c .before .before .next-sound .ensures st lie en em) (c .before .records-sound .ensures st pe) (λ next records. c .tables-sound .ensures st lie pe en em next records)
+    (c .before .before .next-sound .ensures st rep en em) (c .before .records-sound .ensures st pe) (λ next records. c .tables-sound .ensures st rep pe en em next records)
 
 pub clauses-sound-spec : {M : Type 1} → statement M
 clauses-sound-spec =

@@ -1,11 +1,11 @@
--- Words of another length, words not laid, and the clauses of the state that lies in the words. Assumes nothing.
+-- Words of another length, words not laid, and the clauses of the state that the words represent. Assumes nothing.
 use borrow.Author.Needs.{needs}
 use Prim.Native.Nat.{_-_}
 use mathlib.Core.Path.{refl, _∙_}
 use Rattle.rows.specs.Layout.{stateOf}
 use Rattle.rows.proofs.Bools.{and-l, not-f}
-use Rattle.rows.proofs.Slots.{lies-rows, lies-requests}
-use Rattle.soundness.proofs.SoundParts.{tables-short, records-short, not-laid, tells-lies, laid-sound}
+use Rattle.rows.proofs.Slots.{represented-rows, represented-requests}
+use Rattle.soundness.proofs.SoundParts.{tables-short, records-short, not-laid, decided-represents, laid-sound}
 use Rattle.soundness.proofs.sound.sound.Statement.{statement}
 use Rattle.soundness.proofs.sound.sound.Tie as tie
 
@@ -42,7 +42,7 @@ clauses-sound-requires : tie.Need-clauses-sound-requires
 clauses-sound-requires c κs =
     let r = c .before .before in
     let n = r .before .before in
-    let laid = r .rows-laid .ensures .yes′ (and-l (r .rows-laid .result) (c .before .requests-laid .result) (not-f _ (c .if3 .left))) in
+    let laid = r .rows-laid .ensures .holds (and-l (r .rows-laid .result) (c .before .requests-laid .result) (not-f _ (c .if3 .left))) in
     ((n .before .before .if1 .left, n .before .if2 .left, n .rows-in .ensures .1, r .before .requests-in .ensures .1), (laid .sources, laid .vias))
 
 returns-4 : tie.Need-returns-4
@@ -56,9 +56,9 @@ returns-4 c =
     let s = i .before .before .before in
     let t = s .args .tables .now in
     let p = s .args .processes .now in
-    let lie = tells-lies t p (n .rows-in .result) (m .requests-in .result) (r .rows-laid .result) (e .before .requests-laid .result) (n .rows-in .ensures .0) (m .requests-in .ensures .0) (r .rows-laid .ensures) (e .before .requests-laid .ensures) (i .if1 .left) (e .if3 .left) in
-    c .clauses-sound .ensures (stateOf t p) lie refl (n .rows-in .ensures .0 ∙ lies-rows lie) (m .requests-in .ensures .0 ∙ lies-requests lie)
-    ∙ laid-sound t p (i .if1 .left) (n .before .if2 .left) lie
+    let rep = decided-represents t p (n .rows-in .result) (m .requests-in .result) (r .rows-laid .result) (e .before .requests-laid .result) (n .rows-in .ensures .0) (m .requests-in .ensures .0) (r .rows-laid .ensures) (e .before .requests-laid .ensures) (i .if1 .left) (e .if3 .left) in
+    c .clauses-sound .ensures (stateOf t p) rep refl (n .rows-in .ensures .0 ∙ represented-rows rep) (m .requests-in .ensures .0 ∙ represented-requests rep)
+    ∙ laid-sound t p (i .if1 .left) (n .before .if2 .left) rep
 
 pub sound-spec : {M : Type 1} → statement M
 sound-spec =

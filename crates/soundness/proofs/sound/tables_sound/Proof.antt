@@ -18,11 +18,11 @@ processes-placed-requires : tie.Need-processes-placed-requires
 processes-placed-requires c κs = search needs
 
 returns : tie.Need-returns
-returns c = λ st lie pe en em next records.
+returns c = λ st rep pe en em next records.
     let q = c .before .before in
     let s = q .before .before .before .before in
-    groups-sound st lie (records-fit st (s .args .p .now) (s .pre .0 .1) pe) (q .before .rows-sound .result) (q .requests-sound .result) (c .before .holders-sound .result) (c .processes-placed .result)
-    (q .before .rows-sound .ensures st lie pe en em) (q .requests-sound .ensures st lie pe en em) (c .before .holders-sound .ensures st lie en em) (c .processes-placed .ensures st lie pe en) next records
+    groups-sound st rep (records-fit st (s .args .p .now) (s .pre .0 .1) pe) (q .before .rows-sound .result) (q .requests-sound .result) (c .before .holders-sound .result) (c .processes-placed .result)
+    (q .before .rows-sound .ensures st rep pe en em) (q .requests-sound .ensures st rep pe en em) (c .before .holders-sound .ensures st rep en em) (c .processes-placed .ensures st rep pe en) next records
 
 pub tables-sound-spec : {M : Type 1} → statement M
 tables-sound-spec =

@@ -1,0 +1,3 @@
+-- The vocabulary of contracts of changes in place. A reader of the definitions need not read it.
+pub mod Changes
+pub mod Marks

@@ -1,3 +1,0 @@
--- Definitions that the contracts of exports cite.
-pub mod Fields
-pub mod Computes

@@ -1,0 +1,130 @@
+-- The records of the history, and each with one field changed.
+use Prim.Native.Nat.{ℕ}
+use mathlib.Core.List.{List}
+
+-- a row noted: its sources, the request that it bears and the port that it is an end of, 0 for none
+pub record Noted : Type 0 where
+  pub number : ℕ
+  pub sources : List ℕ
+  pub request : ℕ
+  pub port : ℕ
+
+-- "request v, lender p, port c, the ends named"
+pub record Loan : Type 0 where
+  pub number : ℕ
+  pub lender : ℕ
+  pub port : ℕ
+  pub ends : List ℕ
+
+-- "Each process's last accepted `go` is kept."
+pub record Went : Type 0 where
+  pub process : ℕ
+  pub through : ℕ
+
+-- a request has an end on loan
+pub record OnLoan : Type 0 where
+  pub request : ℕ
+  pub lent : ℕ
+
+-- All newest first. `text`: the rows of the text. `dropped`, `closedPorts`, `closedRequests`: by a call.
+pub record History : Type 0 where
+  pub text : List ℕ
+  pub rows : List Noted
+  pub requests : List Loan
+  pub dropped : List ℕ
+  pub closedPorts : List ℕ
+  pub closedRequests : List ℕ
+  pub went : List Went
+  pub loans : List OnLoan
+
+-- ---- a history with one field changed: it is changed by these alone
+abbrev pub withNoted : List Noted → History → History
+withNoted rs h =
+    record {
+      text = h .text;
+      rows = rs;
+      requests = h .requests;
+      dropped = h .dropped;
+      closedPorts = h .closedPorts;
+      closedRequests = h .closedRequests;
+      went = h .went;
+      loans = h .loans;
+    }
+
+abbrev pub withRequests : List Loan → History → History
+withRequests vs h =
+    record {
+      text = h .text;
+      rows = h .rows;
+      requests = vs;
+      dropped = h .dropped;
+      closedPorts = h .closedPorts;
+      closedRequests = h .closedRequests;
+      went = h .went;
+      loans = h .loans;
+    }
+
+abbrev pub withDropped : List ℕ → History → History
+withDropped es h =
+    record {
+      text = h .text;
+      rows = h .rows;
+      requests = h .requests;
+      dropped = es;
+      closedPorts = h .closedPorts;
+      closedRequests = h .closedRequests;
+      went = h .went;
+      loans = h .loans;
+    }
+
+abbrev pub withClosedPorts : List ℕ → History → History
+withClosedPorts cs h =
+    record {
+      text = h .text;
+      rows = h .rows;
+      requests = h .requests;
+      dropped = h .dropped;
+      closedPorts = cs;
+      closedRequests = h .closedRequests;
+      went = h .went;
+      loans = h .loans;
+    }
+
+abbrev pub withClosedRequests : List ℕ → History → History
+withClosedRequests qs h =
+    record {
+      text = h .text;
+      rows = h .rows;
+      requests = h .requests;
+      dropped = h .dropped;
+      closedPorts = h .closedPorts;
+      closedRequests = qs;
+      went = h .went;
+      loans = h .loans;
+    }
+
+abbrev pub withWent : List Went → History → History
+withWent ws h =
+    record {
+      text = h .text;
+      rows = h .rows;
+      requests = h .requests;
+      dropped = h .dropped;
+      closedPorts = h .closedPorts;
+      closedRequests = h .closedRequests;
+      went = ws;
+      loans = h .loans;
+    }
+
+abbrev pub withLoans : List OnLoan → History → History
+withLoans os h =
+    record {
+      text = h .text;
+      rows = h .rows;
+      requests = h .requests;
+      dropped = h .dropped;
+      closedPorts = h .closedPorts;
+      closedRequests = h .closedRequests;
+      went = h .went;
+      loans = os;
+    }

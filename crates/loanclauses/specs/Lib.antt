@@ -1,3 +1,0 @@
--- Definitions that the contracts of the clauses of requests and holders cite.
-pub mod Clauses
-pub mod Computes

@@ -1,0 +1,4 @@
+-- The vocabulary of contracts over the lent words. A reader of the definitions need not read it.
+pub mod Represents
+pub mod Slots
+pub mod Searches

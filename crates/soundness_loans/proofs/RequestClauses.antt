@@ -1,0 +1,206 @@
+-- The clauses of one request, over the words of its slot and the slots of the rows that it names.
+use Prim.Native.Nat.{ℕ, zero, suc, _+_}
+use mathlib.Core.Bool.{Bool, true, false, not, cond, _&&_, _||_}
+use mathlib.Core.List.{List, [], _∷_}
+use mathlib.Core.Path.{_≡_, refl, ap, sym, _∙_}
+use native.Mathlib.Numerals.{add-one}
+use native.Mathlib.Omega.{arith}
+use borrow.Author.Tests.{eqb-true, eq-eqb, ne-eqb}
+use lib.Dec.{ltb, eqb}
+use lib.ListN.{length, getD}
+use Rattle.rows.specs.declared.Row.{Row}
+use Rattle.rows.specs.declared.Request.{Request}
+use Rattle.rows.specs.Lists.{filter, all, member, distinct, some, nonzero}
+use Rattle.rows.specs.Limits.{rowSlots, requestSlots}
+use Rattle.rows.specs.Codes.{clientEnd, serverEnd, isClient, isServer, isEnd}
+use Rattle.rows.specs.Tables.{State, noRow, rowOf, numbers}
+use Rattle.rows.specs.Sound.{itemsFew, portStands, mayBeListed}
+use Rattle.rows.specs.Layout.{rowColumns, requestColumns, requestsAt, requestAt, requestsTo, rowSlot}
+use Rattle.rows.specs.contracts.Represents.{Represents}
+use Rattle.soundness_loans.specs.contracts.Clauses.{wordAt, standingPort}
+use Rattle.rows.proofs.Bools.{bool-eq, clash}
+use Rattle.rows.proofs.LayoutRequests.{requests-back}
+use Rattle.rows.proofs.Slots.{represented-well, represented-request, row-found, row-none, row-absent, row-words, request-read, slot-zero}
+
+-- ---- the words of a request's slot
+module _ (t : List ℕ) (j : ℕ) where
+  pub number-word : getD t (10240 + j) 0 ≡ requestAt t j .number
+  number-word = ap (λ (v : Request). v .number) (request-read t j)
+
+  pub port-word : getD t (10368 + j) 0 ≡ requestAt t j .port
+  port-word = ap (λ (v : Request). v .port) (request-read t j)
+
+  pub asker-word : getD t (10496 + j) 0 ≡ requestAt t j .asker
+  asker-word = ap (λ (v : Request). v .asker) (request-read t j)
+
+  pub fetched-word : getD t (10624 + j) 0 ≡ requestAt t j .fetched
+  fetched-word = ap (λ (v : Request). v .fetched) (request-read t j)
+
+  pub items-words : getD t (10752 + j) 0 ∷ getD t (10880 + j) 0 ∷ getD t (11008 + j) 0 ∷ getD t (11136 + j) 0 ∷ [] ≡ requestAt t j .items
+  items-words = ap (λ (v : Request). v .items) (request-read t j)
+
+-- one request more
+pub all-next : (F : Request → Bool) (t : List ℕ) (j : ℕ) {a b : Bool} → a ≡ F (requestAt t j) → b ≡ all F (requestsTo t j) → a && b ≡ all F (requestsTo t (j + 1))
+unfolding all requestsTo
+all-next F t j p q = rw (add-one j) (λ i. p i && q i)
+
+-- ---- the slot of a row
+pub apart-slot : (rs : List Row) (q : ℕ) → eqb (rowSlot rs q) 0 ≡ not (member q (numbers rs))
+apart-slot rs q = pick (rowSlot rs q) refl
+  where
+    pick : (s : ℕ) → rowSlot rs q ≡ s → eqb s 0 ≡ not (member q (numbers rs))
+    pick zero e = sym (ap not (row-none rs q e))
+    pick (suc i) e = ne-eqb (suc i) 0 (λ d. omega arith) ∙ sym (ap not (row-found rs q i e .0))
+
+module _ {st : State} {t : List ℕ} (rep : Represents t st) where
+  -- all requests are read
+  pub requests-read : requestsTo t (length (st .requests)) ≡ st .requests
+  unfolding itemsFew rowSlots requestSlots rowColumns requestColumns requestsAt
+  requests-read = requests-back t (st .requests) (represented-well rep .requests-fit) (represented-request rep) (represented-well rep .items-few)
+
+  pub no-slot : rowSlot (st .rows) 0 ≡ 0
+  unfolding rowSlot
+  no-slot = slot-zero (λ r. r .number) (st .rows) (represented-well rep .rows-rise)
+
+  pub kind-word : (x : ℕ) → wordAt t 1024 (rowSlot (st .rows) x) ≡ rowOf (st .rows) x .kind
+  unfolding wordAt noRow
+  kind-word x = pick (rowSlot (st .rows) x) refl
+    where
+      pick : (s : ℕ) → rowSlot (st .rows) x ≡ s → wordAt t 1024 s ≡ rowOf (st .rows) x .kind
+      pick zero e = sym (ap (λ (r : Row). r .kind) (row-absent (st .rows) x e))
+      pick (suc i) e = row-words rep x i e .kind
+
+  pub bears-word : (x : ℕ) → wordAt t 9216 (rowSlot (st .rows) x) ≡ rowOf (st .rows) x .request
+  unfolding wordAt noRow
+  bears-word x = pick (rowSlot (st .rows) x) refl
+    where
+      pick : (s : ℕ) → rowSlot (st .rows) x ≡ s → wordAt t 9216 s ≡ rowOf (st .rows) x .request
+      pick zero e = sym (ap (λ (r : Row). r .request) (row-absent (st .rows) x e))
+      pick (suc i) e = row-words rep x i e .request
+
+  -- two numbers at one slot are the same
+  pub slot-same : (a b i : ℕ) → rowSlot (st .rows) a ≡ suc i → rowSlot (st .rows) b ≡ suc i → a ≡ b
+  slot-same a b i p q =
+      sym (row-found (st .rows) a i p .1) ∙ sym (row-words rep a i p .number) ∙ row-words rep b i q .number ∙ row-found (st .rows) b i q .1
+
+  pub slot-test : (a i : ℕ) → rowSlot (st .rows) a ≡ suc i → (b : ℕ) → eqb (suc i) (rowSlot (st .rows) b) ≡ eqb a b
+  slot-test a i e b =
+      bool-eq (eqb (suc i) (rowSlot (st .rows) b)) (eqb a b) (λ d. eq-eqb a b (slot-same a b i e (sym (eqb-true (suc i) (rowSlot (st .rows) b) d))))
+      (λ d. eq-eqb (suc i) (rowSlot (st .rows) b) (sym e ∙ ap (rowSlot (st .rows)) (eqb-true a b d)))
+
+  -- a row found by a number has it, or is none
+  older-end : (e q : ℕ) → isEnd (rowOf (st .rows) e .kind) && ltb e q ≡ isEnd (rowOf (st .rows) e .kind) && ltb (rowOf (st .rows) e .number) q
+  unfolding isEnd isClient isServer clientEnd serverEnd noRow
+  older-end e q = pick (rowSlot (st .rows) e) refl
+    where
+      pick : (s : ℕ) → rowSlot (st .rows) e ≡ s → isEnd (rowOf (st .rows) e .kind) && ltb e q ≡ isEnd (rowOf (st .rows) e .kind) && ltb (rowOf (st .rows) e .number) q
+      pick zero d = rw (row-absent (st .rows) e d) refl
+      pick (suc i) d = ap (λ (n : ℕ). isEnd (rowOf (st .rows) e .kind) && ltb n q) (sym (row-found (st .rows) e i d .1))
+
+  pub may-be-listed : (v : Request) (e q kind bears : ℕ) → v .number ≡ q → kind ≡ rowOf (st .rows) e .kind → bears ≡ rowOf (st .rows) e .request
+      → not (ltb 0 e) || (((eqb kind 3 || eqb kind 4) && ltb e q) || (ltb 0 bears && eqb bears q)) ≡ not (some e) || mayBeListed v (rowOf (st .rows) e)
+  unfolding some mayBeListed isEnd isClient isServer clientEnd serverEnd
+  may-be-listed v e q kind bears a b c =
+      rw (b, c, ← a) (ap (λ (x : Bool). not (ltb 0 e) || (x || (ltb 0 (rowOf (st .rows) e .request) && eqb (rowOf (st .rows) e .request) (v .number)))) (older-end e (v .number)))
+
+-- ---- tests joined
+pub all-both : {A : Type 0} (f g : A → Bool) (xs : List A) → all (λ x. f x && g x) xs ≡ all f xs && all g xs
+unfolding all
+all-both f g [] = refl
+all-both f g (x ∷ xs) = rw (all-both f g xs) (swap (f x) (g x) (all f xs) (all g xs))
+  where
+    swap : (a b c d : Bool) → (a && b) && (c && d) ≡ (a && c) && (b && d)
+    swap true true c d = refl
+    swap true false true d = refl
+    swap true false false d = refl
+    swap false b c d = refl
+
+-- ---- items that are there
+pub and-true : (b : Bool) → b && true ≡ b
+and-true true = refl
+and-true false = refl
+
+-- what is asked of an item that is there
+pub all-nonzero : (P : ℕ → Bool) (e : ℕ) (es : List ℕ) → all P (nonzero (e ∷ es)) ≡ (not (some e) || P e) && all P (nonzero es)
+unfolding all nonzero filter
+all-nonzero P e es = pick (some e)
+  where
+    pick : (b : Bool) → all P (cond b (e ∷ filter some es) (filter some es)) ≡ (not b || P e) && all P (filter some es)
+    pick true = refl
+    pick false = refl
+
+pub items-all : (P : ℕ → Bool) (a b c d : ℕ) → (not (some a) || P a) && ((not (some b) || P b) && ((not (some c) || P c) && (not (some d) || P d))) ≡ all P (nonzero (a ∷ b ∷ c ∷ d ∷ []))
+unfolding all nonzero filter
+items-all P a b c d =
+    sym
+    (all-nonzero P a (b ∷ c ∷ d ∷ [])
+    ∙ ap (λ (x : Bool). (not (some a) || P a) && x)
+    (all-nonzero P b (c ∷ d ∷ [])
+    ∙ ap (λ (x : Bool). (not (some b) || P b) && x) (all-nonzero P c (d ∷ []) ∙ ap (λ (x : Bool). (not (some c) || P c) && x) (all-nonzero P d [] ∙ and-true (not (some d) || P d)))))
+
+pub member-nonzero : (e : ℕ) (es : List ℕ) → some e ≡ true → member e (nonzero es) ≡ member e es
+unfolding nonzero filter member
+member-nonzero e [] h = refl
+member-nonzero e (a ∷ es) h = pick (member-nonzero e es h) (some a) refl (eqb e a) refl
+  where
+    pick : member e (filter some es) ≡ member e es → (b : Bool) → some a ≡ b → (d : Bool) → eqb e a ≡ d → member e (cond b (a ∷ filter some es) (filter some es)) ≡ d || member e es
+    pick ih true q true r = rw r refl
+    pick ih true q false r = rw r ih
+    pick ih false q true r = clash (ap some (sym (eqb-true e a r)) ∙ h) q
+    pick ih false q false r = ih
+
+pub member-three : (e a b c : ℕ) → eqb e a || (eqb e b || eqb e c) ≡ member e (a ∷ b ∷ c ∷ [])
+unfolding member
+member-three e a b c = rw (or-none (eqb e c)) refl
+  where
+    or-none : (b : Bool) → b || false ≡ b
+    or-none true = refl
+    or-none false = refl
+
+abbrev apart : ℕ → List ℕ → Bool
+apart e es = not (some e) || not (member e es)
+
+distinct-nonzero : (e : ℕ) (es : List ℕ) → distinct (nonzero (e ∷ es)) ≡ apart e es && distinct (nonzero es)
+unfolding distinct nonzero filter
+distinct-nonzero e es = pick (some e) refl
+  where
+    pick : (b : Bool) → some e ≡ b → distinct (cond b (e ∷ filter some es) (filter some es)) ≡ (not b || not (member e es)) && distinct (filter some es)
+    pick true q = ap (λ (x : Bool). not x && distinct (filter some es)) (member-nonzero e es q)
+    pick false q = refl
+
+-- one of them said twice
+member-again : (n d : ℕ) (es : List ℕ) → member n (d ∷ d ∷ es) ≡ member n (d ∷ es)
+unfolding member
+member-again n d es = pick (eqb n d)
+  where
+    pick : (b : Bool) → b || (b || member n es) ≡ b || member n es
+    pick true = refl
+    pick false = refl
+
+pub items-apart : (a b c d : ℕ) → apart a (b ∷ c ∷ d ∷ []) && (apart b (c ∷ d ∷ d ∷ []) && apart c (d ∷ d ∷ d ∷ [])) ≡ distinct (nonzero (a ∷ b ∷ c ∷ d ∷ []))
+unfolding member distinct nonzero filter
+items-apart a b c d =
+    rw (member-again b d [], member-again c d (d ∷ []), member-again c d [])
+    (sym
+    (distinct-nonzero a (b ∷ c ∷ d ∷ [])
+    ∙ ap (λ (x : Bool). apart a (b ∷ c ∷ d ∷ []) && x)
+    (distinct-nonzero b (c ∷ d ∷ [])
+    ∙ ap (λ (x : Bool). apart b (c ∷ d ∷ []) && x) (distinct-nonzero c (d ∷ []) ∙ ap (λ (x : Bool). apart c (d ∷ []) && x) (distinct-nonzero d [] ∙ last (some d)) ∙ and-true (apart c (d ∷ []))))))
+  where
+    last : (x : Bool) → (not x || true) && true ≡ true
+    last true = refl
+    last false = refl
+
+-- ---- the port
+pub stands : {st : State} {t : List ℕ} → Represents t st → (v : Request) (port q kind : ℕ) → port ≡ v .port → q ≡ v .number → kind ≡ rowOf (st .rows) port .kind
+    → eqb kind 3 && ltb (suc port) q ≡ portStands (st .rows) v
+unfolding portStands isClient clientEnd
+stands rep v port q kind a b c = rw (c, a, b) refl
+
+pub standing-yes : (rs : List Row) (v : Request) (s : ℕ) → portStands rs v ≡ true → s ≡ rowSlot rs (v .port) → s ≡ standingPort rs v
+unfolding standingPort
+standing-yes rs v s e d = rw e d
+
+pub standing-no : (rs : List Row) (v : Request) → portStands rs v ≡ false → 0 ≡ standingPort rs v
+unfolding standingPort
+standing-no rs v e = rw e refl

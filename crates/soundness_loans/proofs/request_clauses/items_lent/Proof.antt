@@ -1,0 +1,128 @@
+-- `request_clauses::items_lent` meets its contract: the four items, one by one.
+use borrow.Author.Needs.{needs}
+use Prim.Native.Nat.{ℕ, _+_}
+use mathlib.Core.Bool.{Bool}
+use mathlib.Core.List.{List}
+use mathlib.Core.Path.{ap, sym, _∙_}
+use denote.Ref.{now}
+use lib.ListN.{getD}
+use Rattle.rows.specs.Layout.{requestAt}
+use Rattle.rows.specs.Sound.{mayBeListed}
+use Rattle.rows.specs.Tables.{rowOf}
+use Rattle.rows.specs.Lists.{all, nonzero}
+use Rattle.soundness_loans.proofs.RequestClauses.{number-word, items-words, items-all}
+use Rattle.soundness_loans.proofs.request_clauses.items_lent.Statement.{statement}
+use Rattle.soundness_loans.proofs.request_clauses.items_lent.Tie as tie
+
+add-q : tie.Need-add-q
+add-q c = search needs
+
+mul-q : tie.Need-mul-q
+mul-q c = search needs
+
+shared-slice-read-q : tie.Need-shared-slice-read-q
+shared-slice-read-q c = search needs
+
+add-may-be-listed : tie.Need-add-may-be-listed
+add-may-be-listed c = search needs
+
+mul-may-be-listed : tie.Need-mul-may-be-listed
+mul-may-be-listed c = search needs
+
+shared-slice-read-may-be-listed : tie.Need-shared-slice-read-may-be-listed
+shared-slice-read-may-be-listed c = search needs
+
+may-be-listed-requires : tie.Need-may-be-listed-requires
+may-be-listed-requires c κs = search needs
+
+add-may-be-listed-2 : tie.Need-add-may-be-listed-2
+add-may-be-listed-2 c = search needs
+
+add-may-be-listed-3 : tie.Need-add-may-be-listed-3
+add-may-be-listed-3 c = search needs
+
+mul-may-be-listed-2 : tie.Need-mul-may-be-listed-2
+mul-may-be-listed-2 c = search needs
+
+shared-slice-read-may-be-listed-2 : tie.Need-shared-slice-read-may-be-listed-2
+shared-slice-read-may-be-listed-2 c = search needs
+
+may-be-listed-requires-2 : tie.Need-may-be-listed-requires-2
+may-be-listed-requires-2 c κs = search needs
+
+mul-may-be-listed-3 : tie.Need-mul-may-be-listed-3
+mul-may-be-listed-3 c = search needs
+
+add-may-be-listed-4 : tie.Need-add-may-be-listed-4
+add-may-be-listed-4 c = search needs
+
+add-may-be-listed-5 : tie.Need-add-may-be-listed-5
+add-may-be-listed-5 c = search needs
+
+mul-may-be-listed-4 : tie.Need-mul-may-be-listed-4
+mul-may-be-listed-4 c = search needs
+
+shared-slice-read-may-be-listed-3 : tie.Need-shared-slice-read-may-be-listed-3
+shared-slice-read-may-be-listed-3 c = search needs
+
+may-be-listed-requires-3 : tie.Need-may-be-listed-requires-3
+may-be-listed-requires-3 c κs = search needs
+
+mul-may-be-listed-5 : tie.Need-mul-may-be-listed-5
+mul-may-be-listed-5 c = search needs
+
+add-may-be-listed-6 : tie.Need-add-may-be-listed-6
+add-may-be-listed-6 c = search needs
+
+add-may-be-listed-7 : tie.Need-add-may-be-listed-7
+add-may-be-listed-7 c = search needs
+
+mul-may-be-listed-6 : tie.Need-mul-may-be-listed-6
+mul-may-be-listed-6 c = search needs
+
+shared-slice-read-may-be-listed-4 : tie.Need-shared-slice-read-may-be-listed-4
+shared-slice-read-may-be-listed-4 c = search needs
+
+may-be-listed-requires-4 : tie.Need-may-be-listed-requires-4
+may-be-listed-requires-4 c κs = search needs
+
+returns : tie.Need-returns
+returns c = λ st rep e.
+    let b = c .before .before .before .before .before .before in
+    let t = now (b .before .before .before .before .args .t) in
+    let j = b .before .before .before .before .args .j in
+    let v = requestAt t j in
+    let P : ℕ → Bool = λ x. mayBeListed v (rowOf (st .rows) x) in
+    let q = sym (number-word t j) in
+    rw (b .may-be-listed .ensures st v rep e q, c .before .before .before .before .may-be-listed2 .ensures st v rep e q, c .before .before .may-be-listed3 .ensures st v rep e q, c .may-be-listed4 .ensures st v rep e q)
+    (items-all P (getD t (10752 + j) 0) (getD t (10880 + j) 0) (getD t (11008 + j) 0) (getD t (11136 + j) 0) ∙ ap (λ (l : List ℕ). all P (nonzero l)) (items-words t j))
+
+pub items-lent-spec : {M : Type 1} → statement M
+items-lent-spec =
+    tie.close
+    (tie.spec
+    add-q
+    mul-q
+    shared-slice-read-q
+    add-may-be-listed
+    mul-may-be-listed
+    shared-slice-read-may-be-listed
+    may-be-listed-requires
+    add-may-be-listed-2
+    add-may-be-listed-3
+    mul-may-be-listed-2
+    shared-slice-read-may-be-listed-2
+    may-be-listed-requires-2
+    mul-may-be-listed-3
+    add-may-be-listed-4
+    add-may-be-listed-5
+    mul-may-be-listed-4
+    shared-slice-read-may-be-listed-3
+    may-be-listed-requires-3
+    mul-may-be-listed-5
+    add-may-be-listed-6
+    add-may-be-listed-7
+    mul-may-be-listed-6
+    shared-slice-read-may-be-listed-4
+    may-be-listed-requires-4
+    returns)

@@ -1,0 +1,30 @@
+-- `request_clauses::may_be_listed` meets its contract.
+use borrow.Author.Needs.{needs}
+use mathlib.Core.Path.{ap, _∙_}
+use denote.Ref.{now}
+use Rattle.soundness_loans.specs.contracts.Clauses.{wordAt}
+use Rattle.soundness_loans.proofs.RequestClauses.{may-be-listed, kind-word, bears-word}
+use Rattle.soundness_loans.proofs.request_clauses.may_be_listed.Statement.{statement}
+use Rattle.soundness_loans.proofs.request_clauses.may_be_listed.Tie as tie
+
+slot-among-requires : tie.Need-slot-among-requires
+slot-among-requires c κs = search needs
+
+word-at-requires : tie.Need-word-at-requires
+word-at-requires c κs = search needs
+
+word-at-requires-2 : tie.Need-word-at-requires-2
+word-at-requires-2 c κs = search needs
+
+returns : tie.Need-returns
+returns c = λ st v rep e q.
+    let a = c .before .before .before .before .args in
+    let t = now (a .t) in
+    let slot = c .before .before .slot-among .ensures .1 st rep e in
+    may-be-listed rep v (a .e) (a .q) (c .before .word-at .result) (c .word-at2 .result) q
+    (c .before .word-at .ensures ∙ ap (wordAt t 1024) slot ∙ kind-word rep (a .e))
+    (c .word-at2 .ensures ∙ ap (wordAt t 9216) slot ∙ bears-word rep (a .e))
+
+pub may-be-listed-spec : {M : Type 1} → statement M
+may-be-listed-spec =
+    tie.close (tie.spec slot-among-requires word-at-requires word-at-requires-2 returns)

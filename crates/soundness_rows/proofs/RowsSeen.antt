@@ -1,0 +1,114 @@
+-- The row at a slot of the words that represent a state, as the tests of one row see it: its own words and its sources.
+use Prim.Native.Nat.{ℕ, zero, suc, _+_, _-_, _<_, _≤_}
+use mathlib.Core.Bool.{Bool, true, false}
+use mathlib.Core.List.{List, [], _∷_, _++_, append-assoc, map}
+use mathlib.Core.Path.{_≡_, refl, ap, sym, subst, _∙_}
+use mathlib.Core.Logic.{_⊎_, inl, inr}
+use native.Mathlib.Omega.{arith}
+use borrow.Author.Tests.{eq-eqb, eqb-true, ne-eqb}
+use lib.Dec.{eqb}
+use lib.ListN.{length, getD}
+use Rattle.rows.specs.declared.Row.{Row}
+use Rattle.rows.specs.Lists.{rises, member}
+use Rattle.rows.specs.Limits.{rowSlots}
+use Rattle.rows.specs.Tables.{State, noRow, rowOf, numbers}
+use Rattle.rows.specs.Layout.{sourceSlot, rowField, rowSlot, rawRow}
+use Rattle.rows.specs.contracts.Represents.{sourcesOlder, Represents}
+use Rattle.rows.specs.Setters.{withSources}
+use Rattle.rows.specs.contracts.Slots.{slotted}
+use Rattle.soundness_rows.specs.contracts.Seen.{Same, Seen, slotRow}
+use Rattle.rows.proofs.Bools.{clash}
+use Rattle.rows.proofs.Keyed.{olderOf, first-key, rises-rest, rises-range}
+use Rattle.rows.proofs.RowSources.{Among}
+use Rattle.rows.proofs.Slots.{Well, represented-well, newerOf, rises-old, slot-zero, source-rises, source-zero, sources-among, source-kept, row-cut, row-found, row-absent, none-row, row-none, raw-row-at}
+
+-- ---- the same row
+same-self : (r : Row) → Same r r
+same-self r = record { number = refl; kind = refl; object = refl; operation = refl; rights = refl; place = refl; depth = refl; request = refl }
+
+same-slotted : (r : Row) (old : List Row) → Same (slotted r old) r
+unfolding slotted withSources
+same-slotted r old = record { number = refl; kind = refl; object = refl; operation = refl; rights = refl; place = refl; depth = refl; request = refl }
+
+-- ---- a source by its slot
+pub slot-row-pos : (t : List ℕ) (s : ℕ) → (s ≡ 0 → ⊥) → rawRow t (s - 1) ≡ slotRow t s
+unfolding slotRow
+slot-row-pos t zero h = absurd (h refl)
+slot-row-pos t (suc i) h = ap (rawRow t) (omega arith)
+
+-- source words in range
+pub row-sources : (t : List ℕ) (i : ℕ) (x : Row) → x ≡ rawRow t i → i < 1024 → getD t (6144 + i) 0 ≤ i → getD t (7168 + i) 0 ≤ i → (x .source ≤ 1024) × (x .via ≤ 1024)
+unfolding rawRow rowField rowSlots
+row-sources t i x d h s v = (omega (arith, ap (λ (r : Row). r .source) d), omega (arith, ap (λ (r : Row). r .via) d))
+
+module _ {st : State} {t : List ℕ} (rep : Represents t st) where
+  slot-row-at : (new old : List Row) → st .rows ≡ new ++ old → (n s : ℕ) → rowSlot old n ≡ s → Same (slotRow t s) (rowOf old n)
+  unfolding slotRow
+  slot-row-at new old e n zero d = subst (λ (r : Row). Same noRow r) (sym (row-absent old n d)) (same-self noRow)
+  slot-row-at new old e n (suc j) d =
+      let (cut, long) = row-cut old n j d in
+      let newer = newerOf (λ r. r .number) old n in
+      let older = olderOf (λ r. r .number) old n in
+      let whole : st .rows ≡ (new ++ newer) ++ (rowOf old n ∷ older) = e ∙ ap (λ (l : List Row). new ++ l) cut ∙ sym (append-assoc new newer (rowOf old n ∷ older)) in
+      subst (λ (r : Row). Same r (rowOf old n)) (sym (ap (rawRow t) (sym long) ∙ raw-row-at rep (new ++ newer) (rowOf old n) older whole)) (same-slotted (rowOf old n) older)
+
+  slot-row : (new old : List Row) → st .rows ≡ new ++ old → (n : ℕ) → Same (slotRow t (sourceSlot old n)) (rowOf old n)
+  slot-row new old e n =
+      slot-row-at new old e n (sourceSlot old n) (sym (source-rises old (rises-old (λ r. r .number) new old (ap (rises (λ r. r .number)) (sym e) ∙ represented-well rep .rows-rise)) n))
+
+-- the number of a source, and whether there is one, by its slot
+among-number : (old : List Row) → rises (λ r. r .number) old ≡ true → (n : ℕ) → Among old n → rowOf old n .number ≡ n
+unfolding rowOf numbers rowSlot noRow
+among-number old up n (inl z) = rw z (ap (λ (r : Row). r .number) (row-absent old 0 (slot-zero (λ r. r .number) old up)))
+among-number old up n (inr m) = first-key (λ r. r .number) noRow old n m
+
+among-none : (old : List Row) → rises (λ r. r .number) old ≡ true → (n : ℕ) → Among old n → eqb (sourceSlot old n) 0 ≡ eqb n 0
+unfolding numbers
+among-none old up n (inl z) = rw z (ap (λ (s : ℕ). eqb s 0) (source-zero old))
+among-none old up n (inr m) =
+    let (lo, hi) = rises-range (λ r. r .number) old up n m in
+    ne-eqb (sourceSlot old n) 0 (λ e. clash m (row-none old n (sym (source-rises old up n) ∙ e)))
+    ∙ sym (ne-eqb n 0 (λ e. omega arith))
+
+-- ---- of the row y of a state that t represents, old the older rows
+module _ {st : State} {t : List ℕ} (rep : Represents t st) (new : List Row) (y : Row) (old : List Row) (e : st .rows ≡ new ++ (y ∷ old)) where
+  up : rises (λ r. r .number) (new ++ (y ∷ old)) ≡ true
+  up = ap (rises (λ r. r .number)) (sym e) ∙ represented-well rep .rows-rise
+
+  up-old : rises (λ r. r .number) old ≡ true
+  up-old = rises-rest (λ r. r .number) y old (rises-old (λ r. r .number) new (y ∷ old) up)
+
+  older : sourcesOlder (new ++ (y ∷ old)) ≡ true
+  older = ap sourcesOlder (sym e) ∙ represented-well rep .sources-old
+
+  among : Among old (y .source) × Among old (y .via)
+  among = sources-among new y old up older
+
+  slot-seen : (n : ℕ) → Same (slotRow t (sourceSlot old n)) (rowOf old n)
+  slot-seen n = slot-row rep (new ++ (y ∷ [])) old (e ∙ sym (append-assoc new (y ∷ []) old)) n
+
+  -- the slot of its source tells the number, and the number the slot
+  pub source-told : slotRow t (sourceSlot old (y .source)) .number ≡ y .source
+  source-told = slot-seen (y .source) .number ∙ among-number old up-old (y .source) (among .0)
+
+  pub source-slot-of : sourceSlot old (y .source) ≡ rowSlot (st .rows) (y .source)
+  source-slot-of = source-kept new y old up older .0 ∙ ap (λ (l : List Row). rowSlot l (y .source)) (sym e)
+
+  seen : Seen (slotted y old) (slotRow t (slotted y old .source)) (slotRow t (slotted y old .via)) y old
+  unfolding slotted withSources
+  seen =
+      record {
+        own = same-slotted y old;
+        source = slot-seen (y .source);
+        via = slot-seen (y .via);
+        source-none = among-none old up-old (y .source) (among .0);
+        via-none = among-none old up-old (y .via) (among .1);
+        via-number = slot-seen (y .via) .number ∙ among-number old up-old (y .via) (among .1);
+      }
+
+  pub seen-at : (x s v : Row) → x ≡ rawRow t (length old) → s ≡ slotRow t (x .source) → v ≡ slotRow t (x .via) → Seen x s v y old
+  seen-at x s v d ds dv =
+      rw (ds, dv) (subst (λ (r : Row). Seen r (slotRow t (r .source)) (slotRow t (r .via)) y old) (sym (d ∙ raw-row-at rep new y old e)) seen)
+
+  pub same-at : (x : Row) → x ≡ rawRow t (length old) → Same x y
+  same-at x d = subst (λ (r : Row). Same r y) (sym (d ∙ raw-row-at rep new y old e)) (same-slotted y old)

@@ -1,0 +1,12 @@
+-- `row_clauses::is_copied` meets its contract: the definition, test by test.
+use mathlib.Core.Path.{refl}
+use Rattle.rows.specs.Codes.{operation, subdirectory, isOperation, isSubdirectory, isCopied}
+use Rattle.soundness_rows.proofs.row_clauses.is_copied.Statement.{statement}
+use Rattle.soundness_rows.proofs.row_clauses.is_copied.Tie as tie
+
+returns : tie.Need-returns
+unfolding isCopied isOperation isSubdirectory operation subdirectory
+returns c = refl
+
+pub is-copied-spec : {M : Type 1} → statement M
+is-copied-spec = tie.close (tie.spec returns)

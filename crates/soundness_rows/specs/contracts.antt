@@ -1,0 +1,3 @@
+-- The vocabulary of contracts of the tests of rows. A reader of the definitions need not read it.
+pub mod AtSlot
+pub mod Seen

@@ -1,0 +1,47 @@
+-- `lookups::kernel_open_on` meets its contract: words of another length hold no state; else the look-up's answer, plus 1.
+use borrow.Author.Needs.{needs}
+use native.Mathlib.Omega.{arith}
+use mathlib.Core.Path.{refl, sym}
+use denote.Ref.{now}
+use Rattle.rows.specs.Layout.{requestsIn}
+use Rattle.rows.specs.contracts.Slots.{openSlot}
+use Rattle.rows.proofs.Slots.{at-below, found-nothing, request-below, represented-length}
+use Rattle.test_exports.proofs.Answers.{plus-one}
+use Rattle.test_exports.proofs.lookups.kernel_open_on.Statement.{statement}
+use Rattle.test_exports.proofs.lookups.kernel_open_on.Tie as tie
+
+returns : tie.Need-returns
+returns c = (search needs, ((λ st rep. absurd (c .if1 .taken (represented-length rep))), (λ not. refl)))
+
+open-on-requires : tie.Need-open-on-requires
+open-on-requires c κs = search needs
+
+enum-known-j : tie.Need-enum-known-j
+enum-known-j c = search needs
+
+enum-told : tie.Need-enum-told
+enum-told c = search needs
+
+returns-2 : tie.Need-returns-2
+returns-2 c =
+    let a = c .before .before .before .before .before .args in
+    let found = c .before .before .open-on in
+    (search needs, ((λ st rep. sym (found-nothing (openSlot (st .requests) (a .c)) (found .ensures .1 st rep) (c .enum-told .given .1))), (λ not. refl)))
+
+add-result : tie.Need-add-result
+add-result c =
+    let a = c .before .before .before .before .before .before .args in
+    let found = c .before .before .before .open-on in
+    omega (arith, request-below (now (a .t)) (found .result) (c .before .j .given .0 .0) (found .ensures .0) (c .before .j .given .1))
+
+returns-3 : tie.Need-returns-3
+returns-3 c =
+    let a = c .before .before .before .before .before .before .args in
+    let found = c .before .before .before .open-on in
+    let j = c .before .j .given .0 .0 in (
+      omega (arith, at-below (requestsIn (now (a .t))) (found .result) j (found .ensures .0) (c .before .j .given .1)),
+      ((λ st rep. plus-one (openSlot (st .requests) (a .c)) j (found .ensures .1 st rep) (c .before .j .given .1)), (λ not. absurd (not (c .before .before .before .before .if1 .left)))),
+    )
+
+pub kernel-open-on-spec : {M : Type 1} → statement M
+kernel-open-on-spec = tie.close (tie.spec returns open-on-requires enum-known-j enum-told returns-2 add-result returns-3)

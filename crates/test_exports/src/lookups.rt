@@ -1,0 +1,78 @@
+// Look-ups. They answer the slot plus 1, and 0 for none and for words of another length.
+use rows::Found;
+use rows::find;
+use rows::layout::LENGTH;
+ghost use mathlib.Core.Path.{_≡_};
+ghost use Prim.Native.Nat.{_≤_};
+ghost use lib.ListN.{length};
+ghost use Rattle.rows.specs.Tables.{State};
+ghost use Rattle.rows.specs.Layout.{rowsIn, requestsIn, rowSlot};
+ghost use Rattle.rows.specs.contracts.Represents.{Represents};
+ghost use Rattle.rows.specs.contracts.Slots.{requestSlot, openSlot};
+
+#[no_mangle]
+pub extern "C" fn kernel_rows_in(t: &[u32]) -> usize
+    ensures counted { λ r. ⌜ (length (now (t .entry)) ≡ 11265 → r ≡ rowsIn (now (t .entry))) ⌝ }
+    ensures other { λ r. ⌜ ((length (now (t .entry)) ≡ 11265 → ⊥) → r ≡ 0) ⌝ }
+{
+    if t.len() != LENGTH {
+        return 0;
+    }
+    find::rows_in(t)
+}
+
+#[no_mangle]
+pub extern "C" fn kernel_requests_in(t: &[u32]) -> usize
+    ensures counted { λ r. ⌜ (length (now (t .entry)) ≡ 11265 → r ≡ requestsIn (now (t .entry))) ⌝ }
+    ensures other { λ r. ⌜ ((length (now (t .entry)) ≡ 11265 → ⊥) → r ≡ 0) ⌝ }
+{
+    if t.len() != LENGTH {
+        return 0;
+    }
+    find::requests_in(t)
+}
+
+#[no_mangle]
+pub extern "C" fn kernel_row_slot(t: &[u32], n: u32) -> usize
+    ensures within { λ r. ⌜ r ≤ rowsIn (now (t .entry)) ⌝ }
+    ensures found { λ r. ⌜ ((st : State) → Represents (now (t .entry)) st → r ≡ rowSlot (st .rows) n) ⌝ }
+    ensures other { λ r. ⌜ ((length (now (t .entry)) ≡ 11265 → ⊥) → r ≡ 0) ⌝ }
+{
+    if t.len() != LENGTH {
+        return 0;
+    }
+    let Found::At(i) = find::row_slot(t, n) else {
+        return 0;
+    };
+    i + 1
+}
+
+#[no_mangle]
+pub extern "C" fn kernel_request_slot(t: &[u32], q: u32) -> usize
+    ensures within { λ r. ⌜ r ≤ requestsIn (now (t .entry)) ⌝ }
+    ensures found { λ r. ⌜ ((st : State) → Represents (now (t .entry)) st → r ≡ requestSlot (st .requests) q) ⌝ }
+    ensures other { λ r. ⌜ ((length (now (t .entry)) ≡ 11265 → ⊥) → r ≡ 0) ⌝ }
+{
+    if t.len() != LENGTH {
+        return 0;
+    }
+    let Found::At(j) = find::request_slot(t, q) else {
+        return 0;
+    };
+    j + 1
+}
+
+#[no_mangle]
+pub extern "C" fn kernel_open_on(t: &[u32], c: u32) -> usize
+    ensures within { λ r. ⌜ r ≤ requestsIn (now (t .entry)) ⌝ }
+    ensures found { λ r. ⌜ ((st : State) → Represents (now (t .entry)) st → r ≡ openSlot (st .requests) c) ⌝ }
+    ensures other { λ r. ⌜ ((length (now (t .entry)) ≡ 11265 → ⊥) → r ≡ 0) ⌝ }
+{
+    if t.len() != LENGTH {
+        return 0;
+    }
+    let Found::At(j) = find::open_on(t, c) else {
+        return 0;
+    };
+    j + 1
+}

@@ -1,0 +1,103 @@
+// Reading: the words of a slot, the next number, the process records. Where a length or slot does not fit, nothing is written, and the answer is 0 or no.
+use rows::layout::LENGTH;
+use rows::layout::RECORDS;
+use rows::layout::REQUESTS;
+use rows::layout::ROWS;
+use rows::read;
+use rows::records;
+ghost use mathlib.Core.Path.{_≡_};
+ghost use mathlib.Core.Bool.{false};
+ghost use Prim.Native.Nat.{_<_};
+ghost use lib.ListN.{length, getD};
+ghost use Rattle.rows.specs.Tables.{isListed};
+ghost use Rattle.rows.specs.Layout.{requestAt, recordsIn, recordsOf, rawRow};
+ghost use Rattle.test_exports.specs.contracts.Fields.{fieldsOf, requestFieldsOf};
+
+#[no_mangle]
+pub extern "C" fn kernel_row_at(t: &[u32], i: usize, out: &mut [u32; 10])
+    ensures read { λ _. ⌜ ((length (now (t .entry)) ≡ 11265) × (i < 1024) → now (out .exit) ≡ fieldsOf (rawRow (now (t .entry)) i)) ⌝ }
+    ensures other { λ _. ⌜ (((length (now (t .entry)) ≡ 11265) × (i < 1024) → ⊥) → now (out .exit) ≡ now (out .entry)) ⌝ }
+{
+    if t.len() != LENGTH {
+        return;
+    }
+    if ROWS <= i {
+        return;
+    }
+    let r = read::row_at(t, i);
+    *out = [
+        r.number,
+        r.kind,
+        r.object,
+        r.operation,
+        r.rights,
+        r.place,
+        r.source,
+        r.via,
+        r.depth,
+        r.request,
+    ];
+}
+
+#[no_mangle]
+pub extern "C" fn kernel_request_at(t: &[u32], j: usize, out: &mut [u32; 8])
+    ensures read { λ _. ⌜ ((length (now (t .entry)) ≡ 11265) × (j < 128) → now (out .exit) ≡ requestFieldsOf (requestAt (now (t .entry)) j)) ⌝ }
+    ensures other { λ _. ⌜ (((length (now (t .entry)) ≡ 11265) × (j < 128) → ⊥) → now (out .exit) ≡ now (out .entry)) ⌝ }
+{
+    if t.len() != LENGTH {
+        return;
+    }
+    if REQUESTS <= j {
+        return;
+    }
+    let v = read::request_at(t, j);
+    let items = v.items;
+    *out = [
+        v.number,
+        v.port,
+        v.asker,
+        v.fetched,
+        items[0],
+        items[1],
+        items[2],
+        items[3],
+    ];
+}
+
+#[no_mangle]
+pub extern "C" fn kernel_next_of(t: &[u32]) -> u32
+    ensures read { λ r. ⌜ (length (now (t .entry)) ≡ 11265 → r ≡ getD (now (t .entry)) 11264 0) ⌝ }
+    ensures other { λ r. ⌜ ((length (now (t .entry)) ≡ 11265 → ⊥) → r ≡ 0) ⌝ }
+{
+    if t.len() != LENGTH {
+        return 0;
+    }
+    read::next_of(t)
+}
+
+#[no_mangle]
+pub extern "C" fn kernel_listed(p: &[u32], n: u32) -> bool
+    ensures listed { λ r. ⌜ (length (now (p .entry)) ≡ 192 → r ≡ isListed (recordsIn (now (p .entry))) n) ⌝ }
+    ensures other { λ r. ⌜ ((length (now (p .entry)) ≡ 192 → ⊥) → r ≡ false) ⌝ }
+{
+    if p.len() != RECORDS {
+        return false;
+    }
+    records::listed(p, n)
+}
+
+// The records of one run, stored in the other.
+#[no_mangle]
+pub extern "C" fn kernel_records(from: &[u32], to: &mut [u32])
+    ensures stored { λ _. ⌜ ((length (now (from .entry)) ≡ 192) × (length (now (to .entry)) ≡ 192) → now (to .exit) ≡ recordsOf (recordsIn (now (from .entry)))) ⌝ }
+    ensures other { λ _. ⌜ (((length (now (from .entry)) ≡ 192) × (length (now (to .entry)) ≡ 192) → ⊥) → now (to .exit) ≡ now (to .entry)) ⌝ }
+{
+    if from.len() != RECORDS {
+        return;
+    }
+    if to.len() != RECORDS {
+        return;
+    }
+    let ps = records::load(from);
+    records::store(ps, to);
+}

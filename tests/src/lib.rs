@@ -1,0 +1,23 @@
+//! The proved functions, safe to call on slices of any length: the exports
+//! test what their callees require (crates/test_exports/src).
+
+mod raw;
+
+pub mod changing;
+pub mod closing;
+pub mod layout;
+pub mod plain;
+pub mod reading;
+pub mod rights;
+
+/// A row as the words of its columns, in their order.
+pub type RowFields = [u32; 10];
+
+/// A request as the words of its columns, in their order.
+pub type RequestFields = [u32; 8];
+
+/// Which slots of rows are marked.
+pub type RowMarks = [bool; 1024];
+
+/// Which slots of requests are marked.
+pub type RequestMarks = [bool; 128];
