@@ -42,7 +42,7 @@ pub record Lending : Type 0 where
   pub items : List ℕ
   pub next : ℕ
 
--- "All rep with the system until fetched."
+-- "All lie with the system until fetched."
 unfoldable pub toSystem : ℕ → Row → Row
 toSystem e r = if eqb (r .number) e then withPlace withSystem r else r
 

@@ -3,8 +3,12 @@ use rows::find::requests_in;
 use rows::layout::DEPTH;
 use rows::layout::NEXT;
 use rows::layout::Q_NUMBER;
+use rows::layout::REQUEST_COLUMNS;
 use rows::layout::REQUESTS;
+use rows::layout::ROW_COLUMNS;
 use rows::layout::ROWS;
+use rows::layout::RequestMarks;
+use rows::layout::RowMarks;
 use rows::layout::SOURCE;
 use rows::layout::VIA;
 ghost use mathlib.Core.Path.{_≡_};
@@ -18,6 +22,7 @@ ghost use Rattle.rows.specs.Tables.{State};
 ghost use Rattle.rows.specs.contracts.Represents.{Represents};
 ghost use Rattle.rows.specs.Setters.{withRows, withRequests};
 ghost use Rattle.changes.specs.contracts.Marks.{tested, keep, marksOf, closedUnder, compacted, compactedParts, movedTo, remapped};
+ghost use Rattle.rows.specs.contracts.Sizes.{ROWS, REQUESTS, IsTables};
 
 // How many marks stand before the first that is set.
 fn unmarked(marks: &[bool], count: usize) -> usize
@@ -94,7 +99,7 @@ fn compact_columns(part: &mut [u32], size: usize, columns: usize, marks: &[bool]
 
 // Writes what each slot plus 1 of the first slots becomes; 0 stays 0.
 fn ranks(to: &mut [u32], marks: &[bool], count: usize)
-    requires { ⌜ (count ≤ 1024) × (count < length (now to)) × (count ≤ length (now marks)) ⌝ }
+    requires { ⌜ (count ≤ ROWS) × (count < length (now to)) × (count ≤ length (now marks)) ⌝ }
     ensures { λ _. ⌜ ((s : ℕ) → s ≤ count → getD (now (to .exit)) s 0 ≡ movedTo (now (marks .entry)) s) ⌝ }
 {
     to[0] = 0;
@@ -134,23 +139,29 @@ fn remap(column: &mut [u32], to: &[u32], count: usize)
 
 // Removes the marked rows; the marks are closed, and the sources of the rows that are left are renumbered.
 // Ruled out: a row that is left with the slot that its source had before; a column of which one word stays where a row went.
-pub fn remove_rows(t: &mut [u32], count: usize, marks: &[bool; 1024])
-    requires { ⌜ (length (now t) ≡ 11265) × (count ≤ 1024) ⌝ }
-    ensures { λ _. ⌜ ((st : State) (g : List ℕ) → Represents (now (t .entry)) st → count ≡ length (st .rows) → now (marks .entry) ≡ pad false 1024 (marksOf g (st .rows)) → closedUnder g (st .rows) ≡ true → Represents (now (t .exit)) (withRows (filter (λ r. not (member (r .number) g)) (st .rows)) st)) ⌝ }
+pub fn remove_rows(t: &mut [u32], count: usize, marks: &RowMarks)
+    requires { ⌜ IsTables (now t) × (count ≤ ROWS) ⌝ }
+    ensures { λ _. ⌜ ((st : State) (g : List ℕ) → Represents (now (t .entry)) st → count ≡ length (st .rows) → now (marks .entry) ≡ pad false ROWS (marksOf g (st .rows)) → closedUnder g (st .rows) ≡ true → Represents (now (t .exit)) (withRows (filter (λ r. not (member (r .number) g)) (st .rows)) st)) ⌝ }
 {
     let mut to = [0u32; 1025];
     ranks(&mut to, marks, count);
     remap(&mut t[SOURCE..VIA], &to, count);
     remap(&mut t[VIA..DEPTH], &to, count);
-    compact_columns(&mut t[0..Q_NUMBER], ROWS, 10, marks, count);
+    compact_columns(&mut t[0..Q_NUMBER], ROWS, ROW_COLUMNS, marks, count);
 }
 
 // Removes the marked requests.
 // Ruled out: a request that is left with another's port; a change of a row's word.
-pub fn remove_requests(t: &mut [u32], marks: &[bool; 128])
-    requires { ⌜ length (now t) ≡ 11265 ⌝ }
-    ensures { λ _. ⌜ ((st : State) (f : Request → Bool) → Represents (now (t .entry)) st → now (marks .entry) ≡ pad false 128 (tested f (st .requests)) → Represents (now (t .exit)) (withRequests (filter (λ v. not (f v)) (st .requests)) st)) ⌝ }
+pub fn remove_requests(t: &mut [u32], marks: &RequestMarks)
+    requires { ⌜ IsTables (now t) ⌝ }
+    ensures { λ _. ⌜ ((st : State) (f : Request → Bool) → Represents (now (t .entry)) st → now (marks .entry) ≡ pad false REQUESTS (tested f (st .requests)) → Represents (now (t .exit)) (withRequests (filter (λ v. not (f v)) (st .requests)) st)) ⌝ }
 {
     let count = requests_in(t);
-    compact_columns(&mut t[Q_NUMBER..NEXT], REQUESTS, 8, marks, count);
+    compact_columns(
+        &mut t[Q_NUMBER..NEXT],
+        REQUESTS,
+        REQUEST_COLUMNS,
+        marks,
+        count,
+    );
 }

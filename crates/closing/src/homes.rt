@@ -1,6 +1,9 @@
 // Processes that stand in a node through a removed row go to their prime node.
 use crate::marks::is_marked;
 use rows::Process;
+use rows::layout::PROCESSES;
+use rows::layout::RowMarks;
+use rows::records::Records;
 ghost use mathlib.Core.Path.{_≡_};
 ghost use mathlib.Core.Bool.{true, false};
 ghost use mathlib.Core.List.{List, map};
@@ -12,11 +15,12 @@ ghost use Rattle.rows.specs.Sound.{sound};
 ghost use Rattle.rows.specs.contracts.Represents.{Represents};
 ghost use Rattle.changes.specs.contracts.Marks.{marksOf};
 ghost use Rattle.closing.specs.Closing.{homed};
+ghost use Rattle.rows.specs.contracts.Sizes.{ROWS, IsTables};
 
 // One record.
-fn home(t: &[u32], n: usize, x: Process, removed: &[bool; 1024]) -> Process
-    requires { ⌜ (length (now t) ≡ 11265) × (n ≤ 1024) ⌝ }
-    ensures { λ r. ⌜ ((st : State) (g : List ℕ) → Represents (now (t .entry)) st → n ≡ length (st .rows) → now (removed .entry) ≡ pad false 1024 (marksOf g (st .rows)) → (some (x .through) ≡ true → member (x .through) (numbers (st .rows)) ≡ true) → r ≡ homed g x) ⌝ }
+fn home(t: &[u32], n: usize, x: Process, removed: &RowMarks) -> Process
+    requires { ⌜ IsTables (now t) × (n ≤ ROWS) ⌝ }
+    ensures { λ r. ⌜ ((st : State) (g : List ℕ) → Represents (now (t .entry)) st → n ≡ length (st .rows) → now (removed .entry) ≡ pad false ROWS (marksOf g (st .rows)) → (some (x .through) ≡ true → member (x .through) (numbers (st .rows)) ≡ true) → r ≡ homed g x) ⌝ }
 {
     if x.through == 0 {
         return x;
@@ -33,13 +37,13 @@ fn home(t: &[u32], n: usize, x: Process, removed: &[bool; 1024]) -> Process
 
 // All records.
 // Ruled out: a process is left in a node that it reached through a removed row; one that stands in its prime node moves.
-pub fn home_all(t: &[u32], n: usize, ps: [Process; 64], removed: &[bool; 1024]) -> [Process; 64]
-    requires { ⌜ (length (now t) ≡ 11265) × (n ≤ 1024) ⌝ }
-    ensures { λ r. ⌜ ((st : State) (g : List ℕ) → sound st ≡ true → Represents (now (t .entry)) st → n ≡ length (st .rows) → now (removed .entry) ≡ pad false 1024 (marksOf g (st .rows)) → st .processes ≡ ps → r ≡ map (homed g) ps) ⌝ }
+pub fn home_all(t: &[u32], n: usize, ps: Records, removed: &RowMarks) -> Records
+    requires { ⌜ IsTables (now t) × (n ≤ ROWS) ⌝ }
+    ensures { λ r. ⌜ ((st : State) (g : List ℕ) → sound st ≡ true → Represents (now (t .entry)) st → n ≡ length (st .rows) → now (removed .entry) ≡ pad false ROWS (marksOf g (st .rows)) → st .processes ≡ ps → r ≡ map (homed g) ps) ⌝ }
 {
     let mut to = ps;
     let mut i = 0;
-    while i < 64 {
+    while i < PROCESSES {
         to[i] = home(t, n, to[i], removed);
         i += 1;
     }

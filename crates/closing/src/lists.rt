@@ -3,6 +3,10 @@ use changes::change;
 use rows::Found;
 use rows::Request;
 use rows::find;
+use rows::layout::ITEMS;
+use rows::layout::ROWS;
+use rows::layout::RequestMarks;
+use rows::layout::RowMarks;
 use rows::read;
 ghost use mathlib.Core.Path.{_≡_};
 ghost use mathlib.Core.Bool.{Bool, true, false, _||_};
@@ -18,10 +22,11 @@ ghost use Rattle.rows.specs.contracts.Represents.{Represents};
 ghost use Rattle.rows.specs.Setters.{withRequests};
 ghost use Rattle.changes.specs.contracts.Marks.{tested, marksOf};
 ghost use Rattle.closing.specs.contracts.Lists.{slotMarks, WentBack, itemOut, itemsOut, SettledTo, listsSettled};
+ghost use Rattle.rows.specs.contracts.Sizes.{ROWS, REQUESTS, PROCESSES, ITEMS, IsTables};
 
 // The place of a process's c-list; 0 for what is no process. Ruled out: the process's own number; the c-list of the next one.
 pub fn clist(p: u32) -> u32
-    ensures { λ r. ⌜ (p ≤ 64 → r ≡ inClist p) ⌝ }
+    ensures { λ r. ⌜ (p ≤ PROCESSES → r ≡ inClist p) ⌝ }
 {
     if p <= 64 {
         return 100 + p;
@@ -30,10 +35,10 @@ pub fn clist(p: u32) -> u32
 }
 
 // One item of a closed request: its row goes to a c-list, unless an older closed request sent it back.
-fn item_back(t: &mut [u32], n: usize, e: u32, asker: u32, back: &mut [bool; 1024])
-    requires { ⌜ (length (now t) ≡ 11265) × (n ≤ 1024) ⌝ }
-    ensures back { λ _. ⌜ ((st : State) (b : ℕ → Bool) → Represents (now (t .entry)) st → n ≡ length (st .rows) → asker ≤ 64 → now (back .entry) ≡ slotMarks b (st .rows) → WentBack b asker (e ∷ []) st (now (t .exit)) (now (back .exit))) ⌝ }
-    ensures long { λ _. ⌜ length (now (t .exit)) ≡ 11265 ⌝ }
+fn item_back(t: &mut [u32], n: usize, e: u32, asker: u32, back: &mut RowMarks)
+    requires { ⌜ IsTables (now t) × (n ≤ ROWS) ⌝ }
+    ensures back { λ _. ⌜ ((st : State) (b : ℕ → Bool) → Represents (now (t .entry)) st → n ≡ length (st .rows) → asker ≤ PROCESSES → now (back .entry) ≡ slotMarks b (st .rows) → WentBack b asker (e ∷ []) st (now (t .exit)) (now (back .exit))) ⌝ }
+    ensures long { λ _. ⌜ IsTables (now (t .exit)) ⌝ }
 {
     if e == 0 {
         return;
@@ -50,15 +55,15 @@ fn item_back(t: &mut [u32], n: usize, e: u32, asker: u32, back: &mut [bool; 1024
 }
 
 // All items of a closed request.
-fn items_back(t: &mut [u32], n: usize, v: Request, back: &mut [bool; 1024])
-    requires { ⌜ (length (now t) ≡ 11265) × (n ≤ 1024) ⌝ }
-    ensures back { λ _. ⌜ ((st : State) (b : ℕ → Bool) → Represents (now (t .entry)) st → n ≡ length (st .rows) → v .asker ≤ 64 → now (back .entry) ≡ slotMarks b (st .rows) → WentBack b (v .asker) (v .items) st (now (t .exit)) (now (back .exit))) ⌝ }
-    ensures long { λ _. ⌜ length (now (t .exit)) ≡ 11265 ⌝ }
+fn items_back(t: &mut [u32], n: usize, v: Request, back: &mut RowMarks)
+    requires { ⌜ IsTables (now t) × (n ≤ ROWS) ⌝ }
+    ensures back { λ _. ⌜ ((st : State) (b : ℕ → Bool) → Represents (now (t .entry)) st → n ≡ length (st .rows) → v .asker ≤ PROCESSES → now (back .entry) ≡ slotMarks b (st .rows) → WentBack b (v .asker) (v .items) st (now (t .exit)) (now (back .exit))) ⌝ }
+    ensures long { λ _. ⌜ IsTables (now (t .exit)) ⌝ }
 {
     let items = v.items;
     let asker = v.asker;
     let mut k = 0;
-    while k < 4 {
+    while k < ITEMS {
         let e = items[k];
         item_back(t, n, e, asker, back);
         k += 1;
@@ -72,12 +77,12 @@ fn item_out(
     j: usize,
     k: usize,
     e: u32,
-    removed: &[bool; 1024],
-    back: &[bool; 1024],
+    removed: &RowMarks,
+    back: &RowMarks,
 )
-    requires { ⌜ (length (now t) ≡ 11265) × (n ≤ 1024) × (j < 128) × (k < 4) ⌝ }
+    requires { ⌜ IsTables (now t) × (n ≤ ROWS) × (j < REQUESTS) × (k < ITEMS) ⌝ }
     ensures out { λ _. ⌜ ((st : State) (g b : ℕ → Bool) (new : List Request) (w : Request) (old : List Request) → Represents (now (t .entry)) st → n ≡ length (st .rows) → st .requests ≡ new ++ (w ∷ old) → length old ≡ j → (some e ≡ true → member e (numbers (st .rows)) ≡ true) → now (removed .entry) ≡ slotMarks g (st .rows) → now (back .entry) ≡ slotMarks b (st .rows) → Represents (now (t .exit)) (withRequests (new ++ (itemOut (λ n. g n || b n) k e w ∷ old)) st)) ⌝ }
-    ensures long { λ _. ⌜ length (now (t .exit)) ≡ 11265 ⌝ }
+    ensures long { λ _. ⌜ IsTables (now (t .exit)) ⌝ }
 {
     if e == 0 {
         return;
@@ -91,21 +96,14 @@ fn item_out(
 }
 
 // All items of an open request, which is v.
-fn items_out(
-    t: &mut [u32],
-    n: usize,
-    j: usize,
-    v: Request,
-    removed: &[bool; 1024],
-    back: &[bool; 1024],
-)
-    requires { ⌜ (length (now t) ≡ 11265) × (n ≤ 1024) × (j < 128) ⌝ }
+fn items_out(t: &mut [u32], n: usize, j: usize, v: Request, removed: &RowMarks, back: &RowMarks)
+    requires { ⌜ IsTables (now t) × (n ≤ ROWS) × (j < REQUESTS) ⌝ }
     ensures out { λ _. ⌜ ((st : State) (g b : ℕ → Bool) (new old : List Request) → Represents (now (t .entry)) st → n ≡ length (st .rows) → st .requests ≡ new ++ (v ∷ old) → length old ≡ j → all (λ e. member e (numbers (st .rows))) (nonzero (v .items)) ≡ true → now (removed .entry) ≡ slotMarks g (st .rows) → now (back .entry) ≡ slotMarks b (st .rows) → Represents (now (t .exit)) (withRequests (new ++ (itemsOut (λ n. g n || b n) v ∷ old)) st)) ⌝ }
-    ensures long { λ _. ⌜ length (now (t .exit)) ≡ 11265 ⌝ }
+    ensures long { λ _. ⌜ IsTables (now (t .exit)) ⌝ }
 {
     let items = v.items;
     let mut k = 0;
-    while k < 4 {
+    while k < ITEMS {
         let e = items[k];
         item_out(t, n, j, k, e, removed, back);
         k += 1;
@@ -118,12 +116,12 @@ fn settle_request(
     n: usize,
     j: usize,
     closes: bool,
-    removed: &[bool; 1024],
-    back: &mut [bool; 1024],
+    removed: &RowMarks,
+    back: &mut RowMarks,
 )
-    requires { ⌜ (length (now t) ≡ 11265) × (n ≤ 1024) × (j < 128) ⌝ }
-    ensures settled { λ _. ⌜ ((st : State) (g : List ℕ) (f : Request → Bool) (new : List Request) (v : Request) (old : List Request) → sound st ≡ true → n ≡ length (st .rows) → st .requests ≡ new ++ (v ∷ old) → length old ≡ j → closes ≡ f v → now (removed .entry) ≡ pad false 1024 (marksOf g (st .rows)) → SettledTo g f (new ++ (v ∷ [])) old st (now (t .entry)) (now (back .entry)) → SettledTo g f new (v ∷ old) st (now (t .exit)) (now (back .exit))) ⌝ }
-    ensures long { λ _. ⌜ length (now (t .exit)) ≡ 11265 ⌝ }
+    requires { ⌜ IsTables (now t) × (n ≤ ROWS) × (j < REQUESTS) ⌝ }
+    ensures settled { λ _. ⌜ ((st : State) (g : List ℕ) (f : Request → Bool) (new : List Request) (v : Request) (old : List Request) → sound st ≡ true → n ≡ length (st .rows) → st .requests ≡ new ++ (v ∷ old) → length old ≡ j → closes ≡ f v → now (removed .entry) ≡ pad false ROWS (marksOf g (st .rows)) → SettledTo g f (new ++ (v ∷ [])) old st (now (t .entry)) (now (back .entry)) → SettledTo g f new (v ∷ old) st (now (t .exit)) (now (back .exit))) ⌝ }
+    ensures long { λ _. ⌜ IsTables (now (t .exit)) ⌝ }
 {
     let v = read::request_at(t, j);
     if closes {
@@ -135,12 +133,12 @@ fn settle_request(
 
 // Ends that closed requests list go back, and rows that are removed or go back leave the lists of open requests.
 // Ruled out: an end goes to the asker of a newer closed request, or stays in a newer open request's list.
-pub fn settle_lists(t: &mut [u32], n: usize, m: usize, removed: &[bool; 1024], closed: &[bool; 128])
-    requires { ⌜ (length (now t) ≡ 11265) × (n ≤ 1024) × (m ≤ 128) ⌝ }
-    ensures settled { λ _. ⌜ ((st : State) (g : List ℕ) (f : Request → Bool) → sound st ≡ true → Represents (now (t .entry)) st → n ≡ length (st .rows) → m ≡ length (st .requests) → now (removed .entry) ≡ pad false 1024 (marksOf g (st .rows)) → now (closed .entry) ≡ pad false 128 (tested f (st .requests)) → Represents (now (t .exit)) (listsSettled g f st)) ⌝ }
-    ensures long { λ _. ⌜ length (now (t .exit)) ≡ 11265 ⌝ }
+pub fn settle_lists(t: &mut [u32], n: usize, m: usize, removed: &RowMarks, closed: &RequestMarks)
+    requires { ⌜ IsTables (now t) × (n ≤ ROWS) × (m ≤ REQUESTS) ⌝ }
+    ensures settled { λ _. ⌜ ((st : State) (g : List ℕ) (f : Request → Bool) → sound st ≡ true → Represents (now (t .entry)) st → n ≡ length (st .rows) → m ≡ length (st .requests) → now (removed .entry) ≡ pad false ROWS (marksOf g (st .rows)) → now (closed .entry) ≡ pad false REQUESTS (tested f (st .requests)) → Represents (now (t .exit)) (listsSettled g f st)) ⌝ }
+    ensures long { λ _. ⌜ IsTables (now (t .exit)) ⌝ }
 {
-    let mut back = [false; 1024];
+    let mut back = [false; ROWS];
     let mut j = 0;
     while j < m {
         let closes = closed[j];

@@ -9,6 +9,10 @@ use rows::layout::OBJECT;
 use rows::layout::Q_NUMBER;
 use rows::layout::Q_PORT;
 use rows::layout::REQUEST;
+use rows::layout::REQUESTS;
+use rows::layout::ROWS;
+use rows::layout::RequestMarks;
+use rows::layout::RowMarks;
 use rows::layout::SOURCE;
 use rows::layout::VIA;
 ghost use mathlib.Core.Path.{_≡_};
@@ -24,11 +28,12 @@ ghost use Rattle.rows.specs.Layout.{rawRow};
 ghost use Rattle.changes.specs.contracts.Marks.{tested, marksOf};
 ghost use Rattle.closing.specs.Closing.{closes};
 ghost use Rattle.closing.specs.contracts.Seeds.{seedOf, closesOf, markAt};
+ghost use Rattle.rows.specs.contracts.Sizes.{ROWS, REQUESTS, IsTables};
 
 // Whether the row in slot i is a seed.
 // Ruled out: an operation row whose manager's number is the port's; a row that bears the number of another request.
 fn is_seed(t: &[u32], i: usize, s: Seed) -> bool
-    requires { ⌜ (length (now t) ≡ 11265) × (i < 1024) ⌝ }
+    requires { ⌜ IsTables (now t) × (i < ROWS) ⌝ }
     ensures { λ r. ⌜ r ≡ seedOf s (rawRow (now (t .entry)) i) ⌝ }
 {
     match s {
@@ -54,11 +59,11 @@ fn mark_at(marks: &[bool], s: u32) -> bool
 
 // The rows that are removed: the seeds and all that comes from them, in one pass from the oldest row on.
 // Ruled out: a copy whose second source alone is removed stays; a row of which nothing is removed goes.
-pub fn mark_rows(t: &[u32], n: usize, s: Seed) -> [bool; 1024]
-    requires { ⌜ (length (now t) ≡ 11265) × (n ≤ 1024) ⌝ }
-    ensures { λ r. ⌜ ((st : State) → Represents (now (t .entry)) st → n ≡ length (st .rows) → r ≡ pad false 1024 (marksOf (marked (seedOf s) (st .rows)) (st .rows))) ⌝ }
+pub fn mark_rows(t: &[u32], n: usize, s: Seed) -> RowMarks
+    requires { ⌜ IsTables (now t) × (n ≤ ROWS) ⌝ }
+    ensures { λ r. ⌜ ((st : State) → Represents (now (t .entry)) st → n ≡ length (st .rows) → r ≡ pad false ROWS (marksOf (marked (seedOf s) (st .rows)) (st .rows))) ⌝ }
 {
-    let mut removed = [false; 1024];
+    let mut removed = [false; ROWS];
     let mut i = 0;
     while i < n {
         let seed = is_seed(t, i, s);
@@ -82,9 +87,9 @@ fn closes_first(s: Seed, number: u32) -> bool
 }
 
 // Whether the row numbered e is marked; a number that no row has is not.
-pub fn is_marked(t: &[u32], n: usize, e: u32, marks: &[bool; 1024]) -> bool
-    requires { ⌜ (length (now t) ≡ 11265) × (n ≤ 1024) ⌝ }
-    ensures { λ r. ⌜ ((st : State) (g : List ℕ) → Represents (now (t .entry)) st → n ≡ length (st .rows) → now (marks .entry) ≡ pad false 1024 (marksOf g (st .rows)) → member e (numbers (st .rows)) ≡ true → r ≡ member e g) ⌝ }
+pub fn is_marked(t: &[u32], n: usize, e: u32, marks: &RowMarks) -> bool
+    requires { ⌜ IsTables (now t) × (n ≤ ROWS) ⌝ }
+    ensures { λ r. ⌜ ((st : State) (g : List ℕ) → Represents (now (t .entry)) st → n ≡ length (st .rows) → now (marks .entry) ≡ pad false ROWS (marksOf g (st .rows)) → member e (numbers (st .rows)) ≡ true → r ≡ member e g) ⌝ }
 {
     let Found::At(i) = find::row_among(t, n, e) else {
         return false;
@@ -94,11 +99,11 @@ pub fn is_marked(t: &[u32], n: usize, e: u32, marks: &[bool; 1024]) -> bool
 
 // The requests that close: the one that the closing starts from, and those whose port is removed.
 // Ruled out: a request whose port went stays open; one closes because an item of its list is removed.
-pub fn mark_requests(t: &[u32], n: usize, m: usize, removed: &[bool; 1024], s: Seed) -> [bool; 128]
-    requires { ⌜ (length (now t) ≡ 11265) × (n ≤ 1024) × (m ≤ 128) ⌝ }
-    ensures { λ r. ⌜ ((st : State) (g : List ℕ) → sound st ≡ true → Represents (now (t .entry)) st → n ≡ length (st .rows) → m ≡ length (st .requests) → now (removed .entry) ≡ pad false 1024 (marksOf g (st .rows)) → r ≡ pad false 128 (tested (closes (closesOf s) g) (st .requests))) ⌝ }
+pub fn mark_requests(t: &[u32], n: usize, m: usize, removed: &RowMarks, s: Seed) -> RequestMarks
+    requires { ⌜ IsTables (now t) × (n ≤ ROWS) × (m ≤ REQUESTS) ⌝ }
+    ensures { λ r. ⌜ ((st : State) (g : List ℕ) → sound st ≡ true → Represents (now (t .entry)) st → n ≡ length (st .rows) → m ≡ length (st .requests) → now (removed .entry) ≡ pad false ROWS (marksOf g (st .rows)) → r ≡ pad false REQUESTS (tested (closes (closesOf s) g) (st .requests))) ⌝ }
 {
-    let mut closed = [false; 128];
+    let mut closed = [false; REQUESTS];
     let mut j = 0;
     while j < m {
         let first = closes_first(s, t[Q_NUMBER + j]);

@@ -7,6 +7,7 @@ use rows::layout::KIND;
 use rows::layout::NUMBER;
 use rows::layout::Q_ITEMS;
 use rows::layout::REQUEST;
+use rows::layout::REQUESTS;
 use rows::layout::ROWS;
 use rows::layout::SOURCE;
 use rows::layout::VIA;
@@ -21,17 +22,18 @@ ghost use Rattle.rows.specs.Sound.{sound};
 ghost use Rattle.rows.specs.Layout.{requestAt, rowSlot};
 ghost use Rattle.rows.specs.contracts.Represents.{Represents};
 ghost use Rattle.questions.specs.contracts.Questions.{Touched, Reaches, ViaReaches, PortReaches};
+ghost use Rattle.rows.specs.contracts.Sizes.{ROWS, REQUESTS, SOURCE, VIA, IsTables};
 
 // the greatest source word: the last slot plus 1
 const LAST_WORD: u32 = 1024;
 
 // Whether the request in slot j lists e.
 fn lists_item(t: &[u32], j: usize, e: u32) -> bool
-    requires { ⌜ (length (now t) ≡ 11265) × (j < 128) ⌝ }
+    requires { ⌜ IsTables (now t) × (j < REQUESTS) ⌝ }
     ensures { λ r. ⌜ r ≡ member e (requestAt (now (t .entry)) j .items) ⌝ }
 {
     (e == t[Q_ITEMS + j])
-        | (e == t[Q_ITEMS + 128 + j])
+        | (e == t[Q_ITEMS + REQUESTS + j])
         | (e == t[Q_ITEMS + 256 + j])
         | (e == t[Q_ITEMS + 384 + j])
 }
@@ -39,7 +41,7 @@ fn lists_item(t: &[u32], j: usize, e: u32) -> bool
 // Whether an open request lists e. Every list is looked at, with no way out early, so that the loop runs over many words at once.
 // Ruled out: no, where the last item of the newest request is e; yes, where e is only a request's port.
 pub fn on_loan(t: &[u32], e: u32) -> bool
-    requires { ⌜ length (now t) ≡ 11265 ⌝ }
+    requires { ⌜ IsTables (now t) ⌝ }
     ensures { λ r. ⌜ ((st : State) → Represents (now (t .entry)) st → some e ≡ true → r ≡ onLoan (st .requests) e) ⌝ }
 {
     let count = requests_in(t);
@@ -54,7 +56,7 @@ pub fn on_loan(t: &[u32], e: u32) -> bool
 
 // What a question asks of the row in slot i itself: for a request q whether it bears q, for 0 whether it is lent itself.
 fn touched(t: &[u32], i: usize, q: u32) -> bool
-    requires { ⌜ (length (now t) ≡ 11265) × (i < 1024) ⌝ }
+    requires { ⌜ IsTables (now t) × (i < ROWS) ⌝ }
     ensures { λ r. ⌜ Touched (now (t .entry)) i q r ⌝ }
 {
     let borne = t[REQUEST + i];
@@ -74,7 +76,7 @@ fn touched(t: &[u32], i: usize, q: u32) -> bool
 // It goes along the first sources, and asks of a second source where there is one.
 // Ruled out: no, where the second source alone is touched; yes for a word 0, where there is no row.
 fn row_question(t: &[u32], s: u32, q: u32, d: u32) -> bool
-    requires { ⌜ length (now t) ≡ 11265 ⌝ }
+    requires { ⌜ IsTables (now t) ⌝ }
     ensures { λ r. ⌜ Reaches (now (t .entry)) s q d r ⌝ }
 {
     let mut word = s;
@@ -102,7 +104,7 @@ fn row_question(t: &[u32], s: u32, q: u32, d: u32) -> bool
 // The same of the second source of the row in slot i, d - 1 steps back at most: of a copy it is the port that it was lent over.
 // Ruled out: yes, where there is no second source; no, where a copy's port has gone.
 fn via_question(t: &[u32], i: usize, q: u32, d: u32) -> bool
-    requires { ⌜ (length (now t) ≡ 11265) × (i < 1024) × (0 < d) ⌝ }
+    requires { ⌜ IsTables (now t) × (i < ROWS) × (0 < d) ⌝ }
     ensures { λ r. ⌜ ViaReaches (now (t .entry)) i q d r ⌝ }
 {
     let via = t[VIA + i];
@@ -118,7 +120,7 @@ fn via_question(t: &[u32], i: usize, q: u32, d: u32) -> bool
 // The same of the port whose client end is at source word c: the end itself, or its operation row.
 // Ruled out: no, where the end itself is on loan; no, where the operation row comes from q.
 fn port_question(t: &[u32], c: u32, q: u32, d: u32) -> bool
-    requires { ⌜ length (now t) ≡ 11265 ⌝ }
+    requires { ⌜ IsTables (now t) ⌝ }
     ensures { λ r. ⌜ PortReaches (now (t .entry)) c q d r ⌝ }
 {
     let at = c as usize;
@@ -140,8 +142,8 @@ fn port_question(t: &[u32], c: u32, q: u32, d: u32) -> bool
 
 // Ruled out: yes for a row that has one source.
 fn has_no_source(t: &[u32], e: usize) -> bool
-    requires { ⌜ (length (now t) ≡ 11265) × (e < 1024) ⌝ }
-    ensures { λ r. ⌜ r ≡ (eqb (getD (now (t .entry)) (6144 + e) 0) 0 && eqb (getD (now (t .entry)) (7168 + e) 0) 0) ⌝ }
+    requires { ⌜ IsTables (now t) × (e < ROWS) ⌝ }
+    ensures { λ r. ⌜ r ≡ (eqb (getD (now (t .entry)) (SOURCE + e) 0) 0 && eqb (getD (now (t .entry)) (VIA + e) 0) 0) ⌝ }
 {
     (t[SOURCE + e] == 0) & (t[VIA + e] == 0)
 }
@@ -149,7 +151,7 @@ fn has_no_source(t: &[u32], e: usize) -> bool
 // Whether the row in slot e comes from request q. Most rows say it themselves: they bear q, or have no source.
 // Ruled out: no, where the port under a copy comes from q; the answer for the row in the next slot.
 pub fn comes(t: &[u32], e: usize, q: u32) -> bool
-    requires { ⌜ (length (now t) ≡ 11265) × (e < 1024) ⌝ }
+    requires { ⌜ IsTables (now t) × (e < ROWS) ⌝ }
     ensures { λ r. ⌜ ((st : State) (n : ℕ) → sound st ≡ true → Represents (now (t .entry)) st → rowSlot (st .rows) n ≡ suc e → some q ≡ true → r ≡ comesFrom (st .rows) q n) ⌝ }
 {
     if t[REQUEST + e] == q {
@@ -164,7 +166,7 @@ pub fn comes(t: &[u32], e: usize, q: u32) -> bool
 // Whether the row in slot e is lent. A row that has no source says it itself.
 // Ruled out: no, where the oldest of twelve rows in a line is lent; yes, where a row bears no request and no end is on loan.
 pub fn lent(t: &[u32], e: usize) -> bool
-    requires { ⌜ (length (now t) ≡ 11265) × (e < 1024) ⌝ }
+    requires { ⌜ IsTables (now t) × (e < ROWS) ⌝ }
     ensures { λ r. ⌜ ((st : State) (n : ℕ) → sound st ≡ true → Represents (now (t .entry)) st → rowSlot (st .rows) n ≡ suc e → r ≡ isLent st n) ⌝ }
 {
     if has_no_source(t, e) {

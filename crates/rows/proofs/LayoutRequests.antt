@@ -1,4 +1,4 @@
--- Requests and process records read back from the words in which they rep.
+-- Requests and process records read back from the words that represent them.
 use Prim.Native.Nat.{ℕ, zero, suc, _+_, _*_, _<_, _≤_}
 use mathlib.Core.Bool.{true}
 use mathlib.Core.List.{List, [], _∷_, _++_, append-assoc}

@@ -1,4 +1,4 @@
--- Rows read back from the words in which they rep.
+-- Rows read back from the words that represent them.
 use Prim.Native.Nat.{ℕ, zero, suc, _+_, _*_, _<_, _≤_}
 use mathlib.Core.Bool.{Bool, true, false, cond}
 use mathlib.Core.List.{List, [], _∷_, _++_, append-assoc, map}

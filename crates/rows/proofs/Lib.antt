@@ -19,7 +19,7 @@ pub mod Places
 pub mod SoundFacts
 -- what awaits a fetch, and the requests that list it
 pub mod Awaits
--- rows read back from the words in which they rep
+-- rows read back from the words that represent them
 pub mod LayoutRows
 -- requests and process records read back
 pub mod LayoutRequests

@@ -13,6 +13,7 @@ ghost use Rattle.rows.specs.Layout.{leading, rowsIn, requestsIn, rowSlot
 ghost use Rattle.rows.specs.contracts.Represents.{Represents};
 ghost use Rattle.rows.specs.contracts.Slots.{Within, foundSlot, requestSlot, openSlot};
 ghost use Rattle.rows.specs.contracts.Searches.{Ascending, LastAt};
+ghost use Rattle.rows.specs.contracts.Sizes.{ROWS, REQUESTS, IsTables};
 
 // The place of n among the first words of a column, which rise: by halves.
 // Ruled out: a place at or past the count; nothing where n is there.
@@ -74,9 +75,9 @@ pub fn leading_in(column: &[u32]) -> usize
 // How many slots of rows are in use.
 // Ruled out: a slot more than stand before the first number 0; more than 1,024.
 pub fn rows_in(t: &[u32]) -> usize
-    requires { ⌜ length (now t) ≡ 11265 ⌝ }
+    requires { ⌜ IsTables (now t) ⌝ }
     ensures counted { λ r. ⌜ r ≡ rowsIn (now (t .entry)) ⌝ }
-    ensures within { λ r. ⌜ r ≤ 1024 ⌝ }
+    ensures within { λ r. ⌜ r ≤ ROWS ⌝ }
 {
     leading_in(&t[NUMBER..KIND])
 }
@@ -84,9 +85,9 @@ pub fn rows_in(t: &[u32]) -> usize
 // How many slots of requests are in use.
 // Ruled out: a count over the rows' numbers; more than 128.
 pub fn requests_in(t: &[u32]) -> usize
-    requires { ⌜ length (now t) ≡ 11265 ⌝ }
+    requires { ⌜ IsTables (now t) ⌝ }
     ensures counted { λ r. ⌜ r ≡ requestsIn (now (t .entry)) ⌝ }
-    ensures within { λ r. ⌜ r ≤ 128 ⌝ }
+    ensures within { λ r. ⌜ r ≤ REQUESTS ⌝ }
 {
     leading_in(&t[Q_NUMBER..Q_PORT])
 }
@@ -94,7 +95,7 @@ pub fn requests_in(t: &[u32]) -> usize
 // The slot of the row numbered n among so many rows: for callers that look up several.
 // Ruled out: the slot of another row; one at or past the count.
 pub fn row_among(t: &[u32], count: usize, n: u32) -> Found
-    requires { ⌜ (length (now t) ≡ 11265) × (count ≤ 1024) ⌝ }
+    requires { ⌜ IsTables (now t) × (count ≤ ROWS) ⌝ }
     ensures within { λ r. ⌜ Within count r ⌝ }
     ensures found { λ r. ⌜ ((st : State) → Represents (now (t .entry)) st → count ≡ length (st .rows) → r ≡ foundSlot (rowSlot (st .rows) n)) ⌝ }
 {
@@ -104,7 +105,7 @@ pub fn row_among(t: &[u32], count: usize, n: u32) -> Found
 // The slot of the row numbered n.
 // Ruled out: the slot of another row; a slot for a number that no row has, 0 too.
 pub fn row_slot(t: &[u32], n: u32) -> Found
-    requires { ⌜ length (now t) ≡ 11265 ⌝ }
+    requires { ⌜ IsTables (now t) ⌝ }
     ensures within { λ r. ⌜ Within (rowsIn (now (t .entry))) r ⌝ }
     ensures found { λ r. ⌜ ((st : State) → Represents (now (t .entry)) st → r ≡ foundSlot (rowSlot (st .rows) n)) ⌝ }
 {
@@ -115,7 +116,7 @@ pub fn row_slot(t: &[u32], n: u32) -> Found
 // The slot of the request numbered q.
 // Ruled out: the slot of another request; one past the requests in use.
 pub fn request_slot(t: &[u32], q: u32) -> Found
-    requires { ⌜ length (now t) ≡ 11265 ⌝ }
+    requires { ⌜ IsTables (now t) ⌝ }
     ensures within { λ r. ⌜ Within (requestsIn (now (t .entry))) r ⌝ }
     ensures found { λ r. ⌜ ((st : State) → Represents (now (t .entry)) st → r ≡ foundSlot (requestSlot (st .requests) q)) ⌝ }
 {
@@ -126,7 +127,7 @@ pub fn request_slot(t: &[u32], q: u32) -> Found
 // The slot of the newest request on the port whose client end is c.
 // Ruled out: an older request on that port; nothing where one is open.
 pub fn open_on(t: &[u32], c: u32) -> Found
-    requires { ⌜ length (now t) ≡ 11265 ⌝ }
+    requires { ⌜ IsTables (now t) ⌝ }
     ensures within { λ r. ⌜ Within (requestsIn (now (t .entry))) r ⌝ }
     ensures found { λ r. ⌜ ((st : State) → Represents (now (t .entry)) st → r ≡ foundSlot (openSlot (st .requests) c)) ⌝ }
 {

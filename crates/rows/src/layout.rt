@@ -1,48 +1,61 @@
-// Where the columns of the lent runs of words start, and how long the runs are.
+// Where the columns of the lent runs of words start, and how long the runs are: specs/Layout.antt.
 
-// slots of rows, of requests; processes
+// slots of rows, of requests; processes; items of a request
 pub const ROWS: usize = 1024;
 
 pub const REQUESTS: usize = 128;
 
 pub const PROCESSES: usize = 64;
 
+pub const ITEMS: usize = 4;
+
+// a mark for each slot of rows; of requests
+pub type RowMarks = [bool; ROWS];
+
+pub type RequestMarks = [bool; REQUESTS];
+
 // the rows' columns, ROWS words each
+pub const ROW_COLUMNS: usize = 10;
+
 pub const NUMBER: usize = 0;
 
-pub const KIND: usize = 1024;
+pub const KIND: usize = ROWS;
 
-pub const OBJECT: usize = 2048;
+pub const OBJECT: usize = 2 * ROWS;
 
-pub const OPERATION: usize = 3072;
+pub const OPERATION: usize = 3 * ROWS;
 
-pub const RIGHTS: usize = 4096;
+pub const RIGHTS: usize = 4 * ROWS;
 
-pub const PLACE: usize = 5120;
+pub const PLACE: usize = 5 * ROWS;
 // the slots of the two sources, plus 1; 0 for none
-pub const SOURCE: usize = 6144;
+pub const SOURCE: usize = 6 * ROWS;
 
-pub const VIA: usize = 7168;
+pub const VIA: usize = 7 * ROWS;
 
-pub const DEPTH: usize = 8192;
+pub const DEPTH: usize = 8 * ROWS;
 
-pub const REQUEST: usize = 9216;
+pub const REQUEST: usize = 9 * ROWS;
 
 // the requests' columns, REQUESTS words each
-pub const Q_NUMBER: usize = 10240;
+pub const REQUEST_COLUMNS: usize = 8;
 
-pub const Q_PORT: usize = 10368;
+pub const Q_NUMBER: usize = ROW_COLUMNS * ROWS;
 
-pub const Q_ASKER: usize = 10496;
+pub const Q_PORT: usize = Q_NUMBER + REQUESTS;
 
-pub const Q_FETCHED: usize = 10624;
+pub const Q_ASKER: usize = Q_NUMBER + 2 * REQUESTS;
+
+pub const Q_FETCHED: usize = Q_NUMBER + 3 * REQUESTS;
 // four of them
-pub const Q_ITEMS: usize = 10752;
+pub const Q_ITEMS: usize = Q_NUMBER + 4 * REQUESTS;
 
 // the next number, and the length of the run
-pub const NEXT: usize = 11264;
+pub const NEXT: usize = Q_NUMBER + REQUEST_COLUMNS * REQUESTS;
 
-pub const LENGTH: usize = 11265;
+pub const TABLES: usize = NEXT + 1;
 
-// the length of the run of process records
-pub const RECORDS: usize = 192;
+// the words of a process record, and the length of the run of records
+pub const RECORD_WORDS: usize = 3;
+
+pub const RECORDS: usize = RECORD_WORDS * PROCESSES;

@@ -14,6 +14,7 @@ use crate::layout::Q_ITEMS;
 use crate::layout::Q_NUMBER;
 use crate::layout::Q_PORT;
 use crate::layout::REQUEST;
+use crate::layout::REQUESTS;
 use crate::layout::RIGHTS;
 use crate::layout::SOURCE;
 use crate::layout::VIA;
@@ -21,11 +22,12 @@ ghost use mathlib.Core.Path.{_≡_};
 ghost use Prim.Native.Nat.{_<_};
 ghost use lib.ListN.{length, getD};
 ghost use Rattle.rows.specs.Layout.{requestAt, rawRow};
+ghost use Rattle.rows.specs.contracts.Sizes.{ROWS, REQUESTS, NEXT, IsTables};
 
 // The row at slot i, its sources as slots plus 1.
 // Ruled out: a word of another column; a word of the next slot.
 pub fn row_at(t: &[u32], i: usize) -> Row
-    requires { ⌜ (length (now t) ≡ 11265) × (i < 1024) ⌝ }
+    requires { ⌜ IsTables (now t) × (i < ROWS) ⌝ }
     ensures { λ r. ⌜ r ≡ rawRow (now (t .entry)) i ⌝ }
 {
     Row {
@@ -45,12 +47,12 @@ pub fn row_at(t: &[u32], i: usize) -> Row
 // The request at slot j.
 // Ruled out: items in another order; the asker for the port.
 pub fn request_at(t: &[u32], j: usize) -> Request
-    requires { ⌜ (length (now t) ≡ 11265) × (j < 128) ⌝ }
+    requires { ⌜ IsTables (now t) × (j < REQUESTS) ⌝ }
     ensures { λ r. ⌜ r ≡ requestAt (now (t .entry)) j ⌝ }
 {
     let items = [
         t[Q_ITEMS + j],
-        t[Q_ITEMS + 128 + j],
+        t[Q_ITEMS + REQUESTS + j],
         t[Q_ITEMS + 256 + j],
         t[Q_ITEMS + 384 + j],
     ];
@@ -66,8 +68,8 @@ pub fn request_at(t: &[u32], j: usize) -> Request
 // The next number.
 // Ruled out: the last item word before it; 0 where it is not.
 pub fn next_of(t: &[u32]) -> u32
-    requires { ⌜ length (now t) ≡ 11265 ⌝ }
-    ensures { λ r. ⌜ r ≡ getD (now (t .entry)) 11264 0 ⌝ }
+    requires { ⌜ IsTables (now t) ⌝ }
+    ensures { λ r. ⌜ r ≡ getD (now (t .entry)) NEXT 0 ⌝ }
 {
     t[NEXT]
 }

@@ -1,13 +1,18 @@
 // The process records in their lent run of words, three to a record.
 use crate::Process;
+use crate::layout::PROCESSES;
 ghost use mathlib.Core.Path.{_≡_};
 ghost use lib.ListN.{length};
 ghost use Rattle.rows.specs.Tables.{isListed};
 ghost use Rattle.rows.specs.Layout.{recordsIn, recordsOf};
+ghost use Rattle.rows.specs.contracts.Sizes.{IsRecords};
+
+// The records of all processes: that of process p is element p - 1.
+pub type Records = [Process; PROCESSES];
 
 // The records by value. Ruled out: a record of another process; two fields in each other's place.
-pub fn load(p: &[u32]) -> [Process; 64]
-    requires { ⌜ length (now p) ≡ 192 ⌝ }
+pub fn load(p: &[u32]) -> Records
+    requires { ⌜ IsRecords (now p) ⌝ }
     ensures { λ r. ⌜ r ≡ recordsIn (now (p .entry)) ⌝ }
 {
     let none = Process {
@@ -15,9 +20,9 @@ pub fn load(p: &[u32]) -> [Process; 64]
         active: 0,
         through: 0,
     };
-    let mut ps = [none; 64];
+    let mut ps = [none; PROCESSES];
     let mut i = 0;
-    while i < 64 {
+    while i < PROCESSES {
         let at = 3 * i;
         ps[i] = Process {
             prime: p[at],
@@ -30,12 +35,12 @@ pub fn load(p: &[u32]) -> [Process; 64]
 }
 
 // Writes the records back. Ruled out: a word of the run is left as it was; two fields in each other's place.
-pub fn store(ps: [Process; 64], p: &mut [u32])
-    requires { ⌜ length (now p) ≡ 192 ⌝ }
+pub fn store(ps: Records, p: &mut [u32])
+    requires { ⌜ IsRecords (now p) ⌝ }
     ensures { λ _. ⌜ now (p .exit) ≡ recordsOf ps ⌝ }
 {
     let mut i = 0;
-    while i < 64 {
+    while i < PROCESSES {
         let x = ps[i];
         let at = 3 * i;
         p[at] = x.prime;
@@ -47,13 +52,13 @@ pub fn store(ps: [Process; 64], p: &mut [u32])
 
 // Whether n is a listed process, for any n. Ruled out: 0 or 65 is listed; the record after that of n decides.
 pub fn listed(p: &[u32], n: u32) -> bool
-    requires { ⌜ length (now p) ≡ 192 ⌝ }
+    requires { ⌜ IsRecords (now p) ⌝ }
     ensures { λ r. ⌜ r ≡ isListed (recordsIn (now (p .entry))) n ⌝ }
 {
     if n == 0 {
         return false;
     }
-    if 64 < n {
+    if PROCESSES < n as usize {
         return false;
     }
     let i = (n - 1) as usize;

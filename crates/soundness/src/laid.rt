@@ -5,7 +5,9 @@ use rows::layout::KIND;
 use rows::layout::NUMBER;
 use rows::layout::Q_NUMBER;
 use rows::layout::Q_PORT;
+use rows::layout::REQUEST_COLUMNS;
 use rows::layout::REQUESTS;
+use rows::layout::ROW_COLUMNS;
 use rows::layout::ROWS;
 use rows::layout::SOURCE;
 use rows::layout::VIA;
@@ -13,6 +15,7 @@ ghost use mathlib.Core.Path.{_≡_};
 ghost use Prim.Native.Nat.{ℕ, _+_, _*_, _<_, _≤_};
 ghost use lib.ListN.{length, getD};
 ghost use Rattle.soundness.specs.contracts.Laid.{Decides, Rising, Older, ZeroFrom, RowsLaid, RequestsLaid};
+ghost use Rattle.rows.specs.contracts.Sizes.{ROWS, REQUESTS, ROW-COLUMNS, REQUEST-COLUMNS, Q-NUMBER, IsTables};
 
 // Whether the words of a column from place k on are 0.
 // Ruled out: yes where the last word is not 0; no for what stands before place k.
@@ -49,7 +52,7 @@ pub fn rising(column: &[u32], k: usize) -> bool
 // Whether each of the first k words of a column of sources is 0 or the slot of an older row, plus 1.
 // Ruled out: yes where a row is its own source; no where it comes from the row just before it.
 pub fn older(column: &[u32], k: usize) -> bool
-    requires { ⌜ (k ≤ length (now column)) × (k ≤ 1024) ⌝ }
+    requires { ⌜ (k ≤ length (now column)) × (k ≤ ROWS) ⌝ }
     ensures { λ r. ⌜ Decides r (Older k (now (column .entry))) ⌝ }
 {
     let mut old = true;
@@ -66,12 +69,12 @@ pub fn older(column: &[u32], k: usize) -> bool
 // Whether the slots from n on are 0 in each column of rows.
 // Ruled out: yes where a word of one column alone is left; no for the row at slot n - 1.
 pub fn rows_unused(t: &[u32], n: usize) -> bool
-    requires { ⌜ length (now t) ≡ 11265 ⌝ }
-    ensures { λ r. ⌜ Decides r ((c i : ℕ) → c < 10 → n ≤ i → i < 1024 → getD (now (t .entry)) (c * 1024 + i) 0 ≡ 0) ⌝ }
+    requires { ⌜ IsTables (now t) ⌝ }
+    ensures { λ r. ⌜ Decides r ((c i : ℕ) → c < ROW-COLUMNS → n ≤ i → i < ROWS → getD (now (t .entry)) (c * ROWS + i) 0 ≡ 0) ⌝ }
 {
     let mut unused = true;
     let mut c = 0;
-    while c < 10 {
+    while c < ROW_COLUMNS {
         let start = c * ROWS;
         let end = start + ROWS;
         unused = unused & zero_from(&t[start..end], n);
@@ -83,12 +86,12 @@ pub fn rows_unused(t: &[u32], n: usize) -> bool
 // Whether the slots from m on are 0 in each column of requests.
 // Ruled out: yes where an item is left in a slot; no for the next number, which follows the columns.
 pub fn requests_unused(t: &[u32], m: usize) -> bool
-    requires { ⌜ length (now t) ≡ 11265 ⌝ }
-    ensures { λ r. ⌜ Decides r ((c i : ℕ) → c < 8 → m ≤ i → i < 128 → getD (now (t .entry)) (10240 + (c * 128 + i)) 0 ≡ 0) ⌝ }
+    requires { ⌜ IsTables (now t) ⌝ }
+    ensures { λ r. ⌜ Decides r ((c i : ℕ) → c < REQUEST-COLUMNS → m ≤ i → i < REQUESTS → getD (now (t .entry)) (Q-NUMBER + (c * REQUESTS + i)) 0 ≡ 0) ⌝ }
 {
     let mut unused = true;
     let mut c = 0;
-    while c < 8 {
+    while c < REQUEST_COLUMNS {
         let start = Q_NUMBER + c * REQUESTS;
         let end = start + REQUESTS;
         unused = unused & zero_from(&t[start..end], m);
@@ -100,7 +103,7 @@ pub fn requests_unused(t: &[u32], m: usize) -> bool
 // Whether n rows stand in the first slots, as a state lays them out.
 // Ruled out: yes where a source is not older than its row; yes where two numbers fall.
 pub fn rows_laid(t: &[u32], n: usize) -> bool
-    requires { ⌜ (length (now t) ≡ 11265) × (n ≤ 1024) ⌝ }
+    requires { ⌜ IsTables (now t) × (n ≤ ROWS) ⌝ }
     ensures { λ r. ⌜ Decides r (RowsLaid (now (t .entry)) n) ⌝ }
 {
     let numbers = rising(&t[NUMBER..KIND], n);
@@ -113,7 +116,7 @@ pub fn rows_laid(t: &[u32], n: usize) -> bool
 // Whether m requests stand in the first slots, as a state lays them out.
 // Ruled out: yes where two requests have one number; yes where a slot after them is in use.
 pub fn requests_laid(t: &[u32], m: usize) -> bool
-    requires { ⌜ (length (now t) ≡ 11265) × (m ≤ 128) ⌝ }
+    requires { ⌜ IsTables (now t) × (m ≤ REQUESTS) ⌝ }
     ensures { λ r. ⌜ Decides r (RequestsLaid (now (t .entry)) m) ⌝ }
 {
     let numbers = rising(&t[Q_NUMBER..Q_PORT], m);

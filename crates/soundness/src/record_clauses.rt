@@ -21,6 +21,7 @@ ghost use Rattle.rows.specs.Sound.{belowNext, nextInRange, recordInRange, recor
 ghost use Rattle.rows.specs.Layout.{recordsIn};
 ghost use Rattle.rows.specs.contracts.Represents.{Represents};
 ghost use Rattle.soundness.specs.contracts.Laid.{before};
+ghost use Rattle.rows.specs.contracts.Sizes.{ROWS, REQUESTS, PROCESSES, IsTables, IsRecords};
 
 // one more than the greatest number
 const LAST_NEXT: u32 = 1000001;
@@ -39,7 +40,7 @@ pub fn last_of(column: &[u32], k: usize) -> u32
 
 // Ruled out: a next number of 1,000,002; one that a row or a request has.
 pub fn next_sound(t: &[u32], n: usize, m: usize) -> bool
-    requires { ⌜ (length (now t) ≡ 11265) × (n ≤ 1024) × (m ≤ 128) ⌝ }
+    requires { ⌜ IsTables (now t) × (n ≤ ROWS) × (m ≤ REQUESTS) ⌝ }
     ensures { λ r. ⌜ ((st : State) → Represents (now (t .entry)) st → n ≡ length (st .rows) → m ≡ length (st .requests) → r ≡ (nextInRange st && belowNext st)) ⌝ }
 {
     let next = t[NEXT];
@@ -52,7 +53,7 @@ pub fn next_sound(t: &[u32], n: usize, m: usize) -> bool
 // ---- the process records
 // The record of process i + 1. Ruled out: the record after it; two fields in each other's place.
 pub fn record_at(p: &[u32], i: usize) -> Process
-    requires { ⌜ (length (now p) ≡ 192) × (i < 64) ⌝ }
+    requires { ⌜ IsRecords (now p) × (i < PROCESSES) ⌝ }
     ensures { λ r. ⌜ r ≡ getD (recordsIn (now (p .entry))) i noProcess ⌝ }
 {
     let at = 3 * i;
@@ -75,7 +76,7 @@ pub fn record_in_range(x: Process) -> bool
 
 // Ruled out: yes where the last record is out of range; no for a record that is not used.
 pub fn records_sound(p: &[u32]) -> bool
-    requires { ⌜ length (now p) ≡ 192 ⌝ }
+    requires { ⌜ IsRecords (now p) ⌝ }
     ensures { λ r. ⌜ ((st : State) → st .processes ≡ recordsIn (now (p .entry)) → r ≡ recordsInRange st) ⌝ }
 {
     let mut in_range = true;
@@ -90,7 +91,7 @@ pub fn records_sound(p: &[u32]) -> bool
 
 // Of the record of process q. Ruled out: a row of another process's c-list; one that is no subdirectory.
 pub fn process_placed(t: &[u32], n: usize, q: u32, x: Process) -> bool
-    requires { ⌜ (length (now t) ≡ 11265) × (n ≤ 1024) × (q ≤ 64) ⌝ }
+    requires { ⌜ IsTables (now t) × (n ≤ ROWS) × (q ≤ PROCESSES) ⌝ }
     ensures { λ r. ⌜ ((st : State) → Represents (now (t .entry)) st → n ≡ length (st .rows) → r ≡ processPlaced (st .rows) q x) ⌝ }
 {
     if x.through == 0 {
@@ -106,7 +107,7 @@ pub fn process_placed(t: &[u32], n: usize, q: u32, x: Process) -> bool
 
 // Ruled out: yes where process 64 is not in its place; the records counted from 0.
 pub fn processes_placed(t: &[u32], p: &[u32], n: usize) -> bool
-    requires { ⌜ (length (now t) ≡ 11265) × (length (now p) ≡ 192) × (n ≤ 1024) ⌝ }
+    requires { ⌜ IsTables (now t) × IsRecords (now p) × (n ≤ ROWS) ⌝ }
     ensures { λ r. ⌜ ((st : State) → Represents (now (t .entry)) st → st .processes ≡ recordsIn (now (p .entry)) → n ≡ length (st .rows) → r ≡ processesPlaced st) ⌝ }
 {
     let mut placed = true;

@@ -6,8 +6,8 @@ use crate::record_clauses::processes_placed;
 use crate::record_clauses::records_sound;
 use rows::find::requests_in;
 use rows::find::rows_in;
-use rows::layout::LENGTH;
 use rows::layout::RECORDS;
+use rows::layout::TABLES;
 use soundness_loans::holder_clauses::holders_sound;
 use soundness_loans::request_clauses::requests_sound;
 use soundness_rows::rows_sound::rows_sound;
@@ -19,12 +19,13 @@ ghost use Rattle.rows.specs.Tables.{State};
 ghost use Rattle.rows.specs.Sound.{belowNext, nextInRange, recordsInRange, sound};
 ghost use Rattle.rows.specs.Layout.{recordsIn, soundWords};
 ghost use Rattle.rows.specs.contracts.Represents.{Represents};
+ghost use Rattle.rows.specs.contracts.Sizes.{ROWS, REQUESTS, SOURCE, VIA, IsTables, IsRecords};
 
 // The clauses of rows, requests and processes, where the next number and the records are in range.
 fn tables_sound(t: &[u32], p: &[u32], n: usize, m: usize) -> bool
-    requires sizes { ⌜ (length (now t) ≡ 11265) × (length (now p) ≡ 192) × (n ≤ 1024) × (m ≤ 128) ⌝ }
-    requires sources { ⌜ ((i : ℕ) → i < n → getD (now t) (6144 + i) 0 ≤ i) ⌝ }
-    requires vias { ⌜ ((i : ℕ) → i < n → getD (now t) (7168 + i) 0 ≤ i) ⌝ }
+    requires sizes { ⌜ IsTables (now t) × IsRecords (now p) × (n ≤ ROWS) × (m ≤ REQUESTS) ⌝ }
+    requires sources { ⌜ ((i : ℕ) → i < n → getD (now t) (SOURCE + i) 0 ≤ i) ⌝ }
+    requires vias { ⌜ ((i : ℕ) → i < n → getD (now t) (VIA + i) 0 ≤ i) ⌝ }
     ensures { λ r. ⌜ ((st : State) → Represents (now (t .entry)) st → st .processes ≡ recordsIn (now (p .entry)) → n ≡ length (st .rows) → m ≡ length (st .requests) → nextInRange st && belowNext st ≡ true → recordsInRange st ≡ true → r ≡ sound st) ⌝ }
 {
     let rows = rows_sound(t, p, n, m);
@@ -36,9 +37,9 @@ fn tables_sound(t: &[u32], p: &[u32], n: usize, m: usize) -> bool
 
 // All clauses, where the words are laid.
 fn clauses_sound(t: &[u32], p: &[u32], n: usize, m: usize) -> bool
-    requires sizes { ⌜ (length (now t) ≡ 11265) × (length (now p) ≡ 192) × (n ≤ 1024) × (m ≤ 128) ⌝ }
-    requires sources { ⌜ ((i : ℕ) → i < n → getD (now t) (6144 + i) 0 ≤ i) ⌝ }
-    requires vias { ⌜ ((i : ℕ) → i < n → getD (now t) (7168 + i) 0 ≤ i) ⌝ }
+    requires sizes { ⌜ IsTables (now t) × IsRecords (now p) × (n ≤ ROWS) × (m ≤ REQUESTS) ⌝ }
+    requires sources { ⌜ ((i : ℕ) → i < n → getD (now t) (SOURCE + i) 0 ≤ i) ⌝ }
+    requires vias { ⌜ ((i : ℕ) → i < n → getD (now t) (VIA + i) 0 ≤ i) ⌝ }
     ensures { λ r. ⌜ ((st : State) → Represents (now (t .entry)) st → st .processes ≡ recordsIn (now (p .entry)) → n ≡ length (st .rows) → m ≡ length (st .requests) → r ≡ sound st) ⌝ }
 {
     let next = next_sound(t, n, m);
@@ -51,7 +52,7 @@ fn clauses_sound(t: &[u32], p: &[u32], n: usize, m: usize) -> bool
 pub fn sound(tables: &[u32], processes: &[u32]) -> bool
     ensures { λ r. ⌜ r ≡ soundWords (now (tables .entry)) (now (processes .entry)) ⌝ }
 {
-    if tables.len() != LENGTH {
+    if tables.len() != TABLES {
         return false;
     }
     if processes.len() != RECORDS {

@@ -5,6 +5,7 @@ use rows::layout::PLACE;
 use rows::layout::Q_FETCHED;
 use rows::layout::Q_ITEMS;
 use rows::layout::REQUESTS;
+use rows::layout::ROWS;
 ghost use mathlib.Core.Path.{_≡_};
 ghost use mathlib.Core.Bool.{true, not, _&&_, _||_};
 ghost use mathlib.Core.List.{map};
@@ -18,10 +19,11 @@ ghost use Rattle.rows.specs.Sound.{itemsLent, isFetched, olderFetched, same, sy
 ghost use Rattle.rows.specs.Layout.{requestAt, rowSlot};
 ghost use Rattle.rows.specs.contracts.Represents.{Represents};
 ghost use Rattle.soundness_loans.specs.contracts.Clauses.{listingCode, codeAt, listAt, listAll, heldTo};
+ghost use Rattle.rows.specs.contracts.Sizes.{ROWS, REQUESTS, IsTables};
 
 // The slots of the items of the request in slot j.
 fn item_slots(t: &[u32], n: usize, j: usize) -> [usize; 4]
-    requires { ⌜ (length (now t) ≡ 11265) × (n ≤ 1024) × (j < 128) ⌝ }
+    requires { ⌜ IsTables (now t) × (n ≤ ROWS) × (j < REQUESTS) ⌝ }
     ensures within { λ r. ⌜ ((k : ℕ) → getD r k 0 ≤ n) ⌝ }
     ensures found { λ r. ⌜ ((st : State) → Represents (now (t .entry)) st → n ≡ length (st .rows) → r ≡ map (rowSlot (st .rows)) (requestAt (now (t .entry)) j .items)) ⌝ }
 {
@@ -33,8 +35,8 @@ fn item_slots(t: &[u32], n: usize, j: usize) -> [usize; 4]
 }
 
 // Whether a slot is listed.
-fn is_listed(listing: &[u8; 1024], s: usize) -> bool
-    requires { ⌜ s ≤ 1024 ⌝ }
+fn is_listed(listing: &[u8; ROWS], s: usize) -> bool
+    requires { ⌜ s ≤ ROWS ⌝ }
     ensures { λ r. ⌜ r ≡ some (codeAt (now (listing .entry)) s) ⌝ }
 {
     if s == 0 {
@@ -44,8 +46,8 @@ fn is_listed(listing: &[u8; 1024], s: usize) -> bool
     0 < code
 }
 
-fn any_listed(listing: &[u8; 1024], slots: [usize; 4]) -> bool
-    requires { ⌜ ((k : ℕ) → getD slots k 0 ≤ 1024) ⌝ }
+fn any_listed(listing: &[u8; ROWS], slots: [usize; 4]) -> bool
+    requires { ⌜ ((k : ℕ) → getD slots k 0 ≤ ROWS) ⌝ }
     ensures { λ r. ⌜ r ≡ any (λ s. some (codeAt (now (listing .entry)) s)) slots ⌝ }
 {
     let a = is_listed(listing, slots[0]);
@@ -56,8 +58,8 @@ fn any_listed(listing: &[u8; 1024], slots: [usize; 4]) -> bool
 }
 
 // Lists a slot, unless a newer request did.
-fn list_at(listing: &mut [u8; 1024], s: usize, code: u8)
-    requires { ⌜ s ≤ 1024 ⌝ }
+fn list_at(listing: &mut [u8; ROWS], s: usize, code: u8)
+    requires { ⌜ s ≤ ROWS ⌝ }
     ensures { λ _. ⌜ now (listing .exit) ≡ listAt code s (now (listing .entry)) ⌝ }
 {
     if s == 0 {
@@ -69,8 +71,8 @@ fn list_at(listing: &mut [u8; 1024], s: usize, code: u8)
     }
 }
 
-fn mark_listing(listing: &mut [u8; 1024], slots: [usize; 4], code: u8)
-    requires { ⌜ ((k : ℕ) → getD slots k 0 ≤ 1024) ⌝ }
+fn mark_listing(listing: &mut [u8; ROWS], slots: [usize; 4], code: u8)
+    requires { ⌜ ((k : ℕ) → getD slots k 0 ≤ ROWS) ⌝ }
     ensures { λ _. ⌜ now (listing .exit) ≡ listAll code slots (now (listing .entry)) ⌝ }
 {
     list_at(listing, slots[0], code);
@@ -89,8 +91,8 @@ fn code_of(fetched: bool) -> u8
 }
 
 // Lists the items of the request in slot j. It is fetched, or no newer request lists one of them.
-fn listed_once(t: &[u32], n: usize, listing: &mut [u8; 1024], j: usize) -> bool
-    requires { ⌜ (length (now t) ≡ 11265) × (n ≤ 1024) × (j < 128) ⌝ }
+fn listed_once(t: &[u32], n: usize, listing: &mut [u8; ROWS], j: usize) -> bool
+    requires { ⌜ IsTables (now t) × (n ≤ ROWS) × (j < REQUESTS) ⌝ }
     ensures once { λ r. ⌜ ((st : State) → Represents (now (t .entry)) st → n ≡ length (st .rows) → r ≡ (isFetched (requestAt (now (t .entry)) j) || not (any (λ s. some (codeAt (now (listing .entry)) s)) (map (rowSlot (st .rows)) (requestAt (now (t .entry)) j .items))))) ⌝ }
     ensures marked { λ _. ⌜ ((st : State) → Represents (now (t .entry)) st → n ≡ length (st .rows) → now (listing .exit) ≡ listAll (listingCode (isFetched (requestAt (now (t .entry)) j))) (map (rowSlot (st .rows)) (requestAt (now (t .entry)) j .items)) (now (listing .entry))) ⌝ }
 {
@@ -112,8 +114,8 @@ fn system_holds(place: u32, code: u8) -> bool
     (there & waits) | (!there & !waits)
 }
 
-fn rows_held(t: &[u32], n: usize, listing: &[u8; 1024]) -> bool
-    requires { ⌜ (length (now t) ≡ 11265) × (n ≤ 1024) ⌝ }
+fn rows_held(t: &[u32], n: usize, listing: &[u8; ROWS]) -> bool
+    requires { ⌜ IsTables (now t) × (n ≤ ROWS) ⌝ }
     ensures { λ r. ⌜ r ≡ heldTo (now (t .entry)) (now (listing .entry)) n ⌝ }
 {
     let mut right = true;
@@ -128,10 +130,10 @@ fn rows_held(t: &[u32], n: usize, listing: &[u8; 1024]) -> bool
 // The clauses of who holds what is lent, for tables whose items are rows.
 // Ruled out: an older request that is not fetched lists an item too; a row waits with the system that no request lists.
 pub fn holders_sound(t: &[u32], n: usize, m: usize) -> bool
-    requires { ⌜ (length (now t) ≡ 11265) × (n ≤ 1024) × (m ≤ 128) ⌝ }
+    requires { ⌜ IsTables (now t) × (n ≤ ROWS) × (m ≤ REQUESTS) ⌝ }
     ensures { λ r. ⌜ ((st : State) → Represents (now (t .entry)) st → n ≡ length (st .rows) → m ≡ length (st .requests) → itemsLent st ≡ true → r ≡ (olderFetched st && systemHolds st)) ⌝ }
 {
-    let mut listing = [0u8; 1024];
+    let mut listing = [0u8; ROWS];
     let mut older = true;
     let mut j = m;
     while 0 < j {

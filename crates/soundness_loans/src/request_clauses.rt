@@ -12,6 +12,8 @@ use rows::layout::Q_NUMBER;
 use rows::layout::Q_PORT;
 use rows::layout::REQUEST;
 use rows::layout::REQUESTS;
+use rows::layout::ROWS;
+use rows::layout::RowMarks;
 use rows::records::listed;
 ghost use mathlib.Core.Path.{_≡_};
 ghost use mathlib.Core.Bool.{not, _&&_, _||_};
@@ -26,11 +28,12 @@ ghost use Rattle.rows.specs.Sound.{numbersApart, fetchedInRange, portsStand, re
 ghost use Rattle.rows.specs.Layout.{requestAt, recordsIn, rowSlot};
 ghost use Rattle.rows.specs.contracts.Represents.{Represents};
 ghost use Rattle.soundness_loans.specs.contracts.Clauses.{wordAt, requestRight, standingPort, portsRight, isFree, withMark};
+ghost use Rattle.rows.specs.contracts.Sizes.{ROWS, REQUESTS, REQUEST, IsTables, IsRecords};
 
 // The slot of the row numbered x, of n rows.
 // Ruled out: the slot of another row; a slot past the rows in use.
 pub fn slot_among(t: &[u32], n: usize, x: u32) -> usize
-    requires { ⌜ (length (now t) ≡ 11265) × (n ≤ 1024) ⌝ }
+    requires { ⌜ IsTables (now t) × (n ≤ ROWS) ⌝ }
     ensures within { λ r. ⌜ r ≤ n ⌝ }
     ensures found { λ r. ⌜ ((st : State) → Represents (now (t .entry)) st → n ≡ length (st .rows) → r ≡ rowSlot (st .rows) x) ⌝ }
 {
@@ -45,7 +48,7 @@ pub fn slot_among(t: &[u32], n: usize, x: u32) -> usize
 
 // The word of a row's slot in the column that starts at c.
 fn word_at(t: &[u32], c: usize, s: usize) -> u32
-    requires { ⌜ (length (now t) ≡ 11265) × (c ≤ 9216) × (s ≤ 1024) ⌝ }
+    requires { ⌜ IsTables (now t) × (c ≤ REQUEST) × (s ≤ ROWS) ⌝ }
     ensures { λ r. ⌜ r ≡ wordAt (now (t .entry)) c s ⌝ }
 {
     if s == 0 {
@@ -56,7 +59,7 @@ fn word_at(t: &[u32], c: usize, s: usize) -> u32
 
 // ---- the clauses for the request in slot j
 fn number_apart(t: &[u32], n: usize, j: usize) -> bool
-    requires { ⌜ (length (now t) ≡ 11265) × (n ≤ 1024) × (j < 128) ⌝ }
+    requires { ⌜ IsTables (now t) × (n ≤ ROWS) × (j < REQUESTS) ⌝ }
     ensures { λ r. ⌜ ((st : State) → Represents (now (t .entry)) st → n ≡ length (st .rows) → r ≡ not (member (requestAt (now (t .entry)) j .number) (numbers (st .rows)))) ⌝ }
 {
     let q = t[Q_NUMBER + j];
@@ -65,7 +68,7 @@ fn number_apart(t: &[u32], n: usize, j: usize) -> bool
 }
 
 fn fetched_in_range(t: &[u32], j: usize) -> bool
-    requires { ⌜ (length (now t) ≡ 11265) × (j < 128) ⌝ }
+    requires { ⌜ IsTables (now t) × (j < REQUESTS) ⌝ }
     ensures { λ r. ⌜ r ≡ leb (requestAt (now (t .entry)) j .fetched) 1 ⌝ }
 {
     let f = t[Q_FETCHED + j];
@@ -73,7 +76,7 @@ fn fetched_in_range(t: &[u32], j: usize) -> bool
 }
 
 fn requester_listed(t: &[u32], p: &[u32], j: usize) -> bool
-    requires { ⌜ (length (now t) ≡ 11265) × (length (now p) ≡ 192) × (j < 128) ⌝ }
+    requires { ⌜ IsTables (now t) × IsRecords (now p) × (j < REQUESTS) ⌝ }
     ensures { λ r. ⌜ r ≡ isListed (recordsIn (now (p .entry))) (requestAt (now (t .entry)) j .asker) ⌝ }
 {
     let asker = t[Q_ASKER + j];
@@ -88,7 +91,7 @@ fn item_apart(e: u32, a: u32, b: u32, c: u32) -> bool
 }
 
 fn items_apart(t: &[u32], j: usize) -> bool
-    requires { ⌜ (length (now t) ≡ 11265) × (j < 128) ⌝ }
+    requires { ⌜ IsTables (now t) × (j < REQUESTS) ⌝ }
     ensures { λ r. ⌜ r ≡ distinct (nonzero (requestAt (now (t .entry)) j .items)) ⌝ }
 {
     let a = t[Q_ITEMS + j];
@@ -103,7 +106,7 @@ fn items_apart(t: &[u32], j: usize) -> bool
 
 // An item that is there may be listed by a request numbered q.
 fn may_be_listed(t: &[u32], n: usize, q: u32, e: u32) -> bool
-    requires { ⌜ (length (now t) ≡ 11265) × (n ≤ 1024) ⌝ }
+    requires { ⌜ IsTables (now t) × (n ≤ ROWS) ⌝ }
     ensures { λ r. ⌜ ((st : State) (v : Request) → Represents (now (t .entry)) st → n ≡ length (st .rows) → v .number ≡ q → r ≡ (not (some e) || mayBeListed v (rowOf (st .rows) e))) ⌝ }
 {
     let s = slot_among(t, n, e);
@@ -114,7 +117,7 @@ fn may_be_listed(t: &[u32], n: usize, q: u32, e: u32) -> bool
 }
 
 fn items_lent(t: &[u32], n: usize, j: usize) -> bool
-    requires { ⌜ (length (now t) ≡ 11265) × (n ≤ 1024) × (j < 128) ⌝ }
+    requires { ⌜ IsTables (now t) × (n ≤ ROWS) × (j < REQUESTS) ⌝ }
     ensures { λ r. ⌜ ((st : State) → Represents (now (t .entry)) st → n ≡ length (st .rows) → r ≡ all (λ e. mayBeListed (requestAt (now (t .entry)) j) (rowOf (st .rows) e)) (nonzero (requestAt (now (t .entry)) j .items))) ⌝ }
 {
     let q = t[Q_NUMBER + j];
@@ -126,7 +129,7 @@ fn items_lent(t: &[u32], n: usize, j: usize) -> bool
 }
 
 fn request_right(t: &[u32], p: &[u32], n: usize, j: usize) -> bool
-    requires { ⌜ (length (now t) ≡ 11265) × (length (now p) ≡ 192) × (n ≤ 1024) × (j < 128) ⌝ }
+    requires { ⌜ IsTables (now t) × IsRecords (now p) × (n ≤ ROWS) × (j < REQUESTS) ⌝ }
     ensures { λ r. ⌜ ((st : State) → Represents (now (t .entry)) st → st .processes ≡ recordsIn (now (p .entry)) → n ≡ length (st .rows) → r ≡ requestRight st (requestAt (now (t .entry)) j)) ⌝ }
 {
     let apart = number_apart(t, n, j);
@@ -146,7 +149,7 @@ fn newer_than_port(port: u32, q: u32) -> bool
 
 // The slot of the client end of the request's port, if the port stands.
 fn standing_port(t: &[u32], n: usize, j: usize) -> usize
-    requires { ⌜ (length (now t) ≡ 11265) × (n ≤ 1024) × (j < 128) ⌝ }
+    requires { ⌜ IsTables (now t) × (n ≤ ROWS) × (j < REQUESTS) ⌝ }
     ensures within { λ r. ⌜ r ≤ n ⌝ }
     ensures found { λ r. ⌜ ((st : State) → Represents (now (t .entry)) st → n ≡ length (st .rows) → r ≡ standingPort (st .rows) (requestAt (now (t .entry)) j)) ⌝ }
 {
@@ -162,8 +165,8 @@ fn standing_port(t: &[u32], n: usize, j: usize) -> usize
 }
 
 // Marks a slot, and says whether it was free.
-fn claim(marks: &mut [bool; 1024], s: usize) -> bool
-    requires { ⌜ s ≤ 1024 ⌝ }
+fn claim(marks: &mut RowMarks, s: usize) -> bool
+    requires { ⌜ s ≤ ROWS ⌝ }
     ensures free { λ r. ⌜ r ≡ isFree (now (marks .entry)) s ⌝ }
     ensures marked { λ _. ⌜ now (marks .exit) ≡ withMark (now (marks .entry)) s ⌝ }
 {
@@ -178,7 +181,7 @@ fn claim(marks: &mut [bool; 1024], s: usize) -> bool
 
 // ---- the loops
 fn requests_right(t: &[u32], p: &[u32], n: usize, m: usize) -> bool
-    requires { ⌜ (length (now t) ≡ 11265) × (length (now p) ≡ 192) × (n ≤ 1024) × (m ≤ 128) ⌝ }
+    requires { ⌜ IsTables (now t) × IsRecords (now p) × (n ≤ ROWS) × (m ≤ REQUESTS) ⌝ }
     ensures { λ r. ⌜ ((st : State) → Represents (now (t .entry)) st → st .processes ≡ recordsIn (now (p .entry)) → n ≡ length (st .rows) → m ≡ length (st .requests) → r ≡ all (requestRight st) (st .requests)) ⌝ }
 {
     let mut right = true;
@@ -191,10 +194,10 @@ fn requests_right(t: &[u32], p: &[u32], n: usize, m: usize) -> bool
 }
 
 fn ports_right(t: &[u32], n: usize, m: usize) -> bool
-    requires { ⌜ (length (now t) ≡ 11265) × (n ≤ 1024) × (m ≤ 128) ⌝ }
+    requires { ⌜ IsTables (now t) × (n ≤ ROWS) × (m ≤ REQUESTS) ⌝ }
     ensures { λ r. ⌜ ((st : State) → Represents (now (t .entry)) st → n ≡ length (st .rows) → m ≡ length (st .requests) → r ≡ portsRight (st .rows) (st .requests)) ⌝ }
 {
-    let mut marks = [false; 1024];
+    let mut marks = [false; ROWS];
     let mut right = true;
     let mut j = 0;
     while j < m {
@@ -208,7 +211,7 @@ fn ports_right(t: &[u32], n: usize, m: usize) -> bool
 // The clauses of requests.
 // Ruled out: a request on a port that another is open on passes; a copy that bears another request's number may be listed.
 pub fn requests_sound(t: &[u32], p: &[u32], n: usize, m: usize) -> bool
-    requires { ⌜ (length (now t) ≡ 11265) × (length (now p) ≡ 192) × (n ≤ 1024) × (m ≤ 128) ⌝ }
+    requires { ⌜ IsTables (now t) × IsRecords (now p) × (n ≤ ROWS) × (m ≤ REQUESTS) ⌝ }
     ensures { λ r. ⌜ ((st : State) → Represents (now (t .entry)) st → st .processes ≡ recordsIn (now (p .entry)) → n ≡ length (st .rows) → m ≡ length (st .requests) → r ≡ (numbersApart st && (fetchedInRange st && (portsStand st && (requestersListed st && (itemsApart st && (itemsLent st && onePerPort st))))))) ⌝ }
 {
     let right = requests_right(t, p, n, m);

@@ -27,6 +27,7 @@ ghost use Rattle.rows.specs.Tables.{requestOf, lists};
 ghost use Rattle.rows.specs.Sound.{objectInRange, rightInRange, placeInRange, isOpening, isRegistered, isHeld, isPortEnd, isLentCopy, sourceRight, depthRight, copyMatches, isPairedWith, copyListed};
 ghost use Rattle.rows.specs.Layout.{recordsIn};
 ghost use Rattle.soundness_rows.specs.contracts.Seen.{Seen};
+ghost use Rattle.rows.specs.contracts.Sizes.{IsRecords};
 
 // ---- codes
 // An operation or a subdirectory. Ruled out: an end; any other code.
@@ -68,7 +69,7 @@ pub fn follows(a: u32, b: u32) -> bool
 // ---- fields in range
 // Ruled out: an operation of a manager that is not listed; a server end right after no client end.
 pub fn object_in_range(x: Row, p: &[u32]) -> bool
-    requires { ⌜ length (now p) ≡ 192 ⌝ }
+    requires { ⌜ IsRecords (now p) ⌝ }
     ensures { λ r. ⌜ r ≡ objectInRange (recordsIn (now (p .entry))) x ⌝ }
 {
     if x.kind == AN_OPERATION {
@@ -98,7 +99,7 @@ pub fn right_in_range(x: Row) -> bool
 
 // Ruled out: the c-list of a process that is not listed; a place between nodes and c-lists.
 pub fn place_in_range(x: Row, p: &[u32]) -> bool
-    requires { ⌜ length (now p) ≡ 192 ⌝ }
+    requires { ⌜ IsRecords (now p) ⌝ }
     ensures { λ r. ⌜ r ≡ placeInRange (recordsIn (now (p .entry))) x ⌝ }
 {
     let place = x.place;

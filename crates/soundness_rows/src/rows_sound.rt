@@ -16,6 +16,7 @@ use rows::find::search;
 use rows::layout::Q_ITEMS;
 use rows::layout::Q_NUMBER;
 use rows::layout::Q_PORT;
+use rows::layout::REQUESTS;
 use rows::read::row_at;
 ghost use mathlib.Core.Bool.{_&&_};
 ghost use mathlib.Core.List.{List};
@@ -30,6 +31,7 @@ ghost use Rattle.rows.specs.Layout.{requestAt, recordsIn, rawRow};
 ghost use Rattle.rows.specs.contracts.Represents.{Represents};
 ghost use Rattle.soundness_rows.specs.contracts.AtSlot.{AtSlot};
 ghost use Rattle.soundness_rows.specs.contracts.Seen.{Seen, slotRow, rowSound};
+ghost use Rattle.rows.specs.contracts.Sizes.{ROWS, REQUESTS, SOURCE, VIA, IsTables, IsRecords};
 
 // What the request that a row bears says: its port, and whether it lists the row.
 pub struct Loan {
@@ -40,7 +42,7 @@ pub struct Loan {
 // ---- reading
 // The row at a slot plus 1; all 0 for none. Ruled out: the row at the slot after; a row for none.
 fn source_row(t: &[u32], s: u32) -> Row
-    requires { ⌜ (length (now t) ≡ 11265) × (s ≤ 1024) ⌝ }
+    requires { ⌜ IsTables (now t) × (s ≤ ROWS) ⌝ }
     ensures { λ r. ⌜ r ≡ slotRow (now (t .entry)) s ⌝ }
 {
     if s == 0 {
@@ -63,11 +65,11 @@ fn source_row(t: &[u32], s: u32) -> Row
 
 // The request at slot j lists e. Ruled out: three of the four items decide; 0 is listed.
 fn lists_at(t: &[u32], j: usize, e: u32) -> bool
-    requires { ⌜ (length (now t) ≡ 11265) × (j < 128) ⌝ }
+    requires { ⌜ IsTables (now t) × (j < REQUESTS) ⌝ }
     ensures { λ r. ⌜ r ≡ lists e (requestAt (now (t .entry)) j) ⌝ }
 {
     let a = t[Q_ITEMS + j];
-    let b = t[Q_ITEMS + 128 + j];
+    let b = t[Q_ITEMS + REQUESTS + j];
     let c = t[Q_ITEMS + 256 + j];
     let d = t[Q_ITEMS + 384 + j];
     (0 < e) & ((e == a) | ((e == b) | ((e == c) | (e == d))))
@@ -75,7 +77,7 @@ fn lists_at(t: &[u32], j: usize, e: u32) -> bool
 
 // What request q says of the row numbered e. Ruled out: the port of another request; a row that only another request lists.
 fn loan_of(t: &[u32], m: usize, q: u32, e: u32) -> Loan
-    requires { ⌜ (length (now t) ≡ 11265) × (m ≤ 128) ⌝ }
+    requires { ⌜ IsTables (now t) × (m ≤ REQUESTS) ⌝ }
     ensures { λ r. ⌜ ((st : State) → Represents (now (t .entry)) st → m ≡ length (st .requests) → (r .port ≡ requestOf (st .requests) q .port) × (r .listed ≡ lists e (requestOf (st .requests) q))) ⌝ }
 {
     let none = Loan {
@@ -98,7 +100,7 @@ fn loan_of(t: &[u32], m: usize, q: u32, e: u32) -> Loan
 // ---- ends in pairs
 // The client end x at slot i has its server end in the next slot. Ruled out: a server end further on; the end of another port.
 fn pair_above(t: &[u32], x: Row, i: usize, n: usize) -> bool
-    requires { ⌜ (length (now t) ≡ 11265) × (i < 1024) × (n ≤ 1024) ⌝ }
+    requires { ⌜ IsTables (now t) × (i < ROWS) × (n ≤ ROWS) ⌝ }
     ensures { λ r. ⌜ ((st : State) → Represents (now (t .entry)) st → n ≡ length (st .rows) → x ≡ rawRow (now (t .entry)) i → AtSlot (λ y old. isPairedWith y (rowOf (st .rows) (suc (y .number)))) (st .rows) i r) ⌝ }
 {
     let j = i + 1;
@@ -113,7 +115,7 @@ fn pair_above(t: &[u32], x: Row, i: usize, n: usize) -> bool
 
 // The server end x at slot i has its client end in the slot before. Ruled out: a client end further back; the end of another port.
 fn pair_below(t: &[u32], x: Row, i: usize) -> bool
-    requires { ⌜ (length (now t) ≡ 11265) × (i < 1024) ⌝ }
+    requires { ⌜ IsTables (now t) × (i < ROWS) ⌝ }
     ensures { λ r. ⌜ ((st : State) → Represents (now (t .entry)) st → x ≡ rawRow (now (t .entry)) i → AtSlot (λ y old. isPairedWith y (rowOf (st .rows) (pred (y .number)))) (st .rows) i r) ⌝ }
 {
     if i == 0 {
@@ -127,7 +129,7 @@ fn pair_below(t: &[u32], x: Row, i: usize) -> bool
 
 // Ruled out: a client end without its server end; a server end without its client end.
 fn end_paired(t: &[u32], x: Row, i: usize, n: usize) -> bool
-    requires { ⌜ (length (now t) ≡ 11265) × (i < 1024) × (n ≤ 1024) ⌝ }
+    requires { ⌜ IsTables (now t) × (i < ROWS) × (n ≤ ROWS) ⌝ }
     ensures { λ r. ⌜ ((st : State) → Represents (now (t .entry)) st → n ≡ length (st .rows) → x ≡ rawRow (now (t .entry)) i → AtSlot (λ y old. endPaired (st .rows) y) (st .rows) i r) ⌝ }
 {
     if x.kind == A_CLIENT_END {
@@ -142,7 +144,7 @@ fn end_paired(t: &[u32], x: Row, i: usize, n: usize) -> bool
 // ---- all of it
 // Ruled out: one of the three tests alone decides; rights or a place out of range.
 fn fields_in_range(x: Row, p: &[u32]) -> bool
-    requires { ⌜ length (now p) ≡ 192 ⌝ }
+    requires { ⌜ IsRecords (now p) ⌝ }
     ensures { λ r. ⌜ r ≡ objectInRange (recordsIn (now (p .entry))) x && (rightInRange x && placeInRange (recordsIn (now (p .entry))) x) ⌝ }
 {
     let object = object_in_range(x, p);
@@ -163,7 +165,7 @@ fn by_sources(x: Row, s: Row, v: Row, port: u32) -> bool
 
 // Ruled out: the tests of another row's sources; a copy that its request does not list.
 fn sources_sound(t: &[u32], x: Row, m: usize) -> bool
-    requires { ⌜ (length (now t) ≡ 11265) × (m ≤ 128) × (x .source ≤ 1024) × (x .via ≤ 1024) ⌝ }
+    requires { ⌜ IsTables (now t) × (m ≤ REQUESTS) × (x .source ≤ ROWS) × (x .via ≤ ROWS) ⌝ }
     ensures { λ r. ⌜ ((st : State) (i : ℕ) → Represents (now (t .entry)) st → m ≡ length (st .requests) → x ≡ rawRow (now (t .entry)) i → AtSlot (λ y old. (sourceRight (st .requests) y old && (depthRight y old && copyMatches y old)) && copyListed (st .requests) y) (st .rows) i r) ⌝ }
 {
     let s = source_row(t, x.source);
@@ -176,7 +178,7 @@ fn sources_sound(t: &[u32], x: Row, m: usize) -> bool
 
 // The clauses of the row at slot i. Ruled out: a row whose fields alone are right; the row at another slot.
 fn row_sound(t: &[u32], p: &[u32], i: usize, n: usize, m: usize) -> bool
-    requires { ⌜ (length (now t) ≡ 11265) × (length (now p) ≡ 192) × (i < 1024) × (n ≤ 1024) × (m ≤ 128) × (getD (now t) (6144 + i) 0 ≤ i) × (getD (now t) (7168 + i) 0 ≤ i) ⌝ }
+    requires { ⌜ IsTables (now t) × IsRecords (now p) × (i < ROWS) × (n ≤ ROWS) × (m ≤ REQUESTS) × (getD (now t) (SOURCE + i) 0 ≤ i) × (getD (now t) (VIA + i) 0 ≤ i) ⌝ }
     ensures { λ r. ⌜ ((st : State) → Represents (now (t .entry)) st → st .processes ≡ recordsIn (now (p .entry)) → n ≡ length (st .rows) → m ≡ length (st .requests) → AtSlot (rowSound st) (st .rows) i r) ⌝ }
 {
     let x = row_at(t, i);
@@ -188,9 +190,9 @@ fn row_sound(t: &[u32], p: &[u32], i: usize, n: usize, m: usize) -> bool
 
 // The clauses of every row. Ruled out: a last row that is not tested; true where one row breaks one clause.
 pub fn rows_sound(t: &[u32], p: &[u32], n: usize, m: usize) -> bool
-    requires sizes { ⌜ (length (now t) ≡ 11265) × (length (now p) ≡ 192) × (n ≤ 1024) × (m ≤ 128) ⌝ }
-    requires sources { ⌜ ((i : ℕ) → i < n → getD (now t) (6144 + i) 0 ≤ i) ⌝ }
-    requires vias { ⌜ ((i : ℕ) → i < n → getD (now t) (7168 + i) 0 ≤ i) ⌝ }
+    requires sizes { ⌜ IsTables (now t) × IsRecords (now p) × (n ≤ ROWS) × (m ≤ REQUESTS) ⌝ }
+    requires sources { ⌜ ((i : ℕ) → i < n → getD (now t) (SOURCE + i) 0 ≤ i) ⌝ }
+    requires vias { ⌜ ((i : ℕ) → i < n → getD (now t) (VIA + i) 0 ≤ i) ⌝ }
     ensures { λ r. ⌜ ((st : State) → Represents (now (t .entry)) st → st .processes ≡ recordsIn (now (p .entry)) → n ≡ length (st .rows) → m ≡ length (st .requests) → r ≡ objectsInRange st && (rightsInRange st && (placesInRange st && (sourcesRight st && (depthsRight st && (copiesMatch st && (endsPaired st && copiesListed st))))))) ⌝ }
 {
     let mut i = 0;

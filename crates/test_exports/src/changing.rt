@@ -3,9 +3,11 @@ use changes::change;
 use changes::remove;
 use rows::Request;
 use rows::Row;
-use rows::layout::LENGTH;
 use rows::layout::REQUESTS;
 use rows::layout::ROWS;
+use rows::layout::RequestMarks;
+use rows::layout::RowMarks;
+use rows::layout::TABLES;
 ghost use mathlib.Core.Path.{_≡_};
 ghost use mathlib.Core.Bool.{Bool, true, false, not};
 ghost use mathlib.Core.List.{List, _∷_};
@@ -21,13 +23,14 @@ ghost use Rattle.rows.specs.Setters.{withRows, withRequests, withNext, withPlac
 ghost use Rattle.changes.specs.contracts.Changes.{itemCleared, asFetched};
 ghost use Rattle.changes.specs.contracts.Marks.{tested, marksOf, closedUnder};
 ghost use Rattle.test_exports.specs.contracts.Fields.{rowFrom, requestFrom};
+ghost use Rattle.rows.specs.contracts.Sizes.{ROWS, REQUESTS, ITEMS, IsTables};
 
 #[no_mangle]
 pub extern "C" fn kernel_set_place(t: &mut [u32], i: usize, place: u32)
-    ensures represents { λ _. ⌜ ((st : State) (n : ℕ) → i < 1024 → Represents (now (t .entry)) st → rowSlot (st .rows) n ≡ suc i → Represents (now (t .exit)) (changeRow n (withPlace place) st)) ⌝ }
-    ensures other { λ _. ⌜ (((length (now (t .entry)) ≡ 11265) × (i < 1024) → ⊥) → now (t .exit) ≡ now (t .entry)) ⌝ }
+    ensures represents { λ _. ⌜ ((st : State) (n : ℕ) → i < ROWS → Represents (now (t .entry)) st → rowSlot (st .rows) n ≡ suc i → Represents (now (t .exit)) (changeRow n (withPlace place) st)) ⌝ }
+    ensures other { λ _. ⌜ ((IsTables (now (t .entry)) × (i < ROWS) → ⊥) → now (t .exit) ≡ now (t .entry)) ⌝ }
 {
-    if t.len() != LENGTH {
+    if t.len() != TABLES {
         return;
     }
     if ROWS <= i {
@@ -38,10 +41,10 @@ pub extern "C" fn kernel_set_place(t: &mut [u32], i: usize, place: u32)
 
 #[no_mangle]
 pub extern "C" fn kernel_clear_item(t: &mut [u32], j: usize, k: usize)
-    ensures represents { λ _. ⌜ ((st : State) (q : ℕ) → j < 128 → k < 4 → Represents (now (t .entry)) st → requestSlot (st .requests) q ≡ suc j → Represents (now (t .exit)) (changeRequest q (itemCleared k) st)) ⌝ }
-    ensures other { λ _. ⌜ (((length (now (t .entry)) ≡ 11265) × (j < 128) × (k < 4) → ⊥) → now (t .exit) ≡ now (t .entry)) ⌝ }
+    ensures represents { λ _. ⌜ ((st : State) (q : ℕ) → j < REQUESTS → k < ITEMS → Represents (now (t .entry)) st → requestSlot (st .requests) q ≡ suc j → Represents (now (t .exit)) (changeRequest q (itemCleared k) st)) ⌝ }
+    ensures other { λ _. ⌜ ((IsTables (now (t .entry)) × (j < REQUESTS) × (k < ITEMS) → ⊥) → now (t .exit) ≡ now (t .entry)) ⌝ }
 {
-    if t.len() != LENGTH {
+    if t.len() != TABLES {
         return;
     }
     if REQUESTS <= j {
@@ -55,10 +58,10 @@ pub extern "C" fn kernel_clear_item(t: &mut [u32], j: usize, k: usize)
 
 #[no_mangle]
 pub extern "C" fn kernel_set_fetched(t: &mut [u32], j: usize)
-    ensures represents { λ _. ⌜ ((st : State) (q : ℕ) → j < 128 → Represents (now (t .entry)) st → requestSlot (st .requests) q ≡ suc j → Represents (now (t .exit)) (changeRequest q asFetched st)) ⌝ }
-    ensures other { λ _. ⌜ (((length (now (t .entry)) ≡ 11265) × (j < 128) → ⊥) → now (t .exit) ≡ now (t .entry)) ⌝ }
+    ensures represents { λ _. ⌜ ((st : State) (q : ℕ) → j < REQUESTS → Represents (now (t .entry)) st → requestSlot (st .requests) q ≡ suc j → Represents (now (t .exit)) (changeRequest q asFetched st)) ⌝ }
+    ensures other { λ _. ⌜ ((IsTables (now (t .entry)) × (j < REQUESTS) → ⊥) → now (t .exit) ≡ now (t .entry)) ⌝ }
 {
-    if t.len() != LENGTH {
+    if t.len() != TABLES {
         return;
     }
     if REQUESTS <= j {
@@ -70,9 +73,9 @@ pub extern "C" fn kernel_set_fetched(t: &mut [u32], j: usize)
 #[no_mangle]
 pub extern "C" fn kernel_set_next(t: &mut [u32], n: u32)
     ensures represents { λ _. ⌜ ((st : State) → Represents (now (t .entry)) st → Represents (now (t .exit)) (withNext n st)) ⌝ }
-    ensures other { λ _. ⌜ ((length (now (t .entry)) ≡ 11265 → ⊥) → now (t .exit) ≡ now (t .entry)) ⌝ }
+    ensures other { λ _. ⌜ ((IsTables (now (t .entry)) → ⊥) → now (t .exit) ≡ now (t .entry)) ⌝ }
 {
-    if t.len() != LENGTH {
+    if t.len() != TABLES {
         return;
     }
     change::set_next(t, n);
@@ -98,10 +101,10 @@ fn row_of(w: &[u32; 10]) -> Row
 // The row is given by the ten words of its columns.
 #[no_mangle]
 pub extern "C" fn kernel_append_row(t: &mut [u32], count: usize, w: &[u32; 10])
-    ensures represents { λ _. ⌜ ((st : State) → (count < 1024) × (rowFrom (now (w .entry)) .source ≤ count) × (rowFrom (now (w .entry)) .via ≤ count) → Represents (now (t .entry)) st → count ≡ length (st .rows) → topOf (λ r. r .number) (st .rows) < rowFrom (now (w .entry)) .number → Represents (now (t .exit)) (withRows (withSourceNumbers (st .rows) (rowFrom (now (w .entry))) ∷ st .rows) st)) ⌝ }
-    ensures other { λ _. ⌜ (((length (now (t .entry)) ≡ 11265) × (count < 1024) × (rowFrom (now (w .entry)) .source ≤ count) × (rowFrom (now (w .entry)) .via ≤ count) → ⊥) → now (t .exit) ≡ now (t .entry)) ⌝ }
+    ensures represents { λ _. ⌜ ((st : State) → (count < ROWS) × (rowFrom (now (w .entry)) .source ≤ count) × (rowFrom (now (w .entry)) .via ≤ count) → Represents (now (t .entry)) st → count ≡ length (st .rows) → topOf (λ r. r .number) (st .rows) < rowFrom (now (w .entry)) .number → Represents (now (t .exit)) (withRows (withSourceNumbers (st .rows) (rowFrom (now (w .entry))) ∷ st .rows) st)) ⌝ }
+    ensures other { λ _. ⌜ ((IsTables (now (t .entry)) × (count < ROWS) × (rowFrom (now (w .entry)) .source ≤ count) × (rowFrom (now (w .entry)) .via ≤ count) → ⊥) → now (t .exit) ≡ now (t .entry)) ⌝ }
 {
-    if t.len() != LENGTH {
+    if t.len() != TABLES {
         return;
     }
     if ROWS <= count {
@@ -133,10 +136,10 @@ fn request_of(w: &[u32; 8]) -> Request
 // The request is given by the eight words of its columns.
 #[no_mangle]
 pub extern "C" fn kernel_append_request(t: &mut [u32], count: usize, w: &[u32; 8])
-    ensures represents { λ _. ⌜ ((st : State) → count < 128 → Represents (now (t .entry)) st → count ≡ length (st .requests) → topOf (λ v. v .number) (st .requests) < requestFrom (now (w .entry)) .number → Represents (now (t .exit)) (withRequests (requestFrom (now (w .entry)) ∷ st .requests) st)) ⌝ }
-    ensures other { λ _. ⌜ (((length (now (t .entry)) ≡ 11265) × (count < 128) → ⊥) → now (t .exit) ≡ now (t .entry)) ⌝ }
+    ensures represents { λ _. ⌜ ((st : State) → count < REQUESTS → Represents (now (t .entry)) st → count ≡ length (st .requests) → topOf (λ v. v .number) (st .requests) < requestFrom (now (w .entry)) .number → Represents (now (t .exit)) (withRequests (requestFrom (now (w .entry)) ∷ st .requests) st)) ⌝ }
+    ensures other { λ _. ⌜ ((IsTables (now (t .entry)) × (count < REQUESTS) → ⊥) → now (t .exit) ≡ now (t .entry)) ⌝ }
 {
-    if t.len() != LENGTH {
+    if t.len() != TABLES {
         return;
     }
     if REQUESTS <= count {
@@ -147,11 +150,11 @@ pub extern "C" fn kernel_append_request(t: &mut [u32], count: usize, w: &[u32; 8
 }
 
 #[no_mangle]
-pub extern "C" fn kernel_remove_rows(t: &mut [u32], count: usize, marks: &[bool; 1024])
-    ensures represents { λ _. ⌜ ((st : State) (g : List ℕ) → count ≤ 1024 → Represents (now (t .entry)) st → count ≡ length (st .rows) → now (marks .entry) ≡ pad false 1024 (marksOf g (st .rows)) → closedUnder g (st .rows) ≡ true → Represents (now (t .exit)) (withRows (filter (λ r. not (member (r .number) g)) (st .rows)) st)) ⌝ }
-    ensures other { λ _. ⌜ (((length (now (t .entry)) ≡ 11265) × (count ≤ 1024) → ⊥) → now (t .exit) ≡ now (t .entry)) ⌝ }
+pub extern "C" fn kernel_remove_rows(t: &mut [u32], count: usize, marks: &RowMarks)
+    ensures represents { λ _. ⌜ ((st : State) (g : List ℕ) → count ≤ ROWS → Represents (now (t .entry)) st → count ≡ length (st .rows) → now (marks .entry) ≡ pad false ROWS (marksOf g (st .rows)) → closedUnder g (st .rows) ≡ true → Represents (now (t .exit)) (withRows (filter (λ r. not (member (r .number) g)) (st .rows)) st)) ⌝ }
+    ensures other { λ _. ⌜ ((IsTables (now (t .entry)) × (count ≤ ROWS) → ⊥) → now (t .exit) ≡ now (t .entry)) ⌝ }
 {
-    if t.len() != LENGTH {
+    if t.len() != TABLES {
         return;
     }
     if ROWS < count {
@@ -161,11 +164,11 @@ pub extern "C" fn kernel_remove_rows(t: &mut [u32], count: usize, marks: &[bool;
 }
 
 #[no_mangle]
-pub extern "C" fn kernel_remove_requests(t: &mut [u32], marks: &[bool; 128])
-    ensures represents { λ _. ⌜ ((st : State) (f : Request → Bool) → Represents (now (t .entry)) st → now (marks .entry) ≡ pad false 128 (tested f (st .requests)) → Represents (now (t .exit)) (withRequests (filter (λ v. not (f v)) (st .requests)) st)) ⌝ }
-    ensures other { λ _. ⌜ ((length (now (t .entry)) ≡ 11265 → ⊥) → now (t .exit) ≡ now (t .entry)) ⌝ }
+pub extern "C" fn kernel_remove_requests(t: &mut [u32], marks: &RequestMarks)
+    ensures represents { λ _. ⌜ ((st : State) (f : Request → Bool) → Represents (now (t .entry)) st → now (marks .entry) ≡ pad false REQUESTS (tested f (st .requests)) → Represents (now (t .exit)) (withRequests (filter (λ v. not (f v)) (st .requests)) st)) ⌝ }
+    ensures other { λ _. ⌜ ((IsTables (now (t .entry)) → ⊥) → now (t .exit) ≡ now (t .entry)) ⌝ }
 {
-    if t.len() != LENGTH {
+    if t.len() != TABLES {
         return;
     }
     remove::remove_requests(t, marks);

@@ -1,7 +1,7 @@
 // Look-ups. They answer the slot plus 1, and 0 for none and for words of another length.
 use rows::Found;
 use rows::find;
-use rows::layout::LENGTH;
+use rows::layout::TABLES;
 ghost use mathlib.Core.Path.{_≡_};
 ghost use Prim.Native.Nat.{_≤_};
 ghost use lib.ListN.{length};
@@ -9,13 +9,14 @@ ghost use Rattle.rows.specs.Tables.{State};
 ghost use Rattle.rows.specs.Layout.{rowsIn, requestsIn, rowSlot};
 ghost use Rattle.rows.specs.contracts.Represents.{Represents};
 ghost use Rattle.rows.specs.contracts.Slots.{requestSlot, openSlot};
+ghost use Rattle.rows.specs.contracts.Sizes.{IsTables};
 
 #[no_mangle]
 pub extern "C" fn kernel_rows_in(t: &[u32]) -> usize
-    ensures counted { λ r. ⌜ (length (now (t .entry)) ≡ 11265 → r ≡ rowsIn (now (t .entry))) ⌝ }
-    ensures other { λ r. ⌜ ((length (now (t .entry)) ≡ 11265 → ⊥) → r ≡ 0) ⌝ }
+    ensures counted { λ r. ⌜ (IsTables (now (t .entry)) → r ≡ rowsIn (now (t .entry))) ⌝ }
+    ensures other { λ r. ⌜ ((IsTables (now (t .entry)) → ⊥) → r ≡ 0) ⌝ }
 {
-    if t.len() != LENGTH {
+    if t.len() != TABLES {
         return 0;
     }
     find::rows_in(t)
@@ -23,10 +24,10 @@ pub extern "C" fn kernel_rows_in(t: &[u32]) -> usize
 
 #[no_mangle]
 pub extern "C" fn kernel_requests_in(t: &[u32]) -> usize
-    ensures counted { λ r. ⌜ (length (now (t .entry)) ≡ 11265 → r ≡ requestsIn (now (t .entry))) ⌝ }
-    ensures other { λ r. ⌜ ((length (now (t .entry)) ≡ 11265 → ⊥) → r ≡ 0) ⌝ }
+    ensures counted { λ r. ⌜ (IsTables (now (t .entry)) → r ≡ requestsIn (now (t .entry))) ⌝ }
+    ensures other { λ r. ⌜ ((IsTables (now (t .entry)) → ⊥) → r ≡ 0) ⌝ }
 {
-    if t.len() != LENGTH {
+    if t.len() != TABLES {
         return 0;
     }
     find::requests_in(t)
@@ -36,9 +37,9 @@ pub extern "C" fn kernel_requests_in(t: &[u32]) -> usize
 pub extern "C" fn kernel_row_slot(t: &[u32], n: u32) -> usize
     ensures within { λ r. ⌜ r ≤ rowsIn (now (t .entry)) ⌝ }
     ensures found { λ r. ⌜ ((st : State) → Represents (now (t .entry)) st → r ≡ rowSlot (st .rows) n) ⌝ }
-    ensures other { λ r. ⌜ ((length (now (t .entry)) ≡ 11265 → ⊥) → r ≡ 0) ⌝ }
+    ensures other { λ r. ⌜ ((IsTables (now (t .entry)) → ⊥) → r ≡ 0) ⌝ }
 {
-    if t.len() != LENGTH {
+    if t.len() != TABLES {
         return 0;
     }
     let Found::At(i) = find::row_slot(t, n) else {
@@ -51,9 +52,9 @@ pub extern "C" fn kernel_row_slot(t: &[u32], n: u32) -> usize
 pub extern "C" fn kernel_request_slot(t: &[u32], q: u32) -> usize
     ensures within { λ r. ⌜ r ≤ requestsIn (now (t .entry)) ⌝ }
     ensures found { λ r. ⌜ ((st : State) → Represents (now (t .entry)) st → r ≡ requestSlot (st .requests) q) ⌝ }
-    ensures other { λ r. ⌜ ((length (now (t .entry)) ≡ 11265 → ⊥) → r ≡ 0) ⌝ }
+    ensures other { λ r. ⌜ ((IsTables (now (t .entry)) → ⊥) → r ≡ 0) ⌝ }
 {
-    if t.len() != LENGTH {
+    if t.len() != TABLES {
         return 0;
     }
     let Found::At(j) = find::request_slot(t, q) else {
@@ -66,9 +67,9 @@ pub extern "C" fn kernel_request_slot(t: &[u32], q: u32) -> usize
 pub extern "C" fn kernel_open_on(t: &[u32], c: u32) -> usize
     ensures within { λ r. ⌜ r ≤ requestsIn (now (t .entry)) ⌝ }
     ensures found { λ r. ⌜ ((st : State) → Represents (now (t .entry)) st → r ≡ openSlot (st .requests) c) ⌝ }
-    ensures other { λ r. ⌜ ((length (now (t .entry)) ≡ 11265 → ⊥) → r ≡ 0) ⌝ }
+    ensures other { λ r. ⌜ ((IsTables (now (t .entry)) → ⊥) → r ≡ 0) ⌝ }
 {
-    if t.len() != LENGTH {
+    if t.len() != TABLES {
         return 0;
     }
     let Found::At(j) = find::open_on(t, c) else {

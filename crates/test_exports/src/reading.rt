@@ -1,8 +1,8 @@
 // Reading: the words of a slot, the next number, the process records. Where a length or slot does not fit, nothing is written, and the answer is 0 or no.
-use rows::layout::LENGTH;
 use rows::layout::RECORDS;
 use rows::layout::REQUESTS;
 use rows::layout::ROWS;
+use rows::layout::TABLES;
 use rows::read;
 use rows::records;
 ghost use mathlib.Core.Path.{_≡_};
@@ -12,13 +12,14 @@ ghost use lib.ListN.{length, getD};
 ghost use Rattle.rows.specs.Tables.{isListed};
 ghost use Rattle.rows.specs.Layout.{requestAt, recordsIn, recordsOf, rawRow};
 ghost use Rattle.test_exports.specs.contracts.Fields.{fieldsOf, requestFieldsOf};
+ghost use Rattle.rows.specs.contracts.Sizes.{ROWS, REQUESTS, NEXT, IsTables, IsRecords};
 
 #[no_mangle]
 pub extern "C" fn kernel_row_at(t: &[u32], i: usize, out: &mut [u32; 10])
-    ensures read { λ _. ⌜ ((length (now (t .entry)) ≡ 11265) × (i < 1024) → now (out .exit) ≡ fieldsOf (rawRow (now (t .entry)) i)) ⌝ }
-    ensures other { λ _. ⌜ (((length (now (t .entry)) ≡ 11265) × (i < 1024) → ⊥) → now (out .exit) ≡ now (out .entry)) ⌝ }
+    ensures read { λ _. ⌜ (IsTables (now (t .entry)) × (i < ROWS) → now (out .exit) ≡ fieldsOf (rawRow (now (t .entry)) i)) ⌝ }
+    ensures other { λ _. ⌜ ((IsTables (now (t .entry)) × (i < ROWS) → ⊥) → now (out .exit) ≡ now (out .entry)) ⌝ }
 {
-    if t.len() != LENGTH {
+    if t.len() != TABLES {
         return;
     }
     if ROWS <= i {
@@ -41,10 +42,10 @@ pub extern "C" fn kernel_row_at(t: &[u32], i: usize, out: &mut [u32; 10])
 
 #[no_mangle]
 pub extern "C" fn kernel_request_at(t: &[u32], j: usize, out: &mut [u32; 8])
-    ensures read { λ _. ⌜ ((length (now (t .entry)) ≡ 11265) × (j < 128) → now (out .exit) ≡ requestFieldsOf (requestAt (now (t .entry)) j)) ⌝ }
-    ensures other { λ _. ⌜ (((length (now (t .entry)) ≡ 11265) × (j < 128) → ⊥) → now (out .exit) ≡ now (out .entry)) ⌝ }
+    ensures read { λ _. ⌜ (IsTables (now (t .entry)) × (j < REQUESTS) → now (out .exit) ≡ requestFieldsOf (requestAt (now (t .entry)) j)) ⌝ }
+    ensures other { λ _. ⌜ ((IsTables (now (t .entry)) × (j < REQUESTS) → ⊥) → now (out .exit) ≡ now (out .entry)) ⌝ }
 {
-    if t.len() != LENGTH {
+    if t.len() != TABLES {
         return;
     }
     if REQUESTS <= j {
@@ -66,10 +67,10 @@ pub extern "C" fn kernel_request_at(t: &[u32], j: usize, out: &mut [u32; 8])
 
 #[no_mangle]
 pub extern "C" fn kernel_next_of(t: &[u32]) -> u32
-    ensures read { λ r. ⌜ (length (now (t .entry)) ≡ 11265 → r ≡ getD (now (t .entry)) 11264 0) ⌝ }
-    ensures other { λ r. ⌜ ((length (now (t .entry)) ≡ 11265 → ⊥) → r ≡ 0) ⌝ }
+    ensures read { λ r. ⌜ (IsTables (now (t .entry)) → r ≡ getD (now (t .entry)) NEXT 0) ⌝ }
+    ensures other { λ r. ⌜ ((IsTables (now (t .entry)) → ⊥) → r ≡ 0) ⌝ }
 {
-    if t.len() != LENGTH {
+    if t.len() != TABLES {
         return 0;
     }
     read::next_of(t)
@@ -77,8 +78,8 @@ pub extern "C" fn kernel_next_of(t: &[u32]) -> u32
 
 #[no_mangle]
 pub extern "C" fn kernel_listed(p: &[u32], n: u32) -> bool
-    ensures listed { λ r. ⌜ (length (now (p .entry)) ≡ 192 → r ≡ isListed (recordsIn (now (p .entry))) n) ⌝ }
-    ensures other { λ r. ⌜ ((length (now (p .entry)) ≡ 192 → ⊥) → r ≡ false) ⌝ }
+    ensures listed { λ r. ⌜ (IsRecords (now (p .entry)) → r ≡ isListed (recordsIn (now (p .entry))) n) ⌝ }
+    ensures other { λ r. ⌜ ((IsRecords (now (p .entry)) → ⊥) → r ≡ false) ⌝ }
 {
     if p.len() != RECORDS {
         return false;
@@ -89,8 +90,8 @@ pub extern "C" fn kernel_listed(p: &[u32], n: u32) -> bool
 // The records of one run, stored in the other.
 #[no_mangle]
 pub extern "C" fn kernel_records(from: &[u32], to: &mut [u32])
-    ensures stored { λ _. ⌜ ((length (now (from .entry)) ≡ 192) × (length (now (to .entry)) ≡ 192) → now (to .exit) ≡ recordsOf (recordsIn (now (from .entry)))) ⌝ }
-    ensures other { λ _. ⌜ (((length (now (from .entry)) ≡ 192) × (length (now (to .entry)) ≡ 192) → ⊥) → now (to .exit) ≡ now (to .entry)) ⌝ }
+    ensures stored { λ _. ⌜ (IsRecords (now (from .entry)) × IsRecords (now (to .entry)) → now (to .exit) ≡ recordsOf (recordsIn (now (from .entry)))) ⌝ }
+    ensures other { λ _. ⌜ ((IsRecords (now (from .entry)) × IsRecords (now (to .entry)) → ⊥) → now (to .exit) ≡ now (to .entry)) ⌝ }
 {
     if from.len() != RECORDS {
         return;
