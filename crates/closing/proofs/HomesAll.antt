@@ -18,9 +18,9 @@ use Rattle.rows.specs.Tables.{State, noProcess, rowOf, processAt, numbers}
 use Rattle.rows.specs.Sound.{sound, processPlaced, placedFrom, processesPlaced}
 use Rattle.rows.proofs.Bools.{clash, and-l, and-r, or-cases, zero-none}
 use Rattle.rows.proofs.RowSources.{subdirectory-there}
-use Rattle.rows.proofs.Sound.{sound-open}
+use Rattle.tables.proofs.Sound.{sound-open}
 use Rattle.closing.specs.Closing.{homed}
-use Rattle.closing.proofs.KeptProcesses.{homed-at}
+use Rattle.closing.proofs.Processes.{homed-at}
 
 -- ---- one record
 module _ (g : List ℕ) (x : Process) where

@@ -1,24 +1,14 @@
 -- Laws of closing. One line a file:
--- closing in one pass is closing step by step, on sound tables
-pub mod Steps
 -- laws of keyed lists and of trimmed items that the files below use
-pub mod KeptLists
+pub mod TrimmedLists
 -- what sound tables tell of one row and of one open request
-pub mod KeptFacts
+pub mod Facts
 -- what is removed: the seeds, and each row with a removed source
-pub mod KeptMarks
+pub mod RemovedRows
 -- look-up in the rows and requests that closing leaves
-pub mod KeptLookups
+pub mod Lookups
 -- the process records that closing leaves
-pub mod KeptProcesses
--- the clauses on the requests that stay open
-pub mod KeptRequests
--- the clauses on places: where rows are, whom the system holds, where processes are
-pub mod KeptPlaces
--- the clauses on rows: ranges, sources, depths, copies, pairs of ends
-pub mod KeptRows
--- closing keeps the tables sound: of seeds, of a request, of a port, of a dropped row
-pub mod Kept
+pub mod Processes
 -- marks of slots: at the slot of a number, and one more
 pub mod ListsMarks
 -- the items of a closed request go back

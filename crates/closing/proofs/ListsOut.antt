@@ -18,7 +18,7 @@ use Rattle.rows.specs.contracts.Slots.{requestSlot}
 use Rattle.rows.specs.Setters.{withRequests, withItems}
 use Rattle.rows.proofs.Bools.{clash, and-i, eqb-self, pos-some, member-here, member-there, eqb-sym-f, or-fl, or-fr, all-at}
 use Rattle.rows.proofs.Keyed.{rises-rest, rises-fresh}
-use Rattle.rows.proofs.Picked.{older-other}
+use Rattle.tables.proofs.Picked.{older-other}
 use Rattle.rows.proofs.Slots.{represented-well, slot-number}
 use Rattle.changes.specs.contracts.Changes.{itemCleared}
 use Rattle.closing.specs.contracts.Lists.{itemOut, itemsOut}

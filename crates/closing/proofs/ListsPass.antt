@@ -22,13 +22,13 @@ use Rattle.rows.specs.contracts.Represents.{Represents}
 use Rattle.rows.specs.Setters.{withRows, withRequests, withPlace, withItems}
 use Rattle.rows.proofs.Bools.{clash, and-l, and-r, pos-some, all-mono, any-append}
 use Rattle.rows.proofs.Keyed.{first-there, keys-map, rises-rest, rises-first}
-use Rattle.rows.proofs.Sound.{Sound, sound-open}
+use Rattle.tables.proofs.Sound.{Sound, sound-open}
 use Rattle.rows.proofs.Slots.{represented-well, rises-old, request-of-words, request-words-at}
 use Rattle.changes.specs.contracts.Marks.{tested, marksOf}
 use Rattle.changes.proofs.Keep.{length-tested}
 use Rattle.closing.specs.Closing.{oldestListing, returned, listedIn, leaves, trimmed}
 use Rattle.closing.specs.contracts.Lists.{slotMarks, among, backRow, itemsBack, WentBack, itemsOut, trimmedAll, partlySettled, SettledTo, listsSettled}
-use Rattle.closing.proofs.KeptLookups.{returned-keeps, returned-same}
+use Rattle.closing.proofs.Lookups.{returned-keeps, returned-same}
 use Rattle.closing.proofs.ListsMarks.{getD-pad, tested-at}
 use Rattle.closing.proofs.ListsBack.{marks-map}
 

@@ -16,7 +16,7 @@ use Rattle.rows.specs.Setters.{withRows, withRequests, withPlace, withItems}
 use Rattle.changes.specs.contracts.Marks.{tested, marksOf, closedUnder}
 use Rattle.closing.specs.Closing.{closes, returned, trimmed, remaining, settled}
 use Rattle.closing.specs.contracts.Lists.{trimmedAll, partlySettled, listsSettled}
-use Rattle.closing.proofs.KeptLookups.{returned-keeps}
+use Rattle.closing.proofs.Lookups.{returned-keeps}
 use Rattle.closing.proofs.ListsMarks.{tested-eq, tested-map}
 use Rattle.closing.proofs.ListsPass.{returned-number}
 

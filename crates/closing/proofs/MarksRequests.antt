@@ -14,7 +14,7 @@ use Rattle.rows.specs.contracts.Represents.{Represents}
 use Rattle.rows.specs.Layout.{rowSlot}
 use Rattle.rows.proofs.Bools.{clash, and-l, or-false}
 use Rattle.rows.proofs.Keyed.{all-first}
-use Rattle.rows.proofs.Sound.{sound-open}
+use Rattle.tables.proofs.Sound.{sound-open}
 use Rattle.rows.proofs.RowSources.{client-there}
 use Rattle.rows.proofs.Slots.{represented-well, row-none, request-words-at}
 use Rattle.changes.specs.contracts.Marks.{marksOf}

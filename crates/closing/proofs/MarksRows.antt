@@ -19,7 +19,7 @@ use Rattle.rows.specs.contracts.Slots.{slotted}
 use Rattle.rows.proofs.Bools.{false-of}
 use Rattle.rows.proofs.Keyed.{olderOf, rises-rest, rises-range}
 use Rattle.rows.proofs.RowSources.{Among}
-use Rattle.rows.proofs.Marking.{marked-stands, marked-closed}
+use Rattle.tables.proofs.Marking.{marked-stands, marked-closed}
 use Rattle.rows.proofs.Slots.{represented-well, rises-old, slot-there, source-zero, source-rises, sources-among, row-words-at, raw-row-at}
 use Rattle.changes.specs.contracts.Marks.{marksOf}
 use Rattle.closing.specs.declared.Seed.{Seed}
@@ -27,7 +27,7 @@ use Rattle.closing.specs.declared.Seed.the-variants.{Bearing, EndsOf, On
 use Rattle.closing.specs.Closing.{isEndOf, isRow}
 use Rattle.closing.specs.contracts.Lists.{slotMarks}
 use Rattle.closing.specs.contracts.Seeds.{seedOf, markAt}
-use Rattle.closing.proofs.KeptMarks.{any-source}
+use Rattle.closing.proofs.RemovedRows.{any-source}
 use Rattle.closing.proofs.ListsMarks.{mark-read}
 use Rattle.closing.proofs.MarksPass.{member-cut, first-cut, MarkedTo, marked-turn, marked-end}
 

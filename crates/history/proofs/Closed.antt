@@ -11,12 +11,12 @@ use Rattle.rows.specs.Tables.{State, processAt, isListed, sources, marked}
 use Rattle.rows.specs.Sound.{rowsRise}
 use Rattle.rows.proofs.Bools.{and-r, and-i}
 use Rattle.rows.proofs.Keyed.{keys-filter}
-use Rattle.rows.proofs.Sound.{Sound}
+use Rattle.tables.proofs.Sound.{Sound}
 use Rattle.rows.proofs.Lists.{filter-filter}
 use Rattle.closing.specs.Closing.{closes, returned, remaining, homed, settled, closing}
 use Rattle.rows.specs.Setters.{withPlace, withItems}
-use Rattle.closing.proofs.KeptLookups.{remaining-keys, returned-keeps}
-use Rattle.closing.proofs.KeptProcesses.{homed-at, homed-prime}
+use Rattle.closing.proofs.Lookups.{remaining-keys, returned-keeps}
+use Rattle.closing.proofs.Processes.{homed-at, homed-prime}
 use Rattle.history.specs.History.{Noted, Loan, History}
 use Rattle.history.specs.Notes.{noted, spoiled, survives, sweep, standing, stands, isClosed, openLoans, lastGo}
 use Rattle.history.proofs.Fit.{Fit}

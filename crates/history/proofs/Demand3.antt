@@ -11,8 +11,8 @@ use Rattle.rows.specs.Codes.{isEnd}
 use Rattle.rows.specs.Tables.{State, rowOf, requestOf}
 use Rattle.rows.specs.Layout.{stateOf}
 use Rattle.rows.proofs.Bools.{clash}
-use Rattle.rows.proofs.Sound.{Sound}
-use Rattle.rows.proofs.LayoutWords.{state-words}
+use Rattle.tables.proofs.Sound.{Sound}
+use Rattle.tables.proofs.Words.{state-words}
 use Rattle.rows.proofs.Places.{between-range}
 use Rattle.closing.specs.Closing.{closeRequest}
 use Rattle.calls.specs.declared.Call.{Call}

@@ -13,15 +13,15 @@ use Rattle.rows.specs.Tables.{State, rowOf, numbers, isLent}
 use Rattle.rows.specs.Sound.{isHeld, isPairedWith, otherEnd}
 use Rattle.rows.proofs.Bools.{and-l, and-r, or-cases, not-f, pos-some}
 use Rattle.rows.proofs.Keyed.{rises-range}
-use Rattle.rows.proofs.Sound.{Sound}
+use Rattle.tables.proofs.Sound.{Sound}
 use Rattle.rows.proofs.Places.{copied-no-end, clist-not-node}
 use Rattle.rows.proofs.RowSources.{node-there, end-there}
-use Rattle.rows.proofs.Standing.{standing-shape}
-use Rattle.rows.proofs.SoundFacts.{row-number, row-below, row-object, paired-at, in-node-copied, not-lent-held, unlent-unborne, client-object, server-object}
+use Rattle.tables.proofs.Standing.{standing-shape}
+use Rattle.tables.proofs.SoundFacts.{row-number, row-below, row-object, paired-at, in-node-copied, not-lent-held, unlent-unborne, client-object, server-object}
 use Rattle.calls.specs.declared.Item.{Item}
 use Rattle.calls.specs.Rules.{notHeld}
 use Rattle.calls.specs.Loans.{itemRow, moves}
-use Rattle.calls.proofs.Stand.{held-there}
+use Rattle.kept.proofs.Stand.{held-there}
 use Rattle.history.specs.History.{History}
 use Rattle.history.specs.Notes.{isEndNoted, noted, notedOf, spoiled, standing, stands}
 use Rattle.history.specs.Chains.{IsNoted}

@@ -11,9 +11,9 @@ use Rattle.rows.specs.Tables.{State, empty}
 use Rattle.rows.specs.Sound.{sound}
 use Rattle.rows.specs.Layout.{wordsOf, recordsOf, stateOf, rightLengths, soundWords, clearedTables, clearedProcesses}
 use Rattle.rows.proofs.Bools.{clash, and-l, and-r, not-t, all-at}
-use Rattle.rows.proofs.Sound.{Sound, sound-open}
+use Rattle.tables.proofs.Sound.{Sound, sound-open}
 use Rattle.rows.proofs.LayoutColumns.{list-same}
-use Rattle.rows.proofs.LayoutWords.{state-words, words-state, sound-words}
+use Rattle.tables.proofs.Words.{state-words, words-state, sound-words}
 use Rattle.calls.specs.Answers.{refusalOf, valuesOf}
 use Rattle.calls.specs.Rules.{Out}
 use Rattle.text.specs.Opening.{Form, Opening, opens, refusedAt, linesOf, openingOf}

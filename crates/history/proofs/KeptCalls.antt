@@ -9,19 +9,19 @@ use Rattle.rows.specs.Tables.{State, rowOf, openOn, isListed}
 use Rattle.rows.specs.Sound.{isFetched}
 use Rattle.rows.specs.Limits.{processes}
 use Rattle.rows.proofs.Bools.{or-fl, not-f, pos-some, all-mono, not-zero}
-use Rattle.rows.proofs.Sound.{Sound}
+use Rattle.tables.proofs.Sound.{Sound}
 use Rattle.rows.proofs.Places.{between-range}
-use Rattle.closing.proofs.Kept.{close-request-kept, close-port-kept, drop-kept}
+use Rattle.kept.proofs.Closing.{close-request-kept, close-port-kept, drop-kept}
 use Rattle.calls.specs.declared.Call.{Call}
 use Rattle.calls.specs.declared.Call.the-variants.{Go, Hold, Register, Drop, Port, Close, Ask, Fetch, Reply, Refuse, Revoke, Comes}
 use Rattle.calls.specs.Loans.{itemsOf}
 use Rattle.calls.specs.Calls.{done, doDrop, doClose, doReply, doRefuse, doRevoke, callerOf, perform}
-use Rattle.calls.proofs.AddRow.{unless}
-use Rattle.calls.proofs.KeptGo.{go-kept}
-use Rattle.calls.proofs.KeptHold.{hold-kept, register-kept}
-use Rattle.calls.proofs.KeptPort.{port-kept, comes-kept}
-use Rattle.calls.proofs.KeptFetch.{fetch-kept}
-use Rattle.calls.proofs.KeptAsk.{ask-kept}
+use Rattle.kept.proofs.AddRow.{unless}
+use Rattle.kept.proofs.Go.{go-kept}
+use Rattle.kept.proofs.Hold.{hold-kept, register-kept}
+use Rattle.kept.proofs.Port.{port-kept, comes-kept}
+use Rattle.kept.proofs.Fetch.{fetch-kept}
+use Rattle.kept.proofs.Ask.{ask-kept}
 use Rattle.text.specs.declared.Reading.{Reading}
 use Rattle.text.specs.declared.Reading.the-variants.{Asks, Crowded, Refused as BadLine}
 use Rattle.text.specs.CallLines.{readingOf, isProcess, isNumber}

@@ -14,21 +14,21 @@ use Rattle.rows.specs.Tables.{State, rowOf, openOn, numbers, marked, bears, lis
 use Rattle.rows.specs.Sound.{isFetched, isOpening, isRegistered, isHeld, isPortEnd, isLentCopy}
 use Rattle.rows.proofs.Bools.{clash, false-of, and-l, and-r, not-t, not-f, or-fl, some-pos, member-there, not-zero}
 use Rattle.rows.proofs.Keyed.{keys-map}
-use Rattle.rows.proofs.Sound.{Sound}
+use Rattle.tables.proofs.Sound.{Sound}
 use Rattle.rows.proofs.RowSources.{Shape, opening, registered, held, port-end, lent-copy, node-there}
-use Rattle.rows.proofs.Standing.{standing-shape, nodes-stay, rights-within}
-use Rattle.rows.proofs.SoundFacts.{row-number}
+use Rattle.tables.proofs.Standing.{standing-shape, nodes-stay, rights-within}
+use Rattle.tables.proofs.SoundFacts.{row-number}
 use Rattle.rows.proofs.Places.{clist-not-node}
 use Rattle.rows.specs.Setters.{withPlace}
 use Rattle.closing.specs.Closing.{closing, closeRequest, closePort, dropRow, isEndOf, isRow, closes}
-use Rattle.closing.proofs.KeptLookups.{left-keys}
+use Rattle.closing.proofs.Lookups.{left-keys}
 use Rattle.calls.specs.declared.Item.{Item}
 use Rattle.calls.specs.declared.Call.{Call}
 use Rattle.calls.specs.declared.Call.the-variants.{Go, Hold, Register, Drop, Port, Close, Ask, Fetch, Reply, Refuse, Revoke, Comes}
 use Rattle.calls.specs.Rules.{Out, refusedIf, notHeld, withNewRows, withRecord}
 use Rattle.calls.specs.Loans.{Lending, itemsOf, moves, toSystem, lendEnd, lendCopy, lendItem, lendItems, lent, withRequest, handedTo, handedOver}
 use Rattle.calls.specs.Calls.{done, made, goHome, goThrough, doGo, withHeld, doHold, withRegistered, doRegister, doDrop, withPort, doPort, doClose, doAsk, doFetch, doReply, doRefuse, doRevoke, doComes, perform}
-use Rattle.calls.proofs.KeptMoved.{moved, moved-number}
+use Rattle.kept.proofs.Moved.{moved, moved-number}
 use Rattle.text.specs.Entry.{openEntry, callOn, answered, refused}
 use Rattle.text.specs.declared.Reading.{Reading}
 use Rattle.text.specs.declared.Reading.the-variants.{Asks, Crowded, Refused as BadLine}

@@ -10,7 +10,7 @@ use Rattle.rows.specs.Lists.{filter, any, all, firstWith, member, nonzero}
 use Rattle.rows.specs.Codes.{isEnd}
 use Rattle.rows.specs.Tables.{State, noRequest, rowOf, requestOf, lists}
 use Rattle.rows.proofs.Bools.{and-l, and-r, not-t, eqb-sym, and-rf, and-true}
-use Rattle.rows.proofs.Picked.{all-keys, first-picked}
+use Rattle.tables.proofs.Picked.{all-keys, first-picked}
 use Rattle.rows.proofs.RowSources.{end-there}
 use Rattle.rows.proofs.Lists.{filter-filter, member-filter, member-nonzero}
 use Rattle.rows.proofs.Agree.{keys-kept}

@@ -13,9 +13,9 @@ use Rattle.rows.specs.Codes.{isEnd, isSubdirectory, inClist}
 use Rattle.rows.specs.Tables.{State, rowOf, numbers, lists}
 use Rattle.rows.specs.Sound.{mayBeListed, itemsLent}
 use Rattle.rows.proofs.Bools.{and-l, and-r, and-i, all-mono}
-use Rattle.rows.proofs.Sound.{Sound}
+use Rattle.tables.proofs.Sound.{Sound}
 use Rattle.rows.proofs.RowSources.{row-there}
-use Rattle.rows.proofs.SoundFacts.{row-below}
+use Rattle.tables.proofs.SoundFacts.{row-below}
 use Rattle.rows.proofs.Places.{no-row-listed}
 use Rattle.rows.proofs.Lists.{filter-same}
 use Rattle.calls.specs.declared.Call.the-variants.{Go, Hold, Register, Port, Fetch, Comes}
@@ -23,8 +23,8 @@ use Rattle.calls.specs.Answers.{refusalOf, valuesOf}
 use Rattle.calls.specs.Rules.{refusedIf, notHeld, withNewRows, copyOf, withRecord}
 use Rattle.calls.specs.Loans.{handedTo, nowFetched, handedOver}
 use Rattle.calls.specs.Calls.{done, goHome, goThrough, doGo, withHeld, doHold, withRegistered, doRegister, portEnd, withPort, doPort, fetchedAnswer, doFetch, doComes}
-use Rattle.calls.proofs.AddRow.{row-before}
-use Rattle.calls.proofs.KeptMoved.{moved, kind-same}
+use Rattle.kept.proofs.AddRow.{row-before}
+use Rattle.kept.proofs.Moved.{moved, kind-same}
 use Rattle.history.specs.History.{OnLoan, History}
 use Rattle.history.specs.Notes.{addRow, noteGo, noteHold, noteRegister, notePort}
 use Rattle.history.specs.Reading.{noteCall}

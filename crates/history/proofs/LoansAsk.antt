@@ -12,19 +12,19 @@ use Rattle.rows.specs.Limits.{mostItems}
 use Rattle.rows.specs.Codes.{isEnd, withSystem}
 use Rattle.rows.specs.Tables.{State, noRow, rowOf, numbers}
 use Rattle.rows.proofs.Bools.{not-t, or-fl, or-fr, all-mono, all-filter, pos-some}
-use Rattle.rows.proofs.Picked.{first-here, first-other}
-use Rattle.rows.proofs.Sound.{Sound}
+use Rattle.tables.proofs.Picked.{first-here, first-other}
+use Rattle.tables.proofs.Sound.{Sound}
 use Rattle.rows.proofs.Lists.{all-append, filter-same, none-all}
-use Rattle.rows.proofs.SoundFacts.{row-below}
+use Rattle.tables.proofs.SoundFacts.{row-below}
 use Rattle.calls.specs.declared.Item.{Item}
 use Rattle.calls.specs.declared.Items.{Items}
 use Rattle.calls.specs.declared.Call.the-variants.{Ask}
 use Rattle.calls.specs.Rules.{notHeld, copyOf}
 use Rattle.calls.specs.Loans.{itemsOf, itemRow, moves, copyLent, Lending, toSystem, lendEnd, lendCopy, lendItem, lendItems, lent, newRequest, withRequest}
 use Rattle.calls.specs.Calls.{doAsk}
-use Rattle.calls.proofs.Stand.{held-there}
-use Rattle.calls.proofs.KeptAskList.{nonzero-pad}
-use Rattle.calls.proofs.KeptMoved.{moved, kind-same}
+use Rattle.kept.proofs.Stand.{held-there}
+use Rattle.kept.proofs.AskList.{nonzero-pad}
+use Rattle.kept.proofs.Moved.{moved, kind-same}
 use Rattle.history.specs.History.{History}
 use Rattle.history.specs.Notes.{isEndNoted, endsNamed, noteAsk}
 use Rattle.history.specs.Reading.{itemsNamed, noteCall}

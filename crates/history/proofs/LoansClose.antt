@@ -11,15 +11,15 @@ use Rattle.rows.specs.Tables.{State, noRequest, rowOf, requestOf, numbers, mark
 use Rattle.rows.specs.Sound.{same, requestsRise}
 use Rattle.rows.proofs.Bools.{and-l, and-r, and-rf, and-true}
 use Rattle.rows.proofs.Keyed.{first-key}
-use Rattle.rows.proofs.Picked.{all-found}
-use Rattle.rows.proofs.Sound.{Sound}
+use Rattle.tables.proofs.Picked.{all-found}
+use Rattle.tables.proofs.Sound.{Sound}
 use Rattle.rows.proofs.RowSources.{end-there}
 use Rattle.rows.proofs.Lists.{filter-filter}
-use Rattle.rows.proofs.SoundFacts.{same-eq, eq-same}
+use Rattle.tables.proofs.SoundFacts.{same-eq, eq-same}
 use Rattle.rows.proofs.Agree.{keys-kept}
 use Rattle.closing.specs.Closing.{listedIn, leaves, trimmed, remaining, settled, closes, closing, closeRequest, isEndOf, closePort, isRow, dropRow}
 use Rattle.rows.specs.Setters.{withItems, withPlace}
-use Rattle.closing.proofs.KeptLookups.{remaining-keys, returned-keeps, left-keys, row-after}
+use Rattle.closing.proofs.Lookups.{remaining-keys, returned-keeps, left-keys, row-after}
 use Rattle.calls.specs.declared.Call.the-variants.{Drop, Close, Reply, Refuse, Revoke}
 use Rattle.calls.specs.Calls.{doDrop, doClose, doReply, doRefuse, doRevoke}
 use Rattle.history.specs.History.{History}

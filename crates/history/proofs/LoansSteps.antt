@@ -1,7 +1,7 @@
 -- After every call on sound tables, accepted or refused, the ends that the requests list are those that the history has on loan.
 use mathlib.Core.Path.{refl}
 use Rattle.rows.specs.Tables.{State}
-use Rattle.rows.proofs.Sound.{Sound}
+use Rattle.tables.proofs.Sound.{Sound}
 use Rattle.calls.specs.declared.Call.{Call}
 use Rattle.calls.specs.declared.Call.the-variants.{Go, Hold, Register, Drop, Port, Close, Ask, Fetch, Reply, Refuse, Revoke, Comes}
 use Rattle.calls.specs.Calls.{perform}

@@ -15,13 +15,13 @@ use Rattle.rows.specs.Tables.{State, noRequest, rowOf, requestOf, numbers, mark
 use Rattle.rows.specs.Sound.{requestsRise}
 use Rattle.rows.proofs.Bools.{clash, and-l, and-r, and-i, not-t, any-append, pos-some, eqb-sym, eqb-sym-f, member-here, member-there, and-rf, or-false}
 use Rattle.rows.proofs.Keyed.{first-key, rises-rest, rises-first, rises-older, rises-fresh, rises-range}
-use Rattle.rows.proofs.Picked.{first-here, first-other, older-other}
-use Rattle.rows.proofs.Sound.{Sound}
-use Rattle.rows.proofs.SoundFacts.{row-number}
+use Rattle.tables.proofs.Picked.{first-here, first-other, older-other}
+use Rattle.tables.proofs.Sound.{Sound}
+use Rattle.tables.proofs.SoundFacts.{row-number}
 use Rattle.rows.proofs.Lists.{member-filter}
 use Rattle.closing.specs.Closing.{closes, oldestListing, returned, settled, closing, closeRequest}
 use Rattle.rows.specs.Setters.{withPlace}
-use Rattle.closing.proofs.KeptLookups.{row-after}
+use Rattle.closing.proofs.Lookups.{row-after}
 use Rattle.calls.specs.declared.Answer.the-variants.{Done}
 use Rattle.calls.specs.declared.Call.the-variants.{Revoke}
 use Rattle.calls.specs.Answers.{refusalOf}

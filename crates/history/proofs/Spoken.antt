@@ -13,9 +13,9 @@ use Rattle.rows.specs.Limits.{greatestNumber}
 use Rattle.rows.specs.Tables.{State, noRequest, rowOf, openOn, isListed}
 use Rattle.rows.specs.Sound.{nextInRange}
 use Rattle.rows.proofs.Bools.{and-l, and-r, all-mono}
-use Rattle.rows.proofs.Sound.{Sound}
+use Rattle.tables.proofs.Sound.{Sound}
 use Rattle.rows.proofs.Places.{between-range}
-use Rattle.rows.proofs.SoundFacts.{requests-below}
+use Rattle.tables.proofs.SoundFacts.{requests-below}
 use Rattle.calls.specs.declared.Answer.the-variants.{Fetched, Told, Refused}
 use Rattle.calls.specs.declared.Item.{Item}
 use Rattle.calls.specs.declared.Call.{Call}

@@ -11,13 +11,13 @@ use Rattle.rows.specs.Lists.{filter, all, member, some, nonzero, sameList}
 use Rattle.rows.specs.Codes.{clientEnd, serverEnd, isEnd, isClient, isServer, isNode, inNode, inClist}
 use Rattle.rows.specs.Tables.{State, rowOf, numbers, processAt, isListed, sources}
 use Rattle.rows.proofs.Bools.{and-l, and-r, not-f, or-r, pos-some, eqb-self, and-rf}
-use Rattle.rows.proofs.Sound.{Sound}
+use Rattle.tables.proofs.Sound.{Sound}
 use Rattle.rows.proofs.RowSources.{node-there}
-use Rattle.rows.proofs.SoundFacts.{row-below, active-node}
+use Rattle.tables.proofs.SoundFacts.{row-below, active-node}
 use Rattle.calls.specs.declared.Call.the-variants.{Hold, Register, Port}
 use Rattle.calls.specs.Rules.{withNewRows, copyOf}
 use Rattle.calls.specs.Calls.{withHeld, doHold, withRegistered, doRegister, portEnd, withPort, doPort}
-use Rattle.calls.proofs.Stand.{held-there}
+use Rattle.kept.proofs.Stand.{held-there}
 use Rattle.history.specs.History.{History}
 use Rattle.history.specs.Notes.{notedOf, stands, lastGo, addRow, heldSources, noteHold, firstOnly, noteRegister, notePort}
 use Rattle.history.specs.Reading.{noteCall}

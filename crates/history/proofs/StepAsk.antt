@@ -12,8 +12,8 @@ use Rattle.rows.specs.Codes.{isClient, isEnd, withSystem}
 use Rattle.rows.specs.Tables.{State, rowOf, numbers, sources}
 use Rattle.rows.proofs.Bools.{and-l, and-i, not-f, or-r, or-fl, or-fr, all-mono, pos-some, some-pos, eqb-self, member-here, member-there, and-rf}
 use Rattle.rows.proofs.Keyed.{first-there, rises-range, rises-cons}
-use Rattle.rows.proofs.Sound.{Sound}
-use Rattle.rows.proofs.SoundFacts.{row-below}
+use Rattle.tables.proofs.Sound.{Sound}
+use Rattle.tables.proofs.SoundFacts.{row-below}
 use Rattle.rows.specs.Setters.{withPlace}
 use Rattle.calls.specs.declared.Item.{Item}
 use Rattle.calls.specs.declared.Items.{Items}
@@ -21,8 +21,8 @@ use Rattle.calls.specs.declared.Call.the-variants.{Ask}
 use Rattle.calls.specs.Rules.{notHeld, withNewRows}
 use Rattle.calls.specs.Loans.{itemsOf, itemRow, moves, copyDepth, copyLent, Lending, toSystem, lendEnd, lendCopy, lendItem, lendItems, lent, newRequest, withRequest}
 use Rattle.calls.specs.Calls.{doAsk}
-use Rattle.calls.proofs.Stand.{held-there}
-use Rattle.calls.proofs.KeptMoved.{moved, moved-same}
+use Rattle.kept.proofs.Stand.{held-there}
+use Rattle.kept.proofs.Moved.{moved, moved-same}
 use Rattle.history.specs.History.{withNoted, withRequests, withLoans, Noted, Loan, OnLoan, History}
 use Rattle.history.specs.Notes.{noted, notedOf, noLoan, loanOf, spoiled, standing, stands, isClosed, openLoans, addRow, endsNamed, copiesNoted, copied, noteAsk}
 use Rattle.history.specs.Reading.{itemsNamed, noteCall}

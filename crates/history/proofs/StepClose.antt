@@ -13,12 +13,12 @@ use Rattle.rows.specs.Codes.{isEnd, isServer}
 use Rattle.rows.specs.Tables.{State, noRequest, rowOf, numbers, requestOf, openOn, bears}
 use Rattle.rows.proofs.Bools.{and-l, and-r, and-i, not-f, or-fl, pos-some, some-pos}
 use Rattle.rows.proofs.Keyed.{first-key, first-there, all-first}
-use Rattle.rows.proofs.Sound.{Sound}
-use Rattle.rows.proofs.SoundFacts.{requests-between}
+use Rattle.tables.proofs.Sound.{Sound}
+use Rattle.tables.proofs.SoundFacts.{requests-between}
 use Rattle.closing.specs.Closing.{closeRequest, isEndOf, closePort, isRow, dropRow}
 use Rattle.calls.specs.declared.Call.the-variants.{Drop, Close, Reply, Refuse, Revoke}
 use Rattle.calls.specs.Calls.{doDrop, doClose, doReply, doRefuse, doRevoke}
-use Rattle.calls.proofs.Stand.{held-there}
+use Rattle.kept.proofs.Stand.{held-there}
 use Rattle.history.specs.History.{Noted, History}
 use Rattle.history.specs.Notes.{noLoan, notedOf, spoiled, stands, openLoans, openRequest, noteDrop, noteClose, noteRevoke, noteEnd}
 use Rattle.history.specs.Reading.{noteCall}

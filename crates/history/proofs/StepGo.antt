@@ -16,16 +16,16 @@ use Rattle.rows.specs.Lists.{if_then_else_, firstWith, some}
 use Rattle.rows.specs.Codes.{isSubdirectory, inClist}
 use Rattle.rows.specs.Tables.{State, noProcess, rowOf, openOn, processAt, isListed, sources, lists}
 use Rattle.rows.proofs.Bools.{clash, some-pos, none-zero}
-use Rattle.rows.proofs.SoundFacts.{listed-has-record}
+use Rattle.tables.proofs.SoundFacts.{listed-has-record}
 use Rattle.rows.specs.Setters.{withPlace}
 use Rattle.calls.specs.declared.Call.the-variants.{Go, Fetch, Comes}
 use Rattle.calls.specs.Answers.{refusalOf, valuesOf}
 use Rattle.calls.specs.Rules.{refusedIf, notHeld, withRecord}
 use Rattle.calls.specs.Loans.{handedTo, nowFetched, handedOver}
 use Rattle.calls.specs.Calls.{done, goHome, goThrough, doGo, fetchedAnswer, doFetch, doComes}
-use Rattle.calls.proofs.Stand.{held-there}
-use Rattle.calls.proofs.KeptMoved.{moved, moved-same}
-use Rattle.calls.proofs.KeptLoans.{now-same}
+use Rattle.kept.proofs.Stand.{held-there}
+use Rattle.kept.proofs.Moved.{moved, moved-same}
+use Rattle.kept.proofs.Loans.{now-same}
 use Rattle.history.specs.History.{Went, History}
 use Rattle.history.specs.Notes.{spoiled, standing, stands, isClosed, openLoans, wentNowhere, lastGo, noteGo}
 use Rattle.history.specs.Reading.{noteCall}

@@ -16,10 +16,10 @@ use Rattle.rows.specs.Sound.{objectInRange, placeInRange, placesInRange, isPair
 use Rattle.rows.proofs.Bools.{clash, bool-eq, and-l, and-r, and-i, or-cases, or-l, or-r, or-fl, or-fr, eqb-sym-f}
 use Rattle.rows.proofs.Keyed.{all-first, rises-rest, rises-older, rises-fresh}
 use Rattle.rows.proofs.Agree.{agree-found, filter-agree}
-use Rattle.rows.proofs.Sound.{Sound}
+use Rattle.tables.proofs.Sound.{Sound}
 use Rattle.rows.proofs.RowSources.{end-there}
-use Rattle.rows.proofs.SoundFacts.{row-number, row-object, client-paired, client-object, server-object}
-use Rattle.closing.proofs.KeptFacts.{end-at}
+use Rattle.tables.proofs.SoundFacts.{row-number, row-object, client-paired, client-object, server-object}
+use Rattle.closing.proofs.Facts.{end-at}
 use Rattle.history.specs.Demand3.{endsOf, TwoEnds}
 
 -- ---- what is picked by key from a list whose keys rise

@@ -8,9 +8,9 @@ use lib.Dec.{eqb}
 use Rattle.rows.specs.Lists.{member}
 use Rattle.rows.specs.Tables.{State, requestOf, numbers, marked, bears}
 use Rattle.rows.proofs.Bools.{false-of, clash, and-l, or-fl}
-use Rattle.rows.proofs.Sound.{Sound}
+use Rattle.tables.proofs.Sound.{Sound}
 use Rattle.closing.specs.Closing.{closes, closing, closeRequest}
-use Rattle.closing.proofs.KeptLookups.{left-keys}
+use Rattle.closing.proofs.Lookups.{left-keys}
 use Rattle.calls.specs.declared.Answer.{Answer}
 use Rattle.calls.specs.declared.Answer.the-variants.{Done, Made, Fetched, Told, Refused}
 use Rattle.calls.specs.Rules.{Out, refusedIf}

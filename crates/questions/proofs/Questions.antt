@@ -20,10 +20,10 @@ use Rattle.rows.specs.Layout.{rowSlot}
 use Rattle.questions.specs.contracts.Questions.{touches, Touched, Reaches, ViaReaches, PortReaches}
 use Rattle.rows.proofs.Bools.{false-of, clash, and-l, and-r, or-r, or-false, some-pos, pos-some, any-eq}
 use Rattle.rows.proofs.Keyed.{olderOf, each-first, older-first, older-key, rises-range}
-use Rattle.rows.proofs.Sound.{Sound, sound-open}
+use Rattle.tables.proofs.Sound.{Sound, sound-open}
 use Rattle.rows.proofs.RowSources.{Among, Shape, opening, registered, held, port-end, lent-copy, shape, shape-sources}
-use Rattle.rows.proofs.Marking.{marked-stands, marked-reaches, marked-closed}
-use Rattle.rows.proofs.Standing.{standing-shape, sources-older}
+use Rattle.tables.proofs.Marking.{marked-stands, marked-reaches, marked-closed}
+use Rattle.tables.proofs.Standing.{standing-shape, sources-older}
 use Rattle.rows.proofs.Slots.{slot-le, slot-there, represented-well, row-found, row-words, source-of, via-of}
 
 -- ---- what is asked of the row in slot i, in its words

@@ -1,12 +1,10 @@
--- Laws of the tables' definitions. One line a file:
+-- Laws that the code stands on: tests, lists, look-up, and the words. One line a file:
 -- laws of Bool tests and of lists tested element by element
 pub mod Bools
 -- look-up by key, keys that rise, older elements: for rows, requests and notes alike
 pub mod Keyed
 -- laws of lists of any elements: map, append, set, filter, members
 pub mod Lists
--- soundness as a record, a field a clause
-pub mod Sound
 -- words in padded columns: lengths, and what stands where
 pub mod LayoutColumns
 -- searches of a column, and the slot of what they find
@@ -15,16 +13,10 @@ pub mod Searches
 pub mod RowSources
 -- kinds and places: which exclude each other, what is in range
 pub mod Places
--- what sound tables tell of one row that is found and of one listed process
-pub mod SoundFacts
--- what awaits a fetch, and the requests that list it
-pub mod Awaits
 -- rows read back from the words that represent them
 pub mod LayoutRows
 -- requests and process records read back
 pub mod LayoutRequests
--- a sound state and the words that represent it
-pub mod LayoutWords
 -- slots over any key: where an element stands
 pub mod KeySlots
 -- the words that represent a state
@@ -35,12 +27,6 @@ pub mod RequestSlots
 pub mod Slots
 -- functions that agree on the elements of a list; the keys that a test keeps
 pub mod Agree
--- what is marked is the least set closed under "a source is marked"
-pub mod Marking
--- standing rows of sound tables: shapes, sources, rights; rows in nodes stay
-pub mod Standing
--- keys that rise: each element is found by its key, also among those that a test picks
-pub mod Picked
 -- what the searches find where the words represent a state
 pub mod Lookups
 -- process records in their words, one after the other

@@ -15,8 +15,6 @@ use Rattle.rows.specs.Sound.{rowsRise, requestsRise, rowsFit, requestsFi
 use Rattle.rows.specs.Layout.{rowColumns, requestColumns, requestsAt, nextAt, tablesLength, rowWord, requestWord, rowWords, requestWords, wordsOf, rowsIn, requestsIn}
 use Rattle.rows.specs.contracts.Represents.{sourcesOlder, laidWell, Represents}
 use Rattle.rows.proofs.Bools.{and-l, and-r}
-use Rattle.rows.proofs.Sound.{Sound}
-use Rattle.rows.proofs.Standing.{sources-older}
 use Rattle.rows.proofs.LayoutColumns.{getD-after, length-columns, columns-at, slots-in-use}
 use Rattle.rows.proofs.LayoutRows.{row-columns}
 use Rattle.rows.proofs.LayoutRequests.{request-columns}
@@ -43,11 +41,6 @@ well-open st w =
       items-few = search (and-l, and-r);
       sources-old = search (and-l, and-r);
     }
-
-pub sound-represents : (st : State) → Sound st → Represents (wordsOf st) st
-unfolding laidWell
-sound-represents st s =
-    record { well = rw (s .rows-rise, s .requests-rise, s .rows-fit, s .requests-fit, s .items-few) (sources-older st s); words = refl }
 
 module _ (st : State) (few-rows : length (st .rows) ≤ rowSlots) (few-requests : length (st .requests) ≤ requestSlots) where
   long-rows : length (rowWords rowColumns (st .rows)) ≡ requestsAt

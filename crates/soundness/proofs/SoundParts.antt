@@ -13,11 +13,10 @@ use Rattle.rows.specs.Layout.{rowColumns, requestColumns, requestsAt, nextAt, t
 use Rattle.rows.specs.contracts.Represents.{laidWell, Represents}
 use Rattle.soundness.specs.contracts.Laid.{Decides, RowsLaid, RequestsLaid}
 use Rattle.rows.proofs.Bools.{false-of, clash, bool-eq, and-l, and-r, and-i, not-t, not-f}
-use Rattle.rows.proofs.Sound.{Sound, sound-open, sound-close}
+use Rattle.tables.proofs.Sound.{Sound, sound-open, sound-close}
 use Rattle.rows.proofs.LayoutColumns.{list-same}
-use Rattle.rows.proofs.LayoutWords.{words-state}
+use Rattle.tables.proofs.Words.{words-state, sound-represents}
 use Rattle.rows.proofs.ProcessRecords.{length-in}
-use Rattle.rows.proofs.RepresentedWords.{sound-represents}
 use Rattle.soundness.proofs.LaidWords.{laid-represents, represented-rows-laid, represented-requests-laid}
 
 -- ---- the groups

@@ -16,7 +16,7 @@ use Rattle.rows.specs.Tables.{noRow, empty, rowOf, isListed, depthOver}
 use Rattle.rows.specs.Sound.{rowsRise, requestsRise, numbersApart, belowNext, nextInRange, rowsFit, requestsFit, recordsFit, objectInRange, objectsInRange, rightInRange, rightsInRange, placeInRange, placesInRange, fetchedInRange, isOpening, sourceRight, sourcesRight, depthRight, depthsRight, copyMatches, copiesMatch, recordInRange, recordsInRange, endPaired, endsPaired, portsStand, requestersListed, itemsFew, itemsApart, itemsLent, onePerPort, copyListed, copiesListed, olderFetched, awaitsFetch, same, systemHolds, processesPlaced}
 use Rattle.rows.proofs.Bools.{false-of, and-l, and-r, and-i, or-l, or-r, all-mono}
 use Rattle.rows.proofs.Keyed.{first-none, rises-range}
-use Rattle.rows.proofs.Sound.{Sound}
+use Rattle.tables.proofs.Sound.{Sound}
 use Rattle.rows.proofs.Places.{range-between, node-not-system}
 use Rattle.text.specs.declared.Entry.{Entry}
 use Rattle.text.specs.Opening.{Form, nodeForm, processForm, opens, openingOf, entryRow, withForm, openedFrom}

@@ -1,0 +1,214 @@
+-- ask: the clauses of rows and processes.
+use Prim.Native.Nat.{ℕ, suc, _+_, _<_, _≤_}
+use mathlib.Core.Bool.{Bool, true, false, not, cond, _&&_, _||_}
+use mathlib.Core.List.{List, [], _∷_}
+use mathlib.Core.Path.{_≡_, refl, sym, ap, _∙_}
+use mathlib.Core.Logic.{_⊎_, inl, inr}
+use lib.Dec.{eqb}
+use lib.ListN.{length, length-map}
+use borrow.Author.Tests.{eqb-true, le-leb}
+use native.Mathlib.Omega.{arith}
+use Rattle.rows.specs.declared.Row.{Row}
+use Rattle.rows.specs.Lists.{all, each, topOf, member, some}
+use Rattle.rows.specs.Limits.{processes, rowSlots}
+use Rattle.rows.specs.Codes.{isSubdirectory, isEnd, inClist, withSystem, isNode, isSystem}
+use Rattle.rows.specs.Tables.{State, noRow, rowOf, numbers, lists}
+use Rattle.rows.specs.Sound.{rowsRise, rowsFit, objectInRange, objectsInRange, rightInRange, rightsInRange, placeInRange, placesInRange, sourceRight, sourcesRight, depthRight, depthsRight, copyMatches, copiesMatch, isPairedWith, otherEnd, endPaired, endsPaired, copyListed, copiesListed, isFetched, awaitsFetch, same, systemHolds, processesPlaced}
+use Rattle.rows.proofs.Bools.{false-of, clash, and-l, or-map, not-f, all-mono, all-eq}
+use Rattle.rows.proofs.Keyed.{rises-map}
+use Rattle.tables.proofs.Sound.{Sound}
+use Rattle.rows.proofs.RowSources.{subdirectory-there, end-there}
+use Rattle.tables.proofs.SoundFacts.{row-below, rows-top, row-number, same-eq, placed-still}
+use Rattle.rows.proofs.Places.{clist-not-node, system-no-node, system-in-range, subdirectory-no-end}
+use Rattle.rows.proofs.Lists.{all-map}
+use Rattle.rows.specs.Setters.{withPlace}
+use Rattle.calls.specs.declared.Item.{Item}
+use Rattle.calls.specs.Rules.{notHeld}
+use Rattle.calls.specs.Loans.{copies, copyLent, newRequest}
+use Rattle.kept.proofs.Lists.{top-map}
+use Rattle.kept.proofs.Moved.{moved, mayMove, moved-same, moved-number, moved-stays, moved-goes, kind-same, depths-moved, copies-moved, objects-moved, rights-moved, paired-moved, sources-moved}
+use Rattle.kept.proofs.Loans.{of-rows, held-so}
+use Rattle.kept.proofs.AskItems.{isItem, listed}
+use Rattle.kept.proofs.AskList.{named-end}
+use Rattle.kept.proofs.AskStack.{row-stacked, length-stacked, rises-stacked, top-stacked, all-stacked, each-stacked}
+use Rattle.kept.proofs.AskCopy.{lendable, copy-object, copy-right, copy-place, copy-paired, copy-source, copy-depth, copy-matches, copy-listed, copy-held}
+use Rattle.kept.proofs.AskFacts.{Asked, lentRows, askedRows, asked, askedState, none-named, named-held, lists-named, lists-copy, lists-cases, old-found, request-old}
+
+module _ (st : State) (s : Sound st) (p c : ℕ) (is : List Item) (a : Asked st p c is) where
+  abbrev lo : ℕ
+  lo = suc (st .next)
+
+  abbrev hi : ℕ
+  hi = suc (st .next) + length (copies st is)
+
+  -- what holds of the old rows and of each copy
+  rows-all : (P : Row → Bool) → ((n : ℕ) (i : Item) → lendable st p c i ≡ true → lo ≤ n → n < hi → P (copyLent st c (st .next) n i) ≡ true) → all P (lentRows st is) ≡ true → all P (askedRows st c is) ≡ true
+  rows-all P h e = all-stacked st c (st .next) (lendable st p c) lo hi P h (copies st is) lo (lentRows st is) (a .lent) (omega arith) (omega arith) e
+
+  rows-each : (F : Row → List Row → Bool)
+      → ((n : ℕ) (i : Item) (rs : List Row) → lendable st p c i ≡ true → ((m : ℕ) → m < lo → rowOf rs m ≡ rowOf (lentRows st is) m) → F (copyLent st c (st .next) n i) rs ≡ true)
+      → each F (lentRows st is) ≡ true → each F (askedRows st c is) ≡ true
+  rows-each F h e =
+      each-stacked st c (st .next) (lendable st p c) lo hi F (lentRows st is) (λ n i rs g _ _ o. h n i rs g o) (copies st is) lo (lentRows st is) (a .lent) (omega arith) (omega arith) (λ m _. refl) e
+
+  -- ---- numbers
+  lent-top : topOf (λ r. r .number) (lentRows st is) < lo
+  lent-top = rw (top-map (λ r. r .number) noRow (moved (isItem st is) withSystem) (moved-number (isItem st is) withSystem) (st .rows)) (let t = rows-top st s in omega arith)
+
+  pub rows-top′ : topOf (λ r. r .number) (askedRows st c is) < hi
+  rows-top′ = top-stacked st c (st .next) (copies st is) lo (lentRows st is) lent-top
+
+  pub rows-rise : rowsRise (askedState st p c is) ≡ true
+  unfolding rowsRise
+  rows-rise =
+      rises-stacked st c (st .next) (copies st is) lo (lentRows st is) lent-top
+      (rises-map (λ r. r .number) (moved (isItem st is) withSystem) (moved-number (isItem st is) withSystem) (st .rows) ∙ s .rows-rise)
+
+  pub rows-fit : rowsFit (askedState st p c is) ≡ true
+  unfolding rowsFit
+  rows-fit =
+      let l : length (askedRows st c is) ≡ length (copies st is) + length (lentRows st is) = length-stacked st c (st .next) (copies st is) lo (lentRows st is) in
+      let k : length (lentRows st is) ≡ length (st .rows) = length-map (st .rows) (moved (isItem st is) withSystem) in
+      let room = a .rows-room in
+      le-leb (length (askedRows st c is)) rowSlots (omega arith)
+
+  -- ---- fields
+  pub objects-in-range : objectsInRange (askedState st p c is) ≡ true
+  unfolding objectsInRange
+  objects-in-range =
+      rows-all (objectInRange (st .processes)) (λ n i g _ _. copy-object st s p c (a .client) (isItem st is) (none-named st s p c is a) [] n i g)
+      (objects-moved (isItem st is) withSystem (none-named st s p c is a) (st .processes) (st .rows) ∙ s .objects-in-range)
+
+  pub rights-in-range : rightsInRange (askedState st p c is) ≡ true
+  unfolding rightsInRange
+  rights-in-range =
+      rows-all rightInRange (λ n i g _ _. copy-right st s p c (a .client) (isItem st is) (none-named st s p c is a) [] n i g)
+      (rights-moved (isItem st is) withSystem (none-named st s p c is a) (st .rows) ∙ s .rights-in-range)
+
+  pub places-in-range : placesInRange (askedState st p c is) ≡ true
+  unfolding placesInRange
+  places-in-range =
+      rows-all (placeInRange (st .processes)) (λ n i g _ _. copy-place st s p c (a .client) (isItem st is) (none-named st s p c is a) [] n i g)
+      (all-map (placeInRange (st .processes)) (moved (isItem st is) withSystem) (st .rows)
+      ∙ all-mono (placeInRange (st .processes)) (λ r. placeInRange (st .processes) (moved (isItem st is) withSystem r)) (λ r e. unfold moved in pick r (isItem st is (r .number)) e) (st .rows) (s .places-in-range))
+    where
+      pick : (r : Row) (b : Bool) → placeInRange (st .processes) r ≡ true → placeInRange (st .processes) (cond b (withPlace withSystem r) r) ≡ true
+      pick r true e = system-in-range (st .processes) (withPlace withSystem r) (unfold withPlace in refl)
+      pick r false e = e
+
+  -- ---- sources
+  may-move : all (mayMove (isItem st is)) (st .rows) ≡ true
+  unfolding mayMove
+  may-move = of-rows st s (mayMove (isItem st is)) (λ n m. pick n m (isItem st is n) refl)
+    where
+      pick : (n : ℕ) → member n (numbers (st .rows)) ≡ true → (b : Bool) → isItem st is n ≡ b
+          → not (isItem st is (rowOf (st .rows) n .number)) || (not (isNode (rowOf (st .rows) n .place)) && (isEnd (rowOf (st .rows) n .kind) || some (rowOf (st .rows) n .request))) ≡ true
+      pick n m true g =
+          let at : rowOf (st .rows) n .place ≡ inClist p = unfold notHeld in eqb-true (rowOf (st .rows) n .place) (inClist p) (not-f (eqb (rowOf (st .rows) n .place) (inClist p)) (named-held st s p c is a n g)) in
+          rw (row-number (st .rows) n m, g, at, clist-not-node p, named-end st is n g) refl
+      pick n m false g = rw (row-number (st .rows) n m, g) refl
+
+  pub sources-right : sourcesRight (askedState st p c is) ≡ true
+  unfolding sourcesRight
+  sources-right =
+      rows-each (sourceRight (asked st p c is ∷ st .requests))
+      (λ n i rs g o. copy-source st s p c (a .client) (isItem st is) (none-named st s p c is a) (listed st is (suc (st .next))) n i g rs o)
+      (sources-moved (isItem st is) withSystem (none-named st s p c is a) system-no-node (st .requests) (asked st p c is ∷ st .requests) (st .rows) may-move
+      (λ r e. ap (λ v. v .port) (request-old st s p c is a r e)) (unfold copiesListed in s .copies-listed) (s .sources-right))
+
+  pub depths-right : depthsRight (askedState st p c is) ≡ true
+  unfolding depthsRight
+  depths-right =
+      rows-each depthRight (λ n i rs g o. copy-depth st s p c (a .client) (isItem st is) (none-named st s p c is a) [] n i g rs o)
+      (depths-moved (isItem st is) withSystem (none-named st s p c is a) (st .rows) ∙ s .depths-right)
+
+  pub copies-match : copiesMatch (askedState st p c is) ≡ true
+  unfolding copiesMatch
+  copies-match =
+      rows-each copyMatches (λ n i rs g o. copy-matches st s p c (a .client) (isItem st is) (none-named st s p c is a) [] n i g rs o)
+      (copies-moved (isItem st is) withSystem (none-named st s p c is a) (st .rows) ∙ s .copies-match)
+
+  -- ---- ends
+  pub ends-paired : endsPaired (askedState st p c is) ≡ true
+  unfolding endsPaired
+  ends-paired =
+      all-mono (endPaired (lentRows st is)) (endPaired (askedRows st c is)) (λ r e. step r e) (askedRows st c is)
+      (rows-all (endPaired (lentRows st is)) (λ n i g _ _. copy-paired st s p c (a .client) (isItem st is) (none-named st s p c is a) [] n i g (lentRows st is))
+      (all-map (endPaired (lentRows st is)) (moved (isItem st is) withSystem) (st .rows)
+      ∙ all-eq (λ r. endPaired (lentRows st is) (moved (isItem st is) withSystem r)) (endPaired (st .rows)) (paired-moved (isItem st is) withSystem (none-named st s p c is a) (st .rows)) (st .rows)
+      ∙ s .ends-paired))
+    where
+      end-of : (r b : Row) → isPairedWith r b ≡ true → isEnd (b .kind) ≡ true
+      end-of r b e = unfold isPairedWith in and-l (isEnd (b .kind)) (eqb (r .object) (b .object) && eqb (r .source) (b .source)) e
+
+      other : (r : Row) → isPairedWith r (rowOf (lentRows st is) (otherEnd r)) ≡ true → isPairedWith r (rowOf (askedRows st c is) (otherEnd r)) ≡ true
+      other r e =
+          let k : isEnd (rowOf (st .rows) (otherEnd r) .kind) ≡ true = sym (ap isEnd (kind-same (isItem st is) withSystem (none-named st s p c is a) (st .rows) (otherEnd r))) ∙ end-of r (rowOf (lentRows st is) (otherEnd r)) e in
+          let (lo, hi) = row-below st s (otherEnd r) (end-there (st .rows) (otherEnd r) k) in
+          ap (isPairedWith r) (row-stacked st c (st .next) (copies st is) (suc (st .next)) (lentRows st is) (otherEnd r) (omega arith)) ∙ e
+
+      step : (r : Row) → endPaired (lentRows st is) r ≡ true → endPaired (askedRows st c is) r ≡ true
+      step r e = unfold endPaired in or-map (not (isEnd (r .kind))) (isPairedWith r (rowOf (lentRows st is) (otherEnd r))) (isPairedWith r (rowOf (askedRows st c is) (otherEnd r))) (other r) e
+
+  -- ---- loans
+  pub copies-listed : copiesListed (askedState st p c is) ≡ true
+  unfolding copiesListed
+  copies-listed =
+      rows-all (copyListed (asked st p c is ∷ st .requests))
+      (λ n i g l h. copy-listed st s p c (a .client) (isItem st is) (none-named st s p c is a) (listed st is (suc (st .next))) n i g (omega arith) (lists-copy st s p c is a n l h))
+      (all-map (copyListed (asked st p c is ∷ st .requests)) (moved (isItem st is) withSystem) (st .rows)
+      ∙ all-mono (copyListed (st .requests)) (λ r. copyListed (asked st p c is ∷ st .requests) (moved (isItem st is) withSystem r)) step (st .rows) (s .copies-listed))
+    where
+      step : (r : Row) → copyListed (st .requests) r ≡ true → copyListed (asked st p c is ∷ st .requests) (moved (isItem st is) withSystem r) ≡ true
+      step r e =
+          moved-same (isItem st is) withSystem (copyListed (asked st p c is ∷ st .requests)) (λ r. unfold copyListed withPlace in refl) r
+          ∙ (unfold copyListed in rw (request-old st s p c is a r e) e)
+
+  pub system-holds : systemHolds (askedState st p c is) ≡ true
+  unfolding systemHolds
+  system-holds =
+      rows-all holds
+      (λ n i g l h. copy-held st s p c (a .client) (isItem st is) (none-named st s p c is a) (listed st is (suc (st .next))) n i g (omega arith) (lists-copy st s p c is a n l h))
+      (all-map holds (moved (isItem st is) withSystem) (st .rows) ∙ of-rows st s (λ r. holds (moved (isItem st is) withSystem r)) (λ n m. pick n m (isItem st is n) refl))
+    where
+      holds : Row → Bool
+      holds r = same (isSystem (r .place)) (awaitsFetch (asked st p c is ∷ st .requests) (r .number))
+
+      at-system : isSystem withSystem ≡ true
+      at-system = unfold isSystem withSystem in refl
+
+      awaited : (n : ℕ) → isItem st is n ≡ true → awaitsFetch (asked st p c is ∷ st .requests) n ≡ true
+      awaited n g = unfold awaitsFetch in rw (lists-named st s p c is a n g) (unfold isFetched newRequest in refl)
+
+      unlisted : (n : ℕ) → n < st .next → isItem st is n ≡ false → lists n (asked st p c is) ≡ false
+      unlisted n h g = false-of (lists n (asked st p c is)) (λ t. neither (lists-cases st s p c is a n t))
+        where
+          neither : (isItem st is n ≡ true) ⊎ ((suc (st .next) ≤ n) × (n < suc (st .next) + length (copies st is))) → ⊥
+          neither (inl q) = clash q g
+          neither (inr (l, u)) = omega arith
+
+      as-before : (n : ℕ) → n < st .next → isItem st is n ≡ false → awaitsFetch (asked st p c is ∷ st .requests) n ≡ awaitsFetch (st .requests) n
+      as-before n h g = unfold awaitsFetch in rw (unlisted n h g) refl
+
+      pick : (n : ℕ) → member n (numbers (st .rows)) ≡ true → (b : Bool) → isItem st is n ≡ b → holds (moved (isItem st is) withSystem (rowOf (st .rows) n)) ≡ true
+      pick n m true g =
+          same-eq (isSystem (moved (isItem st is) withSystem (rowOf (st .rows) n) .place)) (awaitsFetch (asked st p c is ∷ st .requests) (moved (isItem st is) withSystem (rowOf (st .rows) n) .number))
+          (ap isSystem (moved-goes (isItem st is) withSystem (rowOf (st .rows) n) (ap (isItem st is) (row-number (st .rows) n m) ∙ g))
+          ∙ at-system
+          ∙ sym (ap (awaitsFetch (asked st p c is ∷ st .requests)) (moved-number (isItem st is) withSystem (rowOf (st .rows) n) ∙ row-number (st .rows) n m) ∙ awaited n g))
+      pick n m false g =
+          rw (moved-stays (isItem st is) withSystem (rowOf (st .rows) n) (ap (isItem st is) (row-number (st .rows) n m) ∙ g))
+          (rw (row-number (st .rows) n m, as-before n (row-below st s n m .1) g) (held-so st s n m))
+
+  -- ---- processes
+  pub processes-placed : processesPlaced (askedState st p c is) ≡ true
+  unfolding processesPlaced
+  processes-placed =
+      placed-still st s (askedRows st c is) stays
+    where
+      stays : (e k : ℕ) → k ≤ 64 → isSubdirectory (rowOf (st .rows) e .kind) ≡ true → rowOf (st .rows) e .place ≡ inClist k → rowOf (askedRows st c is) e ≡ rowOf (st .rows) e
+      stays e k u sub at =
+          let m : member e (numbers (st .rows)) ≡ true = subdirectory-there (st .rows) e sub in
+          let below : e < st .next = row-below st s e m .1 in
+          let g : isItem st is e ≡ false = false-of (isItem st is e) (λ g. clash (named-end st is e g) (subdirectory-no-end (rowOf (st .rows) e .kind) sub)) in
+          old-found st s p c is a e (omega arith) ∙ moved-stays (isItem st is) withSystem (rowOf (st .rows) e) (ap (isItem st is) (row-number (st .rows) e m) ∙ g)

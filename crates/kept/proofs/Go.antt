@@ -1,0 +1,127 @@
+-- go keeps the tables sound: only the caller's record changes, and not its prime node.
+use Prim.Native.Nat.{ℕ, zero, suc, _+_, _-_, _<_}
+use mathlib.Core.Bool.{Bool, true, false, cond, _&&_}
+use mathlib.Core.List.{List, [], _∷_}
+use mathlib.Core.Path.{_≡_, refl, ap, _∙_}
+use lib.Dec.{eqb}
+use lib.ListN.{getD, set, length-set}
+use native.Mathlib.Omega.{arith}
+use Rattle.rows.specs.declared.Row.{Row}
+use Rattle.rows.specs.declared.Process.{Process}
+use Rattle.rows.specs.Lists.{between, some}
+use Rattle.rows.specs.Limits.{processes, nodes}
+use Rattle.rows.specs.Codes.{isSubdirectory, inClist, isNode, ownerOf}
+use Rattle.rows.specs.Tables.{State, noProcess, rowOf, processAt, isListed}
+use Rattle.rows.specs.Sound.{rowsRise, requestsRise, numbersApart, belowNext, nextInRange, rowsFit, requestsFit, recordsFit, objectInRange, objectsInRange, rightsInRange, placeInRange, placesInRange, fetchedInRange, sourcesRight, depthsRight, copiesMatch, recordUnused, recordInRange, recordsInRange, endsPaired, portsStand, requestersListed, itemsFew, itemsApart, itemsLent, onePerPort, copiesListed, olderFetched, systemHolds, processPlaced, placedFrom, processesPlaced}
+use Rattle.rows.proofs.Bools.{and-l, and-r, and-i, or-l, or-r, not-f, eqb-self, pos-some, all-eq}
+use Rattle.tables.proofs.Sound.{Sound}
+use Rattle.tables.proofs.SoundFacts.{row-below, listed-range, prime-node, row-object, subdirectory-node, clist-there}
+use Rattle.rows.proofs.Lists.{all-set}
+use Rattle.calls.specs.Rules.{Out, notHeld, withRecord}
+use Rattle.calls.specs.Calls.{done, goHome, goThrough, doGo}
+use Rattle.kept.proofs.AddRow.{unless}
+
+-- ---- the records with one replaced
+prime-set : (xs : List Process) (i : ℕ) (x : Process) → x .prime ≡ getD xs i noProcess .prime → (j : ℕ) → getD (set xs i x) j noProcess .prime ≡ getD xs j noProcess .prime
+prime-set [] i x e j = refl
+prime-set (y ∷ xs) zero x e zero = e
+prime-set (y ∷ xs) zero x e (suc j) = refl
+prime-set (y ∷ xs) (suc i) x e zero = refl
+prime-set (y ∷ xs) (suc i) x e (suc j) = prime-set xs i x e j
+
+placed-set : (rs : List Row) (xs : List Process) (k i p : ℕ) (x : Process) → p ≡ k + i → placedFrom rs k xs ≡ true → processPlaced rs p x ≡ true → placedFrom rs k (set xs i x) ≡ true
+unfolding placedFrom
+placed-set rs [] k i p x e t h = refl
+placed-set rs (y ∷ xs) k zero p x e t h =
+    let z : k ≡ p = omega arith in
+    and-i (processPlaced rs k x) (placedFrom rs (suc k) xs) (ap (λ n. processPlaced rs n x) z ∙ h) (and-r (processPlaced rs k y) (placedFrom rs (suc k) xs) t)
+placed-set rs (y ∷ xs) k (suc i) p x e t h =
+    and-i (processPlaced rs k y) (placedFrom rs (suc k) (set xs i x)) (and-l (processPlaced rs k y) (placedFrom rs (suc k) xs) t)
+    (placed-set rs xs (suc k) i p x (omega arith) (and-r (processPlaced rs k y) (placedFrom rs (suc k) xs) t) h)
+
+-- ---- the same processes are listed
+module _ (ps qs : List Process) (same : (q : ℕ) → isListed qs q ≡ isListed ps q) where
+  object-same : (r : Row) → objectInRange qs r ≡ objectInRange ps r
+  unfolding objectInRange
+  object-same r = rw (same (r .object)) refl
+
+  place-same : (r : Row) → placeInRange qs r ≡ placeInRange ps r
+  unfolding placeInRange
+  place-same r = rw (same (ownerOf (r .place))) refl
+
+-- ---- a record replaced by one that is right, with the same prime node
+module _ (st : State) (s : Sound st) (p : ℕ) (l : isListed (st .processes) p ≡ true) (x : Process) (e : x .prime ≡ processAt (st .processes) p .prime) where
+  listed-set : (q : ℕ) → isListed (set (st .processes) (p - 1) x) q ≡ isListed (st .processes) q
+  unfolding isListed processAt
+  listed-set zero = refl
+  listed-set (suc j) = ap some (go p (listed-range st s p l .0) e)
+    where
+      go : (p : ℕ) → 0 < p → x .prime ≡ processAt (st .processes) p .prime → getD (set (st .processes) (p - 1) x) j noProcess .prime ≡ getD (st .processes) j noProcess .prime
+      go zero h e = absurd (omega arith)
+      go (suc i) h e = let z : suc i - 1 ≡ i = omega arith in rw z (prime-set (st .processes) i x e j)
+
+  record-kept : isNode (x .active) ≡ true → processPlaced (st .rows) p x ≡ true → Sound (withRecord p x st)
+  unfolding withRecord rowsRise requestsRise numbersApart belowNext nextInRange rowsFit requestsFit recordsFit objectsInRange rightsInRange placesInRange fetchedInRange sourcesRight depthsRight copiesMatch recordInRange recordsInRange endsPaired portsStand requestersListed itemsFew itemsApart itemsLent onePerPort copiesListed olderFetched systemHolds processesPlaced isNode
+  record-kept n h =
+      let ps = st .processes in
+      let qs = set ps (p - 1) x in
+      let (lo, hi) = listed-range st s p l in
+      record {
+        rows-rise = s .rows-rise;
+        requests-rise = s .requests-rise;
+        numbers-apart = s .numbers-apart;
+        below-next = s .below-next;
+        next-in-range = s .next-in-range;
+        rows-fit = s .rows-fit;
+        requests-fit = s .requests-fit;
+        records-fit = rw (length-set ps (p - 1) x) (s .records-fit);
+        objects-in-range = all-eq (objectInRange qs) (objectInRange ps) (object-same ps qs listed-set) (st .rows) ∙ s .objects-in-range;
+        rights-in-range = s .rights-in-range;
+        places-in-range = all-eq (placeInRange qs) (placeInRange ps) (place-same ps qs listed-set) (st .rows) ∙ s .places-in-range;
+        fetched-in-range = s .fetched-in-range;
+        sources-right = s .sources-right;
+        depths-right = s .depths-right;
+        copies-match = s .copies-match;
+        records-in-range =
+            all-set recordInRange ps (p - 1) x (s .records-in-range)
+            (or-r (recordUnused x) _ (and-i (between 1 nodes (x .prime)) (between 1 nodes (x .active)) (ap isNode e ∙ prime-node st s p l) n));
+        ends-paired = s .ends-paired;
+        ports-stand = s .ports-stand;
+        requesters-listed = all-eq (λ v. isListed qs (v .asker)) (λ v. isListed ps (v .asker)) (λ v. listed-set (v .asker)) (st .requests) ∙ s .requesters-listed;
+        items-few = s .items-few;
+        items-apart = s .items-apart;
+        items-lent = s .items-lent;
+        one-per-port = s .one-per-port;
+        copies-listed = s .copies-listed;
+        older-fetched = s .older-fetched;
+        system-holds = s .system-holds;
+        processes-placed = placed-set (st .rows) ps 1 (p - 1) p x (omega arith) (s .processes-placed) h;
+      }
+
+-- ---- go
+module _ (st : State) (s : Sound st) (p : ℕ) (l : isListed (st .processes) p ≡ true) where
+  home-kept : Sound (goHome st p)
+  unfolding goHome processPlaced
+  home-kept =
+      let x = processAt (st .processes) p in
+      let y : Process = record { prime = x .prime; active = x .prime; through = 0 } in
+      record-kept st s p l y refl (prime-node st s p l) (or-l (eqb (x .prime) (x .prime)) _ (eqb-self (x .prime)))
+
+  through-kept : (e : ℕ) → eqb (rowOf (st .rows) e .place) (inClist p) ≡ true → isSubdirectory (rowOf (st .rows) e .kind) ≡ true → Sound (goThrough st p e)
+  unfolding goThrough processPlaced
+  through-kept e h k =
+      let r = rowOf (st .rows) e in
+      let there = clist-there (st .rows) p e h in
+      let x : Process = record { prime = processAt (st .processes) p .prime; active = r .object; through = e } in
+      record-kept st s p l x refl (subdirectory-node (st .processes) r (row-object st s e there) k)
+      (or-r (eqb e 0 && eqb (x .active) (x .prime)) _
+      (and-i (some e) _ (pos-some e (row-below st s e there .0)) (and-i (isSubdirectory (r .kind)) _ k (and-i (eqb (r .place) (inClist p)) _ h (eqb-self (r .object))))))
+
+either-kept : (b : Bool) (o o′ : Out) → Sound (o .after) → Sound (o′ .after) → Sound (cond b o o′ .after)
+either-kept true o o′ p q = p
+either-kept false o o′ p q = q
+
+pub go-kept : (st : State) → Sound st → (p e : ℕ) → isListed (st .processes) p ≡ true → Sound (doGo st p e .after)
+unfolding doGo done notHeld
+go-kept st s p e l =
+    either-kept (eqb e 0) _ _ (home-kept st s p l) (unless _ _ 7 s λ e7. unless _ _ 8 s λ e8. through-kept st s p l e (not-f _ e7) (not-f _ e8))

@@ -1,0 +1,167 @@
+-- Standing rows of sound tables: their shapes, sources and rights, looked up among all rows instead of the older ones; rows in nodes stay.
+use Prim.Native.Nat.{ℕ, _<_}
+use mathlib.Core.Bool.{Bool, true, false, not, cond, _&&_, _||_}
+use mathlib.Core.List.{List, [], _∷_}
+use mathlib.Core.Path.{_≡_, refl}
+use mathlib.Core.Logic.{_⊎_, inl, inr, ⊎-elim}
+use native.Mathlib.Omega.{arith}
+use borrow.Author.Tests.{eqb-true, ne-eqb, leb-true}
+use lib.Dec.{leb, eqb}
+use Rattle.rows.specs.declared.Row.{Row}
+use Rattle.rows.specs.declared.Request.{Request}
+use Rattle.rows.specs.Lists.{filter, any, all, each, member, between, some, nonzero}
+use Rattle.rows.specs.Limits.{nodes}
+use Rattle.rows.specs.Codes.{isEnd, inClist, isNode, isClist, within}
+use Rattle.rows.specs.Tables.{State, noRow, rowOf, numbers, sources, marked}
+use Rattle.rows.specs.Sound.{rowsRise, isOpening, isRegistered, isHeld, isPortEnd, isLentCopy, sourceRight, sourcesRight, copyMatches, copiesMatch}
+use Rattle.rows.proofs.Bools.{false-of, clash, not-t, and-l, and-r, and-i, some-pos, member-here, member-there}
+use Rattle.rows.proofs.Keyed.{olderOf, each-first, older-first, older-key, rises-range}
+use Rattle.tables.proofs.Sound.{Sound}
+use Rattle.rows.proofs.RowSources.{Among, Shape, opening, registered, held, port-end, lent-copy, shape, shape-sources}
+use Rattle.rows.specs.contracts.Represents.{sourcesOlder}
+use Rattle.tables.proofs.Marking.{marked-least}
+
+module _ (st : State) (s : Sound st) (n : ℕ) (t : member n (numbers (st .rows)) ≡ true) where
+  older : List Row
+  older = olderOf (λ r. r .number) (st .rows) n
+
+  right : sourceRight (st .requests) (rowOf (st .rows) n) older ≡ true
+  unfolding sourcesRight rowOf numbers older
+  right = each-first (λ r. r .number) noRow (sourceRight (st .requests)) (st .rows) (s .sources-right) n t
+
+  -- what is among the older rows has a lower number
+  lower : (m : ℕ) → Among older m → m < n
+  unfolding rowsRise numbers older
+  lower m (inl z) = let (lo, hi) = rises-range (λ r. r .number) (st .rows) (s .rows-rise) n t in omega arith
+  lower m (inr u) = older-key (λ r. r .number) (st .rows) (s .rows-rise) n m t u .0
+
+  look-older : (m : ℕ) → m < n → rowOf older m ≡ rowOf (st .rows) m
+  unfolding rowsRise rowOf numbers older
+  look-older m h = older-first (λ r. r .number) noRow (st .rows) (s .rows-rise) n t m h
+
+  -- the sources are 0 or older
+  pub source-lower : (rowOf (st .rows) n .source) < n
+  source-lower = lower (rowOf (st .rows) n .source) (shape-sources (st .requests) (rowOf (st .rows) n) older (shape (st .requests) (rowOf (st .rows) n) older right) .0)
+
+  pub via-lower : (rowOf (st .rows) n .via) < n
+  via-lower = lower (rowOf (st .rows) n .via) (shape-sources (st .requests) (rowOf (st .rows) n) older (shape (st .requests) (rowOf (st .rows) n) older right) .1)
+
+  pub standing-shape : Shape (st .requests) (st .rows) (rowOf (st .rows) n)
+  unfolding sourceRight isRegistered isHeld isPortEnd isLentCopy
+  standing-shape =
+      shape (st .requests) (rowOf (st .rows) n) (st .rows)
+      (rw (look-older (rowOf (st .rows) n .source) source-lower, look-older (rowOf (st .rows) n .via) via-lower) at right)
+
+  copied : copyMatches (rowOf (st .rows) n) older ≡ true
+  unfolding copiesMatch rowOf numbers older
+  copied = each-first (λ r. r .number) noRow copyMatches (st .rows) (s .copies-match) n t
+
+  pub standing-copy : copyMatches (rowOf (st .rows) n) (st .rows) ≡ true
+  unfolding copyMatches
+  standing-copy = rw (look-older (rowOf (st .rows) n .source) source-lower) at copied
+
+-- ---- sources
+-- 0, or what passes
+kept-one : (P : ℕ → Bool) (a : ℕ) (ns : List ℕ) → (a ≡ 0) ⊎ (P a ≡ true) → all P (nonzero ns) ≡ true → all P (nonzero (a ∷ ns)) ≡ true
+unfolding nonzero filter all some
+kept-one P a ns (inl z) e = rw z e
+kept-one P a ns (inr u) e = pick (some a)
+  where
+    pick : (b : Bool) → all P (cond b (a ∷ filter some ns) (filter some ns)) ≡ true
+    pick true = and-i (P a) (all P (filter some ns)) u e
+    pick false = e
+
+each-mono : {A : Type 0} (F G : A → List A → Bool) → ((x : A) (xs : List A) → F x xs ≡ true → G x xs ≡ true) → (xs : List A) → each F xs ≡ true → each G xs ≡ true
+unfolding each
+each-mono F G h [] e = refl
+each-mono F G h (x ∷ xs) e = and-i (G x xs) (each G xs) (h x xs (and-l (F x xs) (each F xs) e)) (each-mono F G h xs (and-r (F x xs) (each F xs) e))
+
+pub sources-older : (st : State) → Sound st → sourcesOlder (st .rows) ≡ true
+unfolding sourcesOlder sourcesRight sources nonzero filter all
+sources-older st s =
+    each-mono (sourceRight (st .requests)) (λ r rs. all (λ s. member s (numbers rs)) (sources r))
+    (λ r rs e.
+    let (a, b) = shape-sources (st .requests) r rs (shape (st .requests) r rs e) in
+    kept-one (λ s. member s (numbers rs)) (r .source) (r .via ∷ []) a (kept-one (λ s. member s (numbers rs)) (r .via) [] b refl))
+    (st .rows) (s .sources-right)
+
+pub via-listed : (r : Row) → some (r .via) ≡ true → member (r .via) (sources r) ≡ true
+unfolding sources nonzero filter
+via-listed r e = pick (some (r .source))
+  where
+    pick : (b : Bool) → member (r .via) (cond b (r .source ∷ filter some (r .via ∷ [])) (filter some (r .via ∷ []))) ≡ true
+    pick true = rw e (member-there (r .via) (r .source) (r .via ∷ []) (member-here (r .via) []))
+    pick false = rw e (member-here (r .via) [])
+
+-- ---- rights
+-- "a copy has .. rights within it": the source of a row that is no end stands, and has all its rights
+pub rights-within : (st : State) → Sound st → (n : ℕ) → member n (numbers (st .rows)) ≡ true
+    → isEnd (rowOf (st .rows) n .kind) ≡ false → some (rowOf (st .rows) n .source) ≡ true
+    → (member (rowOf (st .rows) n .source) (numbers (st .rows)) ≡ true)
+    × (within (rowOf (st .rows) n .rights) (rowOf (st .rows) (rowOf (st .rows) n .source) .rights) ≡ true)
+unfolding copyMatches
+rights-within st s n t no-end some-source =
+    let r = rowOf (st .rows) n in
+    let o = rowOf (st .rows) (r .source) in
+    let pos = some-pos (r .source) some-source in
+    let none : eqb (r .source) 0 ≡ false = ne-eqb (r .source) 0 (λ e. omega arith) in
+    let copy : eqb (r .kind) (o .kind) && (eqb (r .object) (o .object) && (eqb (r .operation) (o .operation) && within (r .rights) (o .rights))) ≡ true
+    = rw (none, no-end) at (standing-copy st s n t) in (
+      ⊎-elim (λ z. absurd (omega arith)) (λ u. u) (shape-sources (st .requests) r (st .rows) (standing-shape st s n t) .0),
+      (search (and-l, and-r)),
+    )
+
+-- ---- rows in nodes
+none-one : (P : ℕ → Bool) (a : ℕ) (ns : List ℕ) → (a ≡ 0) ⊎ (P a ≡ false) → any P (nonzero ns) ≡ false → any P (nonzero (a ∷ ns)) ≡ false
+unfolding nonzero filter any some
+none-one P a ns (inl z) e = rw z e
+none-one P a ns (inr u) e = pick (some a)
+  where
+    pick : (b : Bool) → any P (cond b (a ∷ filter some ns) (filter some ns)) ≡ false
+    pick true = rw u e
+    pick false = e
+
+node-no-clist : (p : ℕ) → isNode p ≡ true → isClist p ≡ true → ⊥
+unfolding isNode isClist between inClist nodes
+node-no-clist p e d =
+    let lo : leb 101 p ≡ true = search and-l in
+    let hi : leb p 32 ≡ true = search and-r in
+    omega (arith, leb-true 101 p lo, leb-true p 32 hi)
+
+-- the sources of a row in a node are in nodes
+node-sources : (vs : List Request) (rs : List Row) (r : Row) → Shape vs rs r → isNode (r .place) ≡ true → any (λ m. not (isNode (rowOf rs m .place))) (sources r) ≡ false
+unfolding sources any nonzero filter isOpening isRegistered isHeld isPortEnd isLentCopy
+node-sources vs rs r h e = none-one P (r .source) (r .via ∷ []) (both h .0) (none-one P (r .via) [] (both h .1) refl)
+  where
+    P : ℕ → Bool
+    P m = not (isNode (rowOf rs m .place))
+
+    both : Shape vs rs r → ((r .source ≡ 0) ⊎ (P (r .source) ≡ false)) × ((r .via ≡ 0) ⊎ (P (r .via) ≡ false))
+    both (opening d) =
+        let a : eqb (r .source) 0 ≡ true = search (and-l, and-r) in
+        let b : eqb (r .via) 0 ≡ true = search (and-l, and-r) in
+        (inl (eqb-true (r .source) 0 a), inl (eqb-true (r .via) 0 b))
+    both (registered d) =
+        let a : isNode (rowOf rs (r .source) .place) ≡ true = search (and-l, and-r) in
+        let b : eqb (r .via) 0 ≡ true = search (and-l, and-r) in
+        (inr (rw a refl), inl (eqb-true (r .via) 0 b))
+    both (held d) = let a : isClist (r .place) ≡ true = search and-l in absurd (node-no-clist (r .place) e a)
+    both (port-end d) = let a : not (isNode (r .place)) ≡ true = search (and-l, and-r) in clash e (not-t (isNode (r .place)) a)
+    both (lent-copy d) = let a : not (isNode (r .place)) ≡ true = search (and-l, and-r) in clash e (not-t (isNode (r .place)) a)
+
+-- where no row in a node passes the test, none is marked: "rows of nodes never vanish"
+pub nodes-stay : (st : State) → Sound st → (f : Row → Bool)
+    → ((n : ℕ) → member n (numbers (st .rows)) ≡ true → isNode (rowOf (st .rows) n .place) ≡ true → f (rowOf (st .rows) n) ≡ false)
+    → (n : ℕ) → isNode (rowOf (st .rows) n .place) ≡ true → member n (marked f (st .rows)) ≡ false
+unfolding rowsRise
+nodes-stay st s f seed n e =
+    false-of _ (λ m. clash e (not-t (isNode (rowOf (st .rows) n .place)) (marked-least f (λ n. not (isNode (rowOf (st .rows) n .place))) (st .rows) (s .rows-rise) closed n m)))
+  where
+    closed : (n : ℕ) → member n (numbers (st .rows)) ≡ true
+        → f (rowOf (st .rows) n) || any (λ m. not (isNode (rowOf (st .rows) m .place))) (sources (rowOf (st .rows) n)) ≡ true
+        → not (isNode (rowOf (st .rows) n .place)) ≡ true
+    closed n t h = pick (isNode (rowOf (st .rows) n .place)) refl
+      where
+        pick : (b : Bool) → isNode (rowOf (st .rows) n .place) ≡ b → not b ≡ true
+        pick true q = clash h (rw (seed n t q, node-sources (st .requests) (st .rows) (rowOf (st .rows) n) (standing-shape st s n t) q) refl)
+        pick false q = refl
