@@ -25,9 +25,9 @@ extern "C" {
     pub fn kernel_lent(t: *const u32, t_len: usize, e: usize) -> bool;
 
     // rights.rt
-    pub fn kernel_rights_empty(a: u8) -> bool;
-    pub fn kernel_rights_within(a: u8, b: u8) -> bool;
-    pub fn kernel_rights_contain(a: u8, right: u8) -> bool;
+    pub fn kernel_rights_empty(a: u32) -> bool;
+    pub fn kernel_rights_within(a: u32, b: u32) -> bool;
+    pub fn kernel_rights_contain(a: u32, right: u32) -> bool;
 
     // changing.rt
     pub fn kernel_set_place(t: *mut u32, t_len: usize, i: usize, place: u32);

@@ -2,14 +2,14 @@
 
 use crate::raw;
 
-pub fn empty(rights: u8) -> bool {
+pub fn empty(rights: u32) -> bool {
     unsafe { raw::kernel_rights_empty(rights) }
 }
 
-pub fn within(rights: u8, others: u8) -> bool {
+pub fn within(rights: u32, others: u32) -> bool {
     unsafe { raw::kernel_rights_within(rights, others) }
 }
 
-pub fn contain(rights: u8, right: u8) -> bool {
+pub fn contain(rights: u32, right: u32) -> bool {
     unsafe { raw::kernel_rights_contain(rights, right) }
 }

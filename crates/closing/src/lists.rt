@@ -2,6 +2,7 @@
 use changes::change;
 use rows::Found;
 use rows::Request;
+use rows::codes::clist;
 use rows::find;
 use rows::layout::ITEMS;
 use rows::layout::ROWS;
@@ -15,7 +16,6 @@ ghost use Prim.Native.Nat.{ℕ, _≤_, _<_};
 ghost use lib.ListN.{length};
 ghost use Rattle.rows.specs.declared.Request.{Request};
 ghost use Rattle.rows.specs.Lists.{all, member, pad, some, nonzero};
-ghost use Rattle.rows.specs.Codes.{inClist};
 ghost use Rattle.rows.specs.Tables.{State, numbers};
 ghost use Rattle.rows.specs.Sound.{sound};
 ghost use Rattle.rows.specs.contracts.Represents.{Represents};
@@ -23,16 +23,6 @@ ghost use Rattle.rows.specs.Setters.{withRequests};
 ghost use Rattle.changes.specs.contracts.Marks.{tested, marksOf};
 ghost use Rattle.closing.specs.contracts.Lists.{slotMarks, WentBack, itemOut, itemsOut, SettledTo, listsSettled};
 ghost use Rattle.rows.specs.contracts.Sizes.{ROWS, REQUESTS, PROCESSES, ITEMS, IsTables};
-
-// The place of a process's c-list; 0 for what is no process. Ruled out: the process's own number; the c-list of the next one.
-pub fn clist(p: u32) -> u32
-    ensures { λ r. ⌜ (p ≤ PROCESSES → r ≡ inClist p) ⌝ }
-{
-    if p <= 64 {
-        return 100 + p;
-    }
-    0
-}
 
 // One item of a closed request: its row goes to a c-list, unless an older closed request sent it back.
 fn item_back(t: &mut [u32], n: usize, e: u32, asker: u32, back: &mut RowMarks)

@@ -35,7 +35,7 @@ pub struct Process {
 }
 
 // The rights (capcaps) of a row: a sum of hold 1, transfer 2 and register 4.
-pub struct Rights(pub u8);
+pub struct Rights(pub u32);
 
 // What a look-up answers: the slot of a row or request in its table.
 pub enum Found {

@@ -1,4 +1,5 @@
 // The clauses of soundness of one row, each named as in specs/Sound.antt. The row comes as its slot's words: x; s and v are its sources.
+use rows::Rights;
 use rows::Row;
 use rows::codes::A_CLIENT_END;
 use rows::codes::A_SERVER_END;
@@ -6,13 +7,14 @@ use rows::codes::A_SUBDIRECTORY;
 use rows::codes::ALL_RIGHTS;
 use rows::codes::AN_OPERATION;
 use rows::codes::BEFORE_CLISTS;
-use rows::codes::FIRST_CLIST;
 use rows::codes::GREATEST_DEPTH;
 use rows::codes::LAST_CLIST;
-use rows::codes::LAST_NODE;
 use rows::codes::LAST_OPERATION;
 use rows::codes::THE_SYSTEM;
+use rows::codes::is_clist;
+use rows::codes::is_copied;
 use rows::codes::is_end;
+use rows::codes::is_node;
 use rows::records::listed;
 ghost use mathlib.Core.Bool.{_||_};
 ghost use mathlib.Core.List.{List};
@@ -22,42 +24,13 @@ ghost use lib.Dec.{eqb};
 ghost use lib.ListN.{length};
 ghost use Rattle.rows.specs.declared.Row.{Row};
 ghost use Rattle.rows.specs.declared.Request.{Request};
-ghost use Rattle.rows.specs.Codes.{isCopied, isNode, isClist, within as isWithin};
 ghost use Rattle.rows.specs.Tables.{requestOf, lists};
 ghost use Rattle.rows.specs.Sound.{objectInRange, rightInRange, placeInRange, isOpening, isRegistered, isHeld, isPortEnd, isLentCopy, sourceRight, depthRight, copyMatches, isPairedWith, copyListed};
 ghost use Rattle.rows.specs.Layout.{recordsIn};
 ghost use Rattle.soundness_rows.specs.contracts.Seen.{Seen};
 ghost use Rattle.rows.specs.contracts.Sizes.{IsRecords};
 
-// ---- codes
-// An operation or a subdirectory. Ruled out: an end; any other code.
-pub fn is_copied(kind: u32) -> bool
-    ensures { λ r. ⌜ r ≡ isCopied kind ⌝ }
-{
-    (kind == AN_OPERATION) | (kind == A_SUBDIRECTORY)
-}
-
-// Ruled out: place 0; place 33.
-pub fn is_node(place: u32) -> bool
-    ensures { λ r. ⌜ r ≡ isNode place ⌝ }
-{
-    (1 <= place) & (place <= LAST_NODE)
-}
-
-// Ruled out: place 100; place 165.
-fn is_clist(place: u32) -> bool
-    ensures { λ r. ⌜ r ≡ isClist place ⌝ }
-{
-    (FIRST_CLIST <= place) & (place <= LAST_CLIST)
-}
-
-// Each right of a is one of b: the three low bits decide. Ruled out: a right that b lacks; the sides swapped.
-fn within(a: u32, b: u32) -> bool
-    ensures { λ r. ⌜ r ≡ isWithin a b ⌝ }
-{
-    (a & b) % 8 == a % 8
-}
-
+// ---- numbers
 // The next number. Ruled out: the same number; a sum that wraps to 0.
 pub fn follows(a: u32, b: u32) -> bool
     ensures { λ r. ⌜ r ≡ eqb (suc a) b ⌝ }
@@ -202,7 +175,8 @@ pub fn copy_matches(x: Row, s: Row, v: Row) -> bool
     ensures { λ r. ⌜ ((y : Row) (rs : List Row) → Seen x s v y rs → r ≡ copyMatches y rs) ⌝ }
 {
     let end = is_end(x.kind);
-    let rights = within(x.rights, s.rights);
+    let own = Rights(x.rights);
+    let rights = own.within(Rights(s.rights));
     let same = (x.kind == s.kind)
         & ((x.object == s.object) & ((x.operation == s.operation) & rights));
     (x.source == 0) | (end | same)

@@ -1,8 +1,8 @@
--- `lists::clist`: a sum that fits where the process is one.
+-- `codes::clist`: a sum that fits where the process is one.
 use borrow.Author.Needs.{needs}
 use Rattle.rows.specs.Codes.{inClist}
-use Rattle.closing.proofs.lists.clist.Statement.{statement}
-use Rattle.closing.proofs.lists.clist.Tie as tie
+use Rattle.rows.proofs.codes.clist.Statement.{statement}
+use Rattle.rows.proofs.codes.clist.Tie as tie
 
 add-result : tie.Need-add-result
 add-result c = search needs
