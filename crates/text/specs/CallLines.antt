@@ -62,7 +62,7 @@ itemOf f = record { row = f .b; rights = f .c }
 unfoldable pub addItem : Item → Gathered → Gathered
 addItem i g = record { items = i ∷ g .items; next = g .next }
 
--- the items from place i on, n at most, and the place after them
+-- the items from position i on, n at most, and the position after them
 unfoldable pub gathered : ℕ → List ℕ → ℕ → Gathered
 gathered zero s i = record { items = []; next = i }
 gathered (suc n) s i =

@@ -50,7 +50,7 @@ pub record Entries : Type 0 where
 unfoldable pub addEntry : Entry → Entries → Entries
 addEntry e g = record { entries = e ∷ g .entries; next = g .next }
 
--- the entries from place i on, n at most, and the place after them
+-- the entries from position i on, n at most, and the position after them
 unfoldable pub entriesFrom : ℕ → List ℕ → ℕ → Entries
 entriesFrom zero s i = record { entries = []; next = i }
 entriesFrom (suc n) s i =
@@ -125,7 +125,7 @@ unfoldable pub formListed : List Form → Form → Bool
 formListed fs (nodeForm n es) = all (entryListed fs) es
 formListed fs (processForm p n) = any (givesNode n) fs
 
--- the line of the oldest form that names something not listed, 0 for none; a form a line, so a form's line is its place in the text
+-- the line of the oldest form that names something not listed, 0 for none; a form a line, so a form's line is its position in the text
 unfoldable pub missingAt : List Form → List Form → ℕ
 missingAt fs [] = 0
 missingAt fs (f ∷ older) = let n = missingAt fs older in if ltb 0 n then n else (if formListed fs f then 0 else suc (length older))

@@ -25,7 +25,7 @@ grown v b = let n = v * 10 + (b - 48) in if leb n greatestNumber then n else suc
 unfoldable pub spelt : ℕ → ℕ → ℕ
 spelt v b = let n = v * 32 + (b - 96) in if ltb n 1099511627776 then n else 1099511627776
 
--- the bytes from place i on for as long as they pass the test, v what those before are worth; and the place after them
+-- the bytes from position i on for as long as they pass the test, v what those before are worth; and the position after them
 unfoldable pub run : (ℕ → Bool) → (ℕ → ℕ → ℕ) → ℕ → ℕ → List ℕ → Run
 run test more v i [] = record { value = v; next = i }
 run test more v i (b ∷ bs) = if test b then run test more (more v b) (suc i) bs else record { value = v; next = i }
@@ -78,7 +78,7 @@ unfoldable pub pieces : List ℕ → Read → List ℕ → Read
 pieces s r [] = r
 pieces s r (p ∷ ps) = pieces s (piece s r p) ps
 
--- what the pattern t reads of s from place i on
+-- what the pattern t reads of s from position i on
 unfoldable pub form : List ℕ → ℕ → String → Read
 form s i t = pieces s (began i) (bytes t)
 
