@@ -35,8 +35,12 @@ unfolding decimal greatestNumber
 run-decimal zero n i t h l = let z : n ≡ 0 = omega arith in let y : i + 0 ≡ i = omega arith in rw (z, y) refl
 run-decimal (suc d) n i t h l = pick (ltb n 10) refl (run-decimal d (n / 10) i ((48 + n % 10) ∷ t))
   where
-    pick : (b : Bool) → ltb n 10 ≡ b → (n / 10 < 10 ^ d → n / 10 ≤ greatestNumber → run isDigit grown 0 i (decimal d (n / 10) ++ ((48 + n % 10) ∷ t)) ≡ run isDigit grown (n / 10) (i + length (decimal d (n / 10))) ((48 + n % 10) ∷ t))
-        → run isDigit grown 0 i (cond b ((48 + n) ∷ []) (decimal d (n / 10) ++ ((48 + n % 10) ∷ [])) ++ t) ≡ run isDigit grown n (i + length (cond b ((48 + n) ∷ []) (decimal d (n / 10) ++ ((48 + n % 10) ∷ [])))) t
+    pick : (b : Bool) → ltb n 10 ≡ b
+        → (n / 10 < 10 ^ d → n / 10 ≤ greatestNumber
+        → run isDigit grown 0 i (decimal d (n / 10) ++ ((48 + n % 10) ∷ t))
+        ≡ run isDigit grown (n / 10) (i + length (decimal d (n / 10))) ((48 + n % 10) ∷ t))
+        → run isDigit grown 0 i (cond b ((48 + n) ∷ []) (decimal d (n / 10) ++ ((48 + n % 10) ∷ [])) ++ t)
+        ≡ run isDigit grown n (i + length (cond b ((48 + n) ∷ []) (decimal d (n / 10) ++ ((48 + n % 10) ∷ [])))) t
     pick true e ih =
         let lt : n < 10 = ltb-true n 10 e in
         let q : n / 10 ≡ 0 = omega arith in
@@ -66,7 +70,8 @@ unfolding decimal
 leads-decimal zero n t h = let l : n < 10 = omega arith in rw (lt-ltb n 10 l) (leads-one n t l)
 leads-decimal (suc d) n t h = pick (ltb n 10) refl (leads-decimal d (n / 10) ((48 + n % 10) ∷ t))
   where
-    pick : (b : Bool) → ltb n 10 ≡ b → (n / 10 < 10 ^ suc d → Leads (decimal (suc d) (n / 10) ++ ((48 + n % 10) ∷ t)) (n / 10)) → Leads (cond b ((48 + n) ∷ []) (decimal (suc d) (n / 10) ++ ((48 + n % 10) ∷ [])) ++ t) n
+    pick : (b : Bool) → ltb n 10 ≡ b → (n / 10 < 10 ^ suc d → Leads (decimal (suc d) (n / 10) ++ ((48 + n % 10) ∷ t)) (n / 10))
+        → Leads (cond b ((48 + n) ∷ []) (decimal (suc d) (n / 10) ++ ((48 + n % 10) ∷ [])) ++ t) n
     pick true e ih = leads-one n t (ltb-true n 10 e)
     pick false e ih =
         let big : 10 ≤ n = ltb-false n 10 e in
@@ -108,8 +113,10 @@ after-number (n ∷ ns) = refl
 
 ok-prefix : (u : List ℕ) → form (40 ∷ 111 ∷ 107 ∷ 32 ∷ u) 0 "(ok #" ≡ number (40 ∷ 111 ∷ 107 ∷ 32 ∷ u) (began 4)
 unfolding form pieces piece itself passed began bytes
-ok-prefix u =
-    rw (lt-ltb 0 (suc (suc (suc (suc (length u))))) (omega arith), lt-ltb 1 (suc (suc (suc (suc (length u))))) (omega arith), lt-ltb 2 (suc (suc (suc (suc (length u))))) (omega arith), lt-ltb 3 (suc (suc (suc (suc (length u))))) (omega arith)) refl
+ok-prefix u = rw (there 0 (omega arith), there 1 (omega arith), there 2 (omega arith), there 3 (omega arith)) refl
+  where
+    there : (i : ℕ) → i < 4 → ltb i (suc (suc (suc (suc (length u))))) ≡ true
+    there i h = lt-ltb i (suc (suc (suc (suc (length u))))) (omega arith)
 
 pub read-ok : (n : ℕ) (ns : List ℕ) → n ≤ greatestNumber → Gives (form (okText (n ∷ ns)) 0 "(ok #") n
 unfolding okText spaced bytes began

@@ -35,7 +35,8 @@ run-capped [] v i = refl
 run-capped (b ∷ bs) v i = rw (one-more v b) (pick (isDigit b) (run-capped bs (exact v b) (suc i)))
   where
     pick : (t : Bool) → run isDigit grown (capped (exact v b)) (suc i) bs .value ≡ capped (run isDigit exact (exact v b) (suc i) bs .value)
-        → cond t (run isDigit grown (capped (exact v b)) (suc i) bs) (record { value = capped v; next = i }) .value ≡ capped (cond t (run isDigit exact (exact v b) (suc i) bs) (record { value = v; next = i }) .value)
+        → cond t (run isDigit grown (capped (exact v b)) (suc i) bs) (record { value = capped v; next = i }) .value
+        ≡ capped (cond t (run isDigit exact (exact v b) (suc i) bs) (record { value = v; next = i }) .value)
     pick true h = h
     pick false h = refl
 

@@ -82,7 +82,12 @@ simple-reads : (w p e : ℕ) → Reads (simple w p e)
 unfolding simple Good Reads
 simple-reads w p e =
     if-reads (eqb w (wordOf "go")) _ _
-    (ranged-reads (isProcess p && leb e greatestNumber) (Go p e) (λ q. record { caller = and-l (isProcess p) (leb e greatestNumber) q; number = leb-true e greatestNumber (and-r (isProcess p) (leb e greatestNumber) q) }))
+    (ranged-reads (isProcess p && leb e greatestNumber) (Go p e)
+    (λ q.
+    record {
+      caller = and-l (isProcess p) (leb e greatestNumber) q;
+      number = leb-true e greatestNumber (and-r (isProcess p) (leb e greatestNumber) q);
+    }))
     (if-reads (eqb w (wordOf "hold")) _ _ (number-reads p e Hold (λ g. g))
     (if-reads (eqb w (wordOf "register")) _ _ (number-reads p e Register (λ g. g))
     (if-reads (eqb w (wordOf "drop")) _ _ (number-reads p e Drop (λ g. g))
