@@ -16,7 +16,7 @@ pub mod write;
 
 pub use case::Case;
 
-use crate::random::{self, Profile, Rng};
+use crate::random::{self, Profile, Rng, SMALL};
 use crate::session::Session;
 use crate::tables::Tables;
 use std::path::PathBuf;
@@ -82,15 +82,6 @@ fn stem(path: &std::path::Path) -> String {
     let stem = path.file_stem().unwrap_or_default();
     stem.to_string_lossy().into_owned()
 }
-
-/// The profiles whose tables stay small.
-const SMALL: [Profile; 5] = [
-    Profile::Tiny,
-    Profile::Loans,
-    Profile::Nested,
-    Profile::Directories,
-    Profile::Deep,
-];
 
 /// The tables at the end of a random session, with its profile.
 fn some_tables(rng: &mut Rng) -> (Tables, Profile) {

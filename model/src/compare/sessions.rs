@@ -3,9 +3,9 @@
 
 use super::antt::bytes;
 use super::case::{name, same, Case};
-use super::{conformance_files, limits, stem, SMALL};
+use super::{conformance_files, limits, stem};
 use crate::random::damage::damage;
-use crate::random::{session, Profile, Rng, PROFILES};
+use crate::random::{session, Profile, Rng, PROFILES, SMALL};
 use crate::run_session;
 use crate::session::open;
 use std::fs;

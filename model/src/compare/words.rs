@@ -3,9 +3,8 @@
 use super::antt::{bytes, list, runs};
 use super::case::{name, same, Case};
 use super::tables::{conformance_calls, sound_call};
-use super::SMALL;
 use crate::random::damage::damage;
-use crate::random::{openings, Profile, Rng};
+use crate::random::{openings, Profile, Rng, SMALL};
 use crate::words::{call_entry, encode, open_entry, PROCESS_WORDS, TABLES_WORDS};
 use crate::{sound, Tables};
 

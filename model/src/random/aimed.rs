@@ -1,6 +1,6 @@
 //! Altered tables aimed at one clause of soundness each.
 
-use super::Rng;
+use super::prng::Rng;
 use crate::limits::*;
 use crate::relations::newest_listing;
 use crate::tables::{Kind, Place, Process, Request, Row, Tables};

@@ -1,7 +1,7 @@
 //! Damaged texts: bytes flipped, cut out, doubled or added, lines made too
 //! long, numbers made odd.
 
-use super::Rng;
+use super::prng::Rng;
 
 /// Bytes that a reader may go wrong on.
 const BYTES: &[u8] = b"() \n0123456789abz\t\r\x00-+A\xff";

@@ -6,37 +6,13 @@ pub mod damage;
 pub mod lines;
 pub mod openings;
 pub mod prng;
+pub mod profile;
 
 pub use prng::Rng;
+pub use profile::{Profile, PROFILES, SMALL};
 
 use crate::session::{call_sound, open};
 use crate::tables::Tables;
-
-/// What a random session is rich in.
-#[derive(Clone, Copy, PartialEq, Eq, Debug)]
-pub enum Profile {
-    /// Few processes, nodes and rows.
-    Tiny,
-    /// Many requests with items.
-    Loans,
-    /// Ends lent on and on.
-    Nested,
-    /// Subdirectories gone through, lent and registered.
-    Directories,
-    /// Chains of sources to depth 12.
-    Deep,
-    /// 1,024 rows and 128 requests.
-    Full,
-}
-
-pub const PROFILES: [Profile; 6] = [
-    Profile::Tiny,
-    Profile::Loans,
-    Profile::Nested,
-    Profile::Directories,
-    Profile::Deep,
-    Profile::Full,
-];
 
 /// A whole session: an opening that is accepted, then this many call lines,
 /// most of which are accepted.
