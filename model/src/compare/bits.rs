@@ -3,8 +3,8 @@
 
 use super::antt::{bytes, list, state, state_numbers};
 use super::case::{same, Case};
-use crate::session::call;
-use crate::{run_session, Tables};
+use crate::session::{call, run_session};
+use crate::tables::Tables;
 
 /// An answer is read up to its line feed or to so many bytes.
 const BYTES: usize = 40;

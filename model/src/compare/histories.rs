@@ -3,7 +3,7 @@
 
 use super::antt::{bytes, list};
 use super::case::{name, same, Case};
-use super::sessions::conformance_inputs;
+use super::conformance::conformance_inputs;
 use crate::history::History;
 use crate::session::Session;
 
