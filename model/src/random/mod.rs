@@ -20,7 +20,8 @@ pub fn session(seed: u64, profile: Profile, calls: usize) -> Vec<u8> {
     played(seed, profile, calls).0
 }
 
-/// The tables at the end of that session.
+/// The tables that its calls leave, each made by itself. Where a damaged line has
+/// no line feed, or more than one, the session as a text has other calls.
 pub fn tables(seed: u64, profile: Profile, calls: usize) -> Tables {
     played(seed, profile, calls).1
 }
