@@ -63,7 +63,7 @@ fn comes_agrees(history: &History, line: &[u8], answer: &Answer) -> Result<(), S
     let Some(Call::Comes { row, request }) = read_call(line) else {
         return Ok(());
     };
-    let from = history.rows_from(&history.now.standing, request);
+    let from = history.notes.rows_from(&history.now.standing, request);
     let expected = Answer::ok(from.contains(&row).into());
     match answer.accepted() && *answer != expected {
         true => Err(format!("comes {row} {request}: {answer:?}")),

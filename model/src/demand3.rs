@@ -65,13 +65,13 @@ fn revoked(history: &History, tables: &Tables, q: u32) -> Result<(), String> {
     let rows = numbers(tables);
     let stood = &history.before.standing;
     let vanished: BTreeSet<u32> = stood.difference(&rows).copied().collect();
-    let from = history.rows_from(stood, q);
+    let from = history.notes.rows_from(stood, q);
     if vanished != from {
         return Err(format!(
             "revoke {q}: {vanished:?} vanished, {from:?} came from it"
         ));
     }
-    let ends = rows.iter().filter(|r| history.is_end(**r));
+    let ends = rows.iter().filter(|r| history.notes.is_end(**r));
     for end in ends {
         returned(history, tables, *end)?;
     }
@@ -82,7 +82,7 @@ fn returned(history: &History, tables: &Tables, end: u32) -> Result<(), String> 
     let was_open = &history.before.open_requests;
     let closed = was_open.difference(&history.now.open_requests);
     let mut lending = closed.filter(|v| history.before.loans.contains(&(**v, end)));
-    let oldest = lending.next().and_then(|v| history.requests.get(v));
+    let oldest = lending.next().and_then(|v| history.notes.requests.get(v));
     let Some(lender) = oldest.map(|r| r.lender) else {
         return Ok(());
     };

@@ -150,8 +150,8 @@ fn port(tables: &mut Tables, caller: u32, e: u32) -> Option<Answer> {
 fn ask(tables: &mut Tables, caller: u32, client: u32, items: &[Item]) -> Option<Answer> {
     let number = take_number(tables);
     let mut listed = [None; ITEMS];
-    for (place, item) in listed.iter_mut().zip(items) {
-        *place = Some(lend(tables, number, client, item)?);
+    for (lent, item) in listed.iter_mut().zip(items) {
+        *lent = Some(lend(tables, number, client, item)?);
     }
     tables.requests.push(Request {
         number,

@@ -13,6 +13,7 @@ pub mod form;
 pub mod history;
 pub mod limits;
 pub mod moment;
+pub mod notes;
 pub mod opening;
 pub mod random;
 pub mod refusals;

@@ -1,4 +1,4 @@
-//! The limits that document 01 names, each in one place.
+//! The limits that document 01 names, each written once.
 
 /// "Processes are 1 to 64".
 pub const PROCESSES: u32 = 64;

@@ -1,6 +1,6 @@
-//! What stands, is open and is on loan after the notes of a history so far.
+//! What stands, is open and is on loan after a call, by the notes so far.
 
-use crate::history::{History, NotedRow};
+use crate::notes::{NotedRow, Notes};
 use std::collections::{BTreeMap, BTreeSet};
 
 /// What holds after a call: the rows that stand, the ports and requests that
@@ -14,58 +14,62 @@ pub struct Moment {
 }
 
 impl Moment {
-    /// The moment after the last note, `history.before` being the one before
-    /// it. What was gone stays gone, so what stood and what is newer is
-    /// looked at. Sources are older, so in rising number they are decided
-    /// before the row.
-    pub fn after(history: &History) -> Moment {
-        let old = &history.before;
+    /// The moment after a call that is noted: by the notes, the moment before
+    /// it and the request it asked, if any. What was gone stays gone, so what
+    /// stood and what is newer is looked at. Sources are older, so in rising
+    /// number they are decided before the row.
+    pub fn after(notes: &Notes, before: &Moment, asked: Option<u32>) -> Moment {
         let mut moment = Moment::default();
-        for (number, row) in candidates(&history.rows, &old.standing) {
-            if moment.row_stands(history, number, row) {
+        for (number, row) in candidates(&notes.rows, &before.standing) {
+            if moment.row_stands(notes, number, row) {
                 moment.standing.insert(number);
             }
         }
-        let ports = candidates(&history.ports, &old.open_ports);
-        let open = ports.filter(|(c, _)| !moment.port_closed(history, *c));
+        let ports = candidates(&notes.ports, &before.open_ports);
+        let open = ports.filter(|(c, _)| !moment.port_closed(notes, *c));
         moment.open_ports = open.map(|(c, _)| c).collect();
-        let requests = candidates(&history.requests, &old.open_requests);
-        let open = requests.filter(|(v, _)| !moment.request_closed(history, *v));
+        let requests = candidates(&notes.requests, &before.open_requests);
+        let open = requests.filter(|(v, _)| !moment.request_closed(notes, *v));
         moment.open_requests = open.map(|(v, _)| v).collect();
-        moment.loans = moment.loans_after(history);
+        moment.loans = moment.loans_after(notes, before, asked);
         moment
     }
 
     /// "A row *stands* if no chain of it uses anything dropped or closed": not
     /// the row itself, its request or its port, and no chain of a source.
-    fn row_stands(&self, history: &History, number: u32, row: &NotedRow) -> bool {
-        let dropped = history.dropped.contains(&number);
-        let request = row.bears.is_some_and(|v| self.request_closed(history, v));
-        let port = row.end_of.is_some_and(|c| self.port_closed(history, c));
+    fn row_stands(&self, notes: &Notes, number: u32, row: &NotedRow) -> bool {
+        let dropped = notes.dropped.contains(&number);
+        let request = row.bears.is_some_and(|v| self.request_closed(notes, v));
+        let port = row.end_of.is_some_and(|c| self.port_closed(notes, c));
         let sources = row.sources.iter().all(|s| self.standing.contains(s));
         !dropped && !request && !port && sources
     }
 
     /// "A port is closed too once its operation row stands no longer".
-    fn port_closed(&self, history: &History, port: u32) -> bool {
-        let operation = history.ports.get(&port);
+    fn port_closed(&self, notes: &Notes, port: u32) -> bool {
+        let operation = notes.ports.get(&port);
         let stands = operation.is_some_and(|e| self.standing.contains(e));
-        history.closed_ports.contains(&port) || !stands
+        notes.closed_ports.contains(&port) || !stands
     }
 
     /// "and a request once its port is closed."
-    fn request_closed(&self, history: &History, request: u32) -> bool {
-        let port = history.requests.get(&request).map(|r| r.port);
-        let by_port = port.is_none_or(|c| self.port_closed(history, c));
-        history.closed_requests.contains(&request) || by_port
+    fn request_closed(&self, notes: &Notes, request: u32) -> bool {
+        let port = notes.requests.get(&request).map(|r| r.port);
+        let by_port = port.is_none_or(|c| self.port_closed(notes, c));
+        notes.closed_requests.contains(&request) || by_port
     }
 
     /// "A request has an end it names on loan until that end stands no longer,
     /// or until it, or an older one with that end on loan, closes."
-    fn loans_after(&self, history: &History) -> BTreeSet<(u32, u32)> {
-        let mut had = history.before.loans.clone();
-        if let Some(v) = history.asked {
-            let ends = history.requests.get(&v).map(|r| r.ends.as_slice());
+    fn loans_after(
+        &self,
+        notes: &Notes,
+        before: &Moment,
+        asked: Option<u32>,
+    ) -> BTreeSet<(u32, u32)> {
+        let mut had = before.loans.clone();
+        if let Some(v) = asked {
+            let ends = notes.requests.get(&v).map(|r| r.ends.as_slice());
             had.extend(ends.unwrap_or(&[]).iter().map(|end| (v, *end)));
         }
         let closed = |w: u32| !self.open_requests.contains(&w);

@@ -37,7 +37,7 @@ pub struct Row {
     pub request: u32,
 }
 
-/// An open request. An item that left the list is none in its place.
+/// An open request. An item that left the list is none at its index.
 #[derive(Clone, Copy, PartialEq, Eq, Debug)]
 pub struct Request {
     pub number: u32,
@@ -161,8 +161,8 @@ impl Tables {
 
     pub fn set_process(&mut self, process: u32, record: Process) {
         let at = (process as usize).wrapping_sub(1);
-        if let Some(place) = self.processes.get_mut(at) {
-            *place = record;
+        if let Some(old) = self.processes.get_mut(at) {
+            *old = record;
         }
     }
 

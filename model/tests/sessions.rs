@@ -80,25 +80,25 @@ fn moments_are_what_the_chains_say() {
 
 /// Compares every row, port and request; answers how many rows are gone.
 fn compare_with_chains(history: &History) -> usize {
-    let now = &history.now;
-    for row in history.rows.keys() {
-        let stands = chains::stands(history, *row);
+    let (notes, now) = (&history.notes, &history.now);
+    for row in notes.rows.keys() {
+        let stands = chains::stands(notes, *row);
         assert_eq!(now.standing.contains(row), stands, "row {row}");
     }
-    for port in history.ports.keys() {
-        let closed = chains::port_closed(history, *port);
+    for port in notes.ports.keys() {
+        let closed = chains::port_closed(notes, *port);
         assert_eq!(!now.open_ports.contains(port), closed, "port {port}");
     }
-    for request in history.requests.keys() {
-        let closed = chains::request_closed(history, *request);
+    for request in notes.requests.keys() {
+        let closed = chains::request_closed(notes, *request);
         assert_eq!(!now.open_requests.contains(request), closed, "{request}");
-        let from = history.rows_from(&now.standing, *request);
+        let from = notes.rows_from(&now.standing, *request);
         for row in &now.standing {
-            let comes = chains::comes_from(history, *row, *request);
+            let comes = chains::comes_from(notes, *row, *request);
             assert_eq!(from.contains(row), comes, "{row} from {request}");
         }
     }
-    history.rows.len() - now.standing.len()
+    notes.rows.len() - now.standing.len()
 }
 
 /// A request has an end on loan, by the history, exactly where the tables
@@ -115,7 +115,7 @@ fn loans_are_the_lists() {
             history.note(line, &answer.print());
             let requests = session.tables.requests.iter();
             let listed = requests.flat_map(|q| q.listed().map(move |i| (q.number, i)));
-            let ends = listed.filter(|(_, i)| history.is_end(*i));
+            let ends = listed.filter(|(_, i)| history.notes.is_end(*i));
             let ends: std::collections::BTreeSet<(u32, u32)> = ends.collect();
             assert_eq!(ends, history.now.loans, "seed {seed}");
             loans += ends.len();

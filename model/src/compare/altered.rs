@@ -2,11 +2,12 @@
 
 use super::antt::state;
 use super::case::{name, Case};
-use super::some_tables;
+use super::random_tables::some_tables;
 use crate::random::aimed::{aimed, AIMS};
 use crate::random::alter::{alter, alter_gently};
 use crate::random::Rng;
-use crate::{broken, Tables};
+use crate::sound::broken;
+use crate::tables::Tables;
 
 /// The definitions find these tables sound, or not, as the model does; none
 /// where they are no state of the definitions.

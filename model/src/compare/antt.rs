@@ -78,7 +78,7 @@ fn row_fields(row: &Row) -> [u64; 10] {
     fields
 }
 
-/// The items have four places, 0 for none; so a listed 0 has no code.
+/// There are four items, 0 for none; so a listed 0 has no code.
 fn request_fields(request: &Request) -> Option<[u64; 8]> {
     if request.lists(0) {
         return None;

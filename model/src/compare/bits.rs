@@ -3,8 +3,8 @@
 
 use super::antt::{bytes, list, state, state_numbers};
 use super::case::{same, Case};
-use crate::session::call;
-use crate::{run_session, Tables};
+use crate::session::{call, run_session};
+use crate::tables::Tables;
 
 /// An answer is read up to its line feed or to so many bytes.
 const BYTES: usize = 40;
@@ -25,17 +25,17 @@ fn bit_name(at: usize, bit: u32) -> String {
     format!("bit-{at}-{bit}")
 }
 
-/// A claim for each bit of a text from a place on: it is 1.
+/// A claim for each bit of a text from a byte on: it is 1.
 fn bits(text: &str, from: usize) -> Vec<Case> {
-    let places = (0..BYTES).flat_map(|at| (0..BITS).map(move |bit| (at, bit)));
-    let each = places.map(|(at, bit)| {
+    let positions = (0..BYTES).flat_map(|at| (0..BITS).map(move |bit| (at, bit)));
+    let each = positions.map(|(at, bit)| {
         let bit_of = format!("bitOf {} {} ({text})", from + at, 1 << bit);
         claim(bit_name(at, bit), bit_of)
     });
     each.collect()
 }
 
-/// The claims that tell what the definitions print in place of the model's
+/// The claims that tell what the definitions print instead of the model's
 /// last line.
 pub fn of_session(input: &[u8]) -> Vec<Case> {
     let output = run_session(input);

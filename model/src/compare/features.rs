@@ -1,11 +1,10 @@
 //! What calls do, as names; calls and sessions are chosen so that as many of
 //! these as possible are among them.
 
-use super::SMALL;
 use crate::answer::Answer;
 use crate::call::{read_call, Call};
 use crate::limits::LAST_NUMBER;
-use crate::random::{lines, openings, Profile, Rng};
+use crate::random::{lines, openings, Profile, Rng, SMALL};
 use crate::refusals;
 use crate::session::{call_sound, open};
 use crate::tables::{Place, Request, Row, Tables};

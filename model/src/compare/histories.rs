@@ -3,7 +3,7 @@
 
 use super::antt::{bytes, list};
 use super::case::{name, same, Case};
-use super::sessions::conformance_inputs;
+use super::conformance::conformance_inputs;
 use crate::history::History;
 use crate::session::Session;
 
@@ -48,7 +48,7 @@ pub fn moment(history: &History) -> Vec<u32> {
     let mut told = vec![now.standing.len() as u32];
     told.extend(now.standing.iter().rev());
     told.push(now.loans.len() as u32);
-    for (number, request) in history.requests.iter().rev() {
+    for (number, request) in history.notes.requests.iter().rev() {
         let lent = |end: &&u32| now.loans.contains(&(*number, **end));
         let ends = request.ends.iter().filter(lent);
         told.extend(ends.flat_map(|end| [*number, *end]));

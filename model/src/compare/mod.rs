@@ -4,10 +4,12 @@ pub mod altered;
 pub mod antt;
 pub mod bits;
 pub mod case;
+pub mod conformance;
 pub mod features;
 pub mod full;
 pub mod histories;
 pub mod limits;
+pub mod random_tables;
 pub mod sessions;
 pub mod smaller;
 pub mod tables;
@@ -16,10 +18,7 @@ pub mod write;
 
 pub use case::Case;
 
-use crate::random::{self, Profile, Rng};
-use crate::session::Session;
-use crate::tables::Tables;
-use std::path::PathBuf;
+use crate::random::Rng;
 
 /// How many cases of each sort are written.
 #[derive(Clone, Copy, Debug)]
@@ -61,43 +60,4 @@ pub fn cases(seed: u64, sizes: Sizes) -> std::io::Result<Vec<Case>> {
         sizes.histories,
     )?);
     Ok(cases)
-}
-
-/// The files of a directory of conformance/ with this ending, in order.
-fn conformance_files(directory: &str, ending: &str) -> std::io::Result<Vec<PathBuf>> {
-    let root = PathBuf::from(env!("CARGO_MANIFEST_DIR")).join("conformance");
-    let mut files = Vec::new();
-    for entry in std::fs::read_dir(root.join(directory))? {
-        let path = entry?.path();
-        if path.extension().is_some_and(|e| e == ending) {
-            files.push(path);
-        }
-    }
-    files.sort();
-    Ok(files)
-}
-
-/// The file's name without its ending.
-fn stem(path: &std::path::Path) -> String {
-    let stem = path.file_stem().unwrap_or_default();
-    stem.to_string_lossy().into_owned()
-}
-
-/// The profiles whose tables stay small.
-const SMALL: [Profile; 5] = [
-    Profile::Tiny,
-    Profile::Loans,
-    Profile::Nested,
-    Profile::Directories,
-    Profile::Deep,
-];
-
-/// The tables at the end of a random session, with its profile.
-fn some_tables(rng: &mut Rng) -> (Tables, Profile) {
-    let profile = rng.pick(&SMALL).unwrap_or(Profile::Loans);
-    let calls = rng.between(15, 70) as usize;
-    let input = random::session(rng.word(), profile, calls);
-    let mut session = Session::begin(&input);
-    while session.step().is_some() {}
-    (session.tables, profile)
 }

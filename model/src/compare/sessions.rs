@@ -3,12 +3,11 @@
 
 use super::antt::bytes;
 use super::case::{name, same, Case};
-use super::{conformance_files, limits, stem, SMALL};
+use super::conformance::conformance_inputs;
+use super::limits;
 use crate::random::damage::damage;
-use crate::random::{session, Profile, Rng, PROFILES};
-use crate::run_session;
-use crate::session::open;
-use std::fs;
+use crate::random::{session, Profile, Rng, PROFILES, SMALL};
+use crate::session::{open, run_session};
 
 /// The definitions print for this input what the model prints.
 pub fn case(name: String, about: String, input: Vec<u8>) -> Case {
@@ -19,19 +18,6 @@ pub fn case(name: String, about: String, input: Vec<u8>) -> Case {
         claim: same(&format!("session {}", bytes(&input)), &bytes(&output)),
         files: vec![("session", input)],
     }
-}
-
-/// The conformance sessions of up to so many lines, with their files' names.
-pub fn conformance_inputs(lines: usize) -> std::io::Result<Vec<(String, Vec<u8>)>> {
-    let mut inputs = Vec::new();
-    for path in conformance_files("sessions", "session")? {
-        let input = fs::read(&path)?;
-        if input.iter().filter(|b| **b == b'\n').count() <= lines {
-            let about = format!("conformance/sessions/{}.session", stem(&path));
-            inputs.push((about, input));
-        }
-    }
-    Ok(inputs)
 }
 
 pub fn conformance(lines: usize) -> std::io::Result<Vec<Case>> {

@@ -29,7 +29,7 @@ pub fn cases(claim: Claim, sessions: Vec<Vec<u8>>) -> Vec<Case> {
     each.collect()
 }
 
-/// The session cut after some of its lines: in eight places, and 1, 2, 4, 8,
+/// The session cut after some of its lines: at each eighth, and 1, 2, 4, 8,
 /// .. lines before the end. If a session differs, so do those that go on from
 /// it; so if none of these differs no prefix does.
 pub fn prefixes(input: &[u8]) -> Vec<Vec<u8>> {

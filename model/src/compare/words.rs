@@ -2,12 +2,13 @@
 
 use super::antt::{bytes, list, runs};
 use super::case::{name, same, Case};
-use super::tables::{conformance_calls, sound_call};
-use super::SMALL;
+use super::conformance::conformance_calls;
+use super::random_tables::sound_call;
 use crate::random::damage::damage;
-use crate::random::{openings, Profile, Rng};
+use crate::random::{openings, Profile, Rng, SMALL};
+use crate::sound::sound;
+use crate::tables::Tables;
 use crate::words::{call_entry, encode, open_entry, PROCESS_WORDS, TABLES_WORDS};
-use crate::{sound, Tables};
 
 /// The two lent runs of words.
 type Lent = (Vec<u32>, Vec<u32>);

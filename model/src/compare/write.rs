@@ -24,7 +24,7 @@ use Rattle.compare.specs.Help.{row, request, process, state, tellNext, t
 
 ";
 
-/// Writes `crates/compare` and `cases/` into the directory, in place of what
+/// Writes `crates/compare` and `cases/` into the directory, instead of what
 /// was there. `cases/list` has a line for each case: its name, then what it is.
 pub fn write(directory: &Path, cases: &[Case]) -> std::io::Result<()> {
     let specs = directory.join("crates/compare/specs");

@@ -1,6 +1,6 @@
 //! Altered tables aimed at one clause of soundness each.
 
-use super::Rng;
+use super::prng::Rng;
 use crate::limits::*;
 use crate::relations::newest_listing;
 use crate::tables::{Kind, Place, Process, Request, Row, Tables};
@@ -51,8 +51,8 @@ pub fn aimed(rng: &mut Rng, tables: &Tables, clause: &str) -> Option<Tables> {
 
 /// A row that passes the test, to be altered.
 fn row<'a>(rng: &mut Rng, t: &'a mut Tables, test: impl Fn(&Row) -> bool) -> Option<&'a mut Row> {
-    let places = (0..t.rows.len()).filter(|at| test(&t.rows[*at]));
-    let at = rng.pick(&places.collect::<Vec<_>>())?;
+    let passing = (0..t.rows.len()).filter(|at| test(&t.rows[*at]));
+    let at = rng.pick(&passing.collect::<Vec<_>>())?;
     t.rows.get_mut(at)
 }
 
@@ -61,8 +61,8 @@ fn request<'a>(
     t: &'a mut Tables,
     test: impl Fn(&Request) -> bool,
 ) -> Option<&'a mut Request> {
-    let places = (0..t.requests.len()).filter(|at| test(&t.requests[*at]));
-    let at = rng.pick(&places.collect::<Vec<_>>())?;
+    let passing = (0..t.requests.len()).filter(|at| test(&t.requests[*at]));
+    let at = rng.pick(&passing.collect::<Vec<_>>())?;
     t.requests.get_mut(at)
 }
 

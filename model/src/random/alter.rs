@@ -1,6 +1,6 @@
 //! Altered tables: some fields of any tables changed to any values.
 
-use super::Rng;
+use super::prng::Rng;
 use crate::limits::{LAST_NUMBER, PROCESSES};
 use crate::tables::{Kind, Place, Process, Request, Row, Tables};
 

@@ -1,7 +1,7 @@
 //! Damaged texts: bytes flipped, cut out, doubled or added, lines made too
 //! long, numbers made odd.
 
-use super::Rng;
+use super::prng::Rng;
 
 /// Bytes that a reader may go wrong on.
 const BYTES: &[u8] = b"() \n0123456789abz\t\r\x00-+A\xff";
@@ -24,7 +24,7 @@ const NUMBERS: [&str; 14] = [
     "99999999999999999999999999999999999999999999",
 ];
 
-/// The text with one to three places damaged.
+/// The text damaged once to three times.
 pub fn damage(rng: &mut Rng, text: &[u8]) -> Vec<u8> {
     let mut damaged = text.to_vec();
     for _ in 0..rng.between(1, 3) {
@@ -75,7 +75,7 @@ fn flip(rng: &mut Rng, text: &mut [u8], at: usize) {
     }
 }
 
-/// The first number at or after a place becomes another.
+/// The first number at or after a position becomes another.
 fn odd_number(rng: &mut Rng, text: &mut Vec<u8>, at: usize) {
     let digit = |b: &u8| b.is_ascii_digit();
     let Some(start) = text[at..].iter().position(digit).map(|n| n + at) else {
@@ -86,7 +86,7 @@ fn odd_number(rng: &mut Rng, text: &mut Vec<u8>, at: usize) {
     text.splice(start..start + length, number.bytes());
 }
 
-/// The line that a place is in stands twice.
+/// The line that a position is in stands twice.
 fn double_line(text: &mut Vec<u8>, at: usize) {
     let feed = |b: &u8| *b == b'\n';
     let start = text[..at].iter().rposition(feed).map_or(0, |n| n + 1);

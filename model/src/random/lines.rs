@@ -1,6 +1,8 @@
 //! Random call lines, made by looking at the tables: most are accepted.
 
-use super::{damage, Profile, Rng};
+use super::damage::damage;
+use super::prng::Rng;
+use super::profile::Profile;
 use crate::call::{Call, Item, Word, WORDS};
 use crate::limits::{ALL_RIGHTS, LAST_NUMBER, PROCESSES};
 use crate::refusals::refusal;
@@ -55,7 +57,7 @@ pub fn line(rng: &mut Rng, profile: Profile, tables: &Tables) -> Vec<u8> {
     match way {
         0..=1 => {
             let line = maker.propose().print();
-            damage::damage(maker.rng, &line)
+            damage(maker.rng, &line)
         }
         2..=5 => maker.careless().print(),
         6..=20 => maker.propose().print(),

@@ -6,37 +6,13 @@ pub mod damage;
 pub mod lines;
 pub mod openings;
 pub mod prng;
+pub mod profile;
 
 pub use prng::Rng;
+pub use profile::{Profile, PROFILES, SMALL};
 
 use crate::session::{call_sound, open};
 use crate::tables::Tables;
-
-/// What a random session is rich in.
-#[derive(Clone, Copy, PartialEq, Eq, Debug)]
-pub enum Profile {
-    /// Few processes, nodes and rows.
-    Tiny,
-    /// Many requests with items.
-    Loans,
-    /// Ends lent on and on.
-    Nested,
-    /// Subdirectories gone through, lent and registered.
-    Directories,
-    /// Chains of sources to depth 12.
-    Deep,
-    /// 1,024 rows and 128 requests.
-    Full,
-}
-
-pub const PROFILES: [Profile; 6] = [
-    Profile::Tiny,
-    Profile::Loans,
-    Profile::Nested,
-    Profile::Directories,
-    Profile::Deep,
-    Profile::Full,
-];
 
 /// A whole session: an opening that is accepted, then this many call lines,
 /// most of which are accepted.
@@ -44,7 +20,8 @@ pub fn session(seed: u64, profile: Profile, calls: usize) -> Vec<u8> {
     played(seed, profile, calls).0
 }
 
-/// The tables at the end of that session.
+/// The tables that its calls leave, each made by itself. Where a damaged line has
+/// no line feed, or more than one, the session as a text has other calls.
 pub fn tables(seed: u64, profile: Profile, calls: usize) -> Tables {
     played(seed, profile, calls).1
 }

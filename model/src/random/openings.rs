@@ -1,6 +1,7 @@
 //! Random opening texts that are accepted.
 
-use super::{Profile, Rng};
+use super::prng::Rng;
+use super::profile::Profile;
 use crate::limits::{ALL_RIGHTS, ENTRIES, NODES, PROCESSES};
 
 /// The numbers that an opening of a profile goes by.
