@@ -16,7 +16,7 @@ use Rattle.rows.specs.Tables.{State, noRow, rowOf, lists}
 use Rattle.rows.specs.Sound.{mayBeListed}
 use Rattle.rows.specs.contracts.Represents.{Represents}
 use Rattle.rows.specs.Layout.{rowSlot}
-use Rattle.soundness_loans.specs.contracts.Clauses.{codeAt, listAt, listAll}
+use Rattle.soundness_loans.specs.contracts.Clauses.{itemsListable, codeAt, listAt, listAll}
 use Rattle.rows.proofs.Bools.{false-of, clash, and-l, and-r, and-i, pos-some, eqb-self, all-at}
 use Rattle.rows.proofs.Slots.{represented-well, slot-le, row-absent}
 use Rattle.soundness_loans.proofs.RequestClauses.{no-slot, slot-test, member-nonzero}
@@ -141,7 +141,7 @@ small-slots {st} rep (e ∷ es) =
 
 -- what is asked of the items of a request
 abbrev pub Lent : State → Request → Type 0
-Lent st v = all (λ e. mayBeListed v (rowOf (st .rows) e)) (nonzero (v .items)) ≡ true
+Lent st v = itemsListable (st .rows) v ≡ true
 
 -- an item that is there is a row
 item-there : (st : State) (v : Request) → Lent st v → (e : ℕ) → lists e v ≡ true → rowSlot (st .rows) e ≡ 0 → ⊥

@@ -14,11 +14,11 @@ use Rattle.rows.specs.declared.Row.{Row}
 use Rattle.rows.specs.declared.Request.{Request}
 use Rattle.rows.specs.Lists.{any, all, member, distinct, nonzero}
 use Rattle.rows.specs.Codes.{clientEnd, isClient}
-use Rattle.rows.specs.Tables.{State, noRow, rowOf, isListed, numbers}
-use Rattle.rows.specs.Sound.{numbersApart, fetchedInRange, portStands, portsStand, requestersListed, itemsApart, mayBeListed, itemsLent, onePerPort}
+use Rattle.rows.specs.Tables.{State, noRow, rowOf, isListed}
+use Rattle.rows.specs.Sound.{numbersApart, fetchedInRange, portStands, portsStand, requestersListed, itemsApart, itemsLent, onePerPort}
 use Rattle.rows.specs.Layout.{requestAt, requestsTo, rowSlot}
 use Rattle.rows.specs.contracts.Represents.{Represents}
-use Rattle.soundness_loans.specs.contracts.Clauses.{requestRight, standingPort, portsRight, isFree, withMark}
+use Rattle.soundness_loans.specs.contracts.Clauses.{numberApart, itemsListable, requestRight, requestsRight, standingPort, portsRight, requestClauses, isFree, withMark}
 use Rattle.rows.proofs.Bools.{clash, and-l, and-r, and-false, eqb-sym}
 use Rattle.rows.proofs.Slots.{row-absent}
 use Rattle.soundness_loans.proofs.RequestClauses.{slot-test, all-both}
@@ -113,7 +113,7 @@ unfolding requestsTo
 ports-next rep u j marks marks′ right r s e h free mark p = rw (add-one j, free, mark) (ports-turn rep (requestsTo u j) marks right (requestAt u j) s e h p)
 
 -- ---- the clauses joined
-each-right : (st : State) → all (requestRight st) (st .requests) ≡ numbersApart st && (fetchedInRange st && (requestersListed st && (itemsApart st && itemsLent st)))
+each-right : (st : State) → requestsRight st ≡ numbersApart st && (fetchedInRange st && (requestersListed st && (itemsApart st && itemsLent st)))
 unfolding requestRight numbersApart fetchedInRange requestersListed itemsApart itemsLent
 each-right st =
     all-both apart (λ v. fetched v && (asked v && (once v && lent v))) vs
@@ -125,7 +125,7 @@ each-right st =
     vs = st .requests
 
     apart : Request → Bool
-    apart v = not (member (v .number) (numbers (st .rows)))
+    apart v = numberApart (st .rows) v
 
     fetched : Request → Bool
     fetched v = leb (v .fetched) 1
@@ -137,10 +137,9 @@ each-right st =
     once v = distinct (nonzero (v .items))
 
     lent : Request → Bool
-    lent v = all (λ e. mayBeListed v (rowOf (st .rows) e)) (nonzero (v .items))
+    lent v = itemsListable (st .rows) v
 
-pub requests-joined : (st : State) → all (requestRight st) (st .requests) && portsRight (st .rows) (st .requests)
-    ≡ numbersApart st && (fetchedInRange st && (portsStand st && (requestersListed st && (itemsApart st && (itemsLent st && onePerPort st)))))
+pub requests-joined : (st : State) → requestsRight st && portsRight (st .rows) (st .requests) ≡ requestClauses st
 unfolding portsRight portsStand onePerPort
 requests-joined st =
     ap (λ (b : Bool). b && portsRight (st .rows) (st .requests)) (each-right st)
