@@ -31,12 +31,14 @@ requests-laid-requires c κs = search needs
 
 returns-3 : tie.Need-returns-3
 returns-3 c =
+    let requests = c .before .requests-laid in
     let r = c .before .before in
     let m = r .before in
     let n = m .before in
-    let s = n .before .before .before .before .before in
-    not-laid (s .args .tables .now) (s .args .processes .now) (n .rows-in .result) (m .requests-in .result) (r .rows-laid .result) (c .before .requests-laid .result)
-    (n .rows-in .ensures .0) (m .requests-in .ensures .0) (r .rows-laid .ensures) (c .before .requests-laid .ensures) (c .if3 .taken)
+    let i = n .before .before in
+    let s = i .before .before .before in
+    not-laid (s .args .tables .now) (s .args .processes .now) (n .rows-in .result) (m .requests-in .result) (r .rows-laid .result) (requests .result)
+    (n .rows-in .ensures .0) (m .requests-in .ensures .0) (r .rows-laid .ensures) (requests .ensures) (c .if3 .taken)
 
 clauses-sound-requires : tie.Need-clauses-sound-requires
 clauses-sound-requires c κs =
