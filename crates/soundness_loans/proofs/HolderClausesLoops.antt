@@ -17,7 +17,7 @@ use Rattle.rows.specs.Tables.{State, lists}
 use Rattle.rows.specs.Sound.{itemsLent, isFetched, olderFetched, awaitsFetch, same, systemHolds}
 use Rattle.rows.specs.Layout.{requestAt, requestsTo, rowSlot}
 use Rattle.rows.specs.contracts.Represents.{Represents}
-use Rattle.soundness_loans.specs.contracts.Clauses.{itemsListable, listingCode, listingOf, codeAt, listAll, listedOnce, withItems, heldTo, holderClauses}
+use Rattle.soundness_loans.specs.contracts.Clauses.{itemsListable, listingCode, listingOf, codeAt, listAll, itemSlots, listedOnce, withItems, heldTo, holderClauses}
 use Rattle.rows.proofs.Bools.{and-l, and-r, or-r, pos-some}
 use Rattle.rows.proofs.Slots.{represented-well, row-words-at, slot-number}
 use Rattle.soundness_loans.proofs.RequestClauses.{requests-read, and-true}
@@ -94,11 +94,14 @@ listing-turn {st} rep whole vs l l′ older r v lent e d p =
     (record {
       long = length-list-all code slots l ∙ p .long;
       codes = λ x. p .codes x ∙ code-is (lists x v) code (listingOf vs x) (old x) pos ∙ sym (ap (λ (n : ℕ). cond (eqb n 0) (listingOf vs x) n) (now x));
-      told = (λ i. (check i && older) && fetchedAfter (λ x. more x i) vs) ∙ swap (isFetched v || not (any (λ x. some (old x)) (v .items))) older (fetchedAfter (λ x. some (old x) || lists x v) vs) ∙ p .told;
+      told =
+          (λ i. (check i && older) && fetchedAfter (λ x. more x i) vs)
+          ∙ swap (isFetched v || not (any (λ x. some (old x)) (v .items))) older (fetchedAfter (λ x. some (old x) || lists x v) vs)
+          ∙ p .told;
     })
   where
     slots : List ℕ
-    slots = map (rowSlot (st .rows)) (v .items)
+    slots = itemSlots (st .rows) v
 
     code : ℕ
     code = listingCode (isFetched v)

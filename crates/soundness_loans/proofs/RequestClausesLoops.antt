@@ -97,14 +97,25 @@ ports-turn {st} rep vs marks right v (suc i) e h p =
     joined at false q = and-false (not (taken (st .rows) (suc i) vs))
 
     marked : (k : ℕ) → k < 1024 → getD (set marks i true) k false ≡ eqb (standingPort (st .rows) v) (suc k) || taken (st .rows) (suc k) vs
-    marked k lt =
-        elim (ℕ-discrete k i) [
-          | yes d ↦ ap (λ (n : ℕ). getD (set marks i true) n false) d ∙ getD-set-same marks i true false (omega (arith, p .long)) ∙ sym (ap (λ (b : Bool). b || taken (st .rows) (suc k) vs) (eq-eqb (standingPort (st .rows) v) (suc k) (sym e ∙ ap suc (sym d))))
-          | no d ↦ getD-set-other marks i k true false d ∙ p .held k lt ∙ sym (ap (λ (b : Bool). b || taken (st .rows) (suc k) vs) (ne-eqb (standingPort (st .rows) v) (suc k) (λ x. d (same k x))))
-        ]
+    marked k lt = elim (ℕ-discrete k i) [ yes d ↦ here d | no d ↦ there d ]
       where
         same : (k : ℕ) → standingPort (st .rows) v ≡ suc k → k ≡ i
         same k x = omega (arith, e, x)
+
+        or-taken : {a b : Bool} → a ≡ b → b || taken (st .rows) (suc k) vs ≡ a || taken (st .rows) (suc k) vs
+        or-taken q = sym (ap (λ (b : Bool). b || taken (st .rows) (suc k) vs) q)
+
+        here : k ≡ i → getD (set marks i true) k false ≡ eqb (standingPort (st .rows) v) (suc k) || taken (st .rows) (suc k) vs
+        here d =
+            ap (λ (n : ℕ). getD (set marks i true) n false) d
+            ∙ getD-set-same marks i true false (omega (arith, p .long))
+            ∙ or-taken (eq-eqb (standingPort (st .rows) v) (suc k) (sym e ∙ ap suc (sym d)))
+
+        there : (k ≡ i → ⊥) → getD (set marks i true) k false ≡ eqb (standingPort (st .rows) v) (suc k) || taken (st .rows) (suc k) vs
+        there d =
+            getD-set-other marks i k true false d
+            ∙ p .held k lt
+            ∙ or-taken (ne-eqb (standingPort (st .rows) v) (suc k) (λ x. d (same k x)))
 
 -- one request more
 pub ports-next : {st : State} {t : List ℕ} → Represents t st → (u : List ℕ) (j : ℕ) (marks marks′ : List Bool) (right r : Bool) (s : ℕ) → s ≡ standingPort (st .rows) (requestAt u j) → s ≤ 1024
