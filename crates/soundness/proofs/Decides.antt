@@ -1,5 +1,5 @@
--- Answers that tell whether something holds: of tests, of two at once, and of each place that a loop has passed.
-use Prim.Native.Nat.{ℕ, zero, suc, _+_, _*_, _<_, _≤_}
+-- Answers that tell whether something holds: of tests, of two at once, and of each position that a loop has passed.
+use Prim.Native.Nat.{ℕ, zero, suc, _+_, _<_, _≤_}
 use mathlib.Core.Bool.{Bool, true, _&&_}
 use mathlib.Core.List.{List}
 use mathlib.Core.Path.{_≡_, refl, ap, subst, sym, _∙_}
@@ -11,7 +11,8 @@ use borrow.Author.Tests.{eqb-true, eq-eqb, ltb-true, lt-ltb, leb-true, le-leb}
 use lib.Dec.{leb, ltb, eqb}
 use lib.ListN.{length, getD, take, drop, length-take, List·getD-eq-default}
 use lib.Seq.{getD-take, getD-drop}
-use Rattle.soundness.specs.contracts.Laid.{Decides, before, Rising, Older, ZeroFrom, RowsLaid, RequestsLaid}
+use Rattle.rows.specs.contracts.Sizes.{ROWS, REQUESTS, SOURCE, VIA, Q-NUMBER}
+use Rattle.soundness.specs.contracts.Laid.{Decides, before, Rising, Older, ZeroFrom, RowsUnused, RequestsUnused, RowsLaid, RequestsLaid}
 use Rattle.rows.proofs.Bools.{and-l, and-r, and-i}
 
 lt-or-ge : (a b : ℕ) → (a < b) ⊎ (b ≤ a)
@@ -33,7 +34,7 @@ pub decides-and : (a b : Bool) {p q : Type 0} → Decides a p → Decides b q �
 decides-and a b h k =
     record { holds = λ e. (h .holds (and-l a b e), k .holds (and-r a b e)); says = λ x. and-i a b (h .says (x .0)) (k .says (x .1)) }
 
--- of each place from k to before i
+-- of each position from k to before i
 abbrev pub Between : ℕ → ℕ → (ℕ → Type 0) → Type 0
 Between k i P = (j : ℕ) → k ≤ j → j < i → P j
 
@@ -53,12 +54,13 @@ pub decides-zero : (l : List ℕ) (k i : ℕ) (a : Bool) → length l ≤ i → 
 unfolding ZeroFrom
 decides-zero l k i a h = decides-as (λ x j lo. ⊎-elim (λ lt. x j lo lt) (λ ge. List·getD-eq-default l 0 (le-trans h ge)) (lt-or-ge j i)) (λ x j lo hi. x j lo)
 
--- from place 0 to the last of k
+-- from position 0 to the last of k
 pub decides-below : (P : ℕ → Type 0) (k i : ℕ) (a : Bool) → i ≤ k → k ≤ i → Decides a (Between 0 i P) → Decides a ((j : ℕ) → j < k → P j)
 decides-below P k i a le ge = decides-as (λ x j hi. x j (omega arith) (omega arith)) (λ x j lo hi. x j (omega arith))
 
--- a part of the words, from place a on, w of them, is 0 from its place n on; each of its words is named by where it stands
-pub decides-part : (t : List ℕ) (n a v w : ℕ) (at : ℕ → ℕ) (b : Bool) → v ≡ w → ((i : ℕ) → a + i ≡ at i) → Decides b (ZeroFrom n (take v (drop a t))) → Decides b ((i : ℕ) → n ≤ i → i < w → getD t (at i) 0 ≡ 0)
+-- a part of the words, from position a on, w of them, is 0 from its position n on; each of its words is named by where it stands
+pub decides-part : (t : List ℕ) (n a v w : ℕ) (at : ℕ → ℕ) (b : Bool) → v ≡ w → ((i : ℕ) → a + i ≡ at i)
+    → Decides b (ZeroFrom n (take v (drop a t))) → Decides b ((i : ℕ) → n ≤ i → i < w → getD t (at i) 0 ≡ 0)
 unfolding ZeroFrom
 decides-part t n a v w at b e where-at =
     decides-as (λ x i lo hi. sym (stands i (omega arith)) ∙ x i lo)
@@ -94,16 +96,15 @@ older-take t a k w b h =
     decides-as (λ x i lt. let y = x i lt in omega (arith, getD-take w (drop a t) i 0 (le-trans lt h), getD-drop a t i 0))
     (λ x i lt. let y = x i lt in omega (arith, getD-take w (drop a t) i 0 (le-trans lt h), getD-drop a t i 0))
 
-pub decides-rows : (t : List ℕ) (n : ℕ) (a b c d : Bool) → n ≤ 1024 → Decides a (Rising n (take 1024 t)) → Decides b (Older n (take 1024 (drop 6144 t)))
-    → Decides c (Older n (take 1024 (drop 7168 t))) → Decides d ((c i : ℕ) → c < 10 → n ≤ i → i < 1024 → getD t (c * 1024 + i) 0 ≡ 0)
-    → Decides (a && (b && (c && d))) (RowsLaid t n)
+pub decides-rows : (t : List ℕ) (n : ℕ) (a b c d : Bool) → n ≤ ROWS → Decides a (Rising n (take ROWS t)) → Decides b (Older n (take ROWS (drop SOURCE t)))
+    → Decides c (Older n (take ROWS (drop VIA t))) → Decides d (RowsUnused t n) → Decides (a && (b && (c && d))) (RowsLaid t n)
 decides-rows t n a b c d few up old via none =
     decides-as (λ x. record { numbers = x .0; sources = x .1 .0; vias = x .1 .1 .0; unused = x .1 .1 .1 }) (λ x. (x .numbers, (x .sources, (x .vias, x .unused))))
-    (decides-and a (b && (c && d)) (rising-take t n 1024 a few up)
-    (decides-and b (c && d) (older-take t 6144 n 1024 b few old) (decides-and c d (older-take t 7168 n 1024 c few via) none)))
+    (decides-and a (b && (c && d)) (rising-take t n ROWS a few up)
+    (decides-and b (c && d) (older-take t SOURCE n ROWS b few old) (decides-and c d (older-take t VIA n ROWS c few via) none)))
 
-pub decides-requests : (t : List ℕ) (m : ℕ) (a b : Bool) → m ≤ 128 → Decides a (Rising m (take 128 (drop 10240 t)))
-    → Decides b ((c i : ℕ) → c < 8 → m ≤ i → i < 128 → getD t (10240 + (c * 128 + i)) 0 ≡ 0) → Decides (a && b) (RequestsLaid t m)
+pub decides-requests : (t : List ℕ) (m : ℕ) (a b : Bool) → m ≤ REQUESTS → Decides a (Rising m (take REQUESTS (drop Q-NUMBER t)))
+    → Decides b (RequestsUnused t m) → Decides (a && b) (RequestsLaid t m)
 decides-requests t m a b few up none =
     decides-as (λ x. record { numbers = x .0; unused = x .1 }) (λ x. (x .numbers, x .unused))
-    (decides-and a b (rising-take (drop 10240 t) m 128 a few up) none)
+    (decides-and a b (rising-take (drop Q-NUMBER t) m REQUESTS a few up) none)

@@ -1,5 +1,5 @@
 -- Laws behind the functions of soundness. One line a file:
--- answers that tell whether something holds, of each place that a loop has passed
+-- answers that tell whether something holds, of each position that a loop has passed
 pub mod Decides
 -- lists read slot by slot
 pub mod ListTo

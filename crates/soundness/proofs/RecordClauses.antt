@@ -110,6 +110,6 @@ module _ (st : State) (q : ℕ) (x : Process) (gone : x .through ≡ 0 → ⊥) 
   placed-nowhere e = sym (placed-there ∙ rw (first-none (λ r. r .number) noRow (st .rows) (x .through) (slot-none (λ r. r .number) (st .rows) (x .through) e)) refl)
 
   pub placed-at : {t : List ℕ} → Represents t st → (i : ℕ) (w : Row) → rowSlot (st .rows) (x .through) ≡ suc i → w ≡ rawRow t i
-      → eqb (w .kind) 2 && (eqb (w .place) (100 + q) && eqb (w .object) (x .active)) ≡ processPlaced (st .rows) q x
-  unfolding isSubdirectory subdirectory inClist slotted withSources
+      → eqb (w .kind) 2 && (eqb (w .place) (inClist q) && eqb (w .object) (x .active)) ≡ processPlaced (st .rows) q x
+  unfolding isSubdirectory subdirectory slotted withSources
   placed-at rep i w e d = rw (d ∙ raw-row rep (x .through) i e) (sym placed-there)

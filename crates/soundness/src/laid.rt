@@ -1,5 +1,5 @@
-// The first stage of `sound`: numbers rise, sources stand before their rows, unused slots are 0. Every word is looked at, with no way out early, so
-// that the loops run over many words at once.
+// The first stage of `sound`: numbers rise, sources stand before their rows, unused slots are 0. Every word is looked
+// at, with no way out early, so that the loops run over many words at once.
 use rows::layout::DEPTH;
 use rows::layout::KIND;
 use rows::layout::NUMBER;
@@ -11,14 +11,14 @@ use rows::layout::ROW_COLUMNS;
 use rows::layout::ROWS;
 use rows::layout::SOURCE;
 use rows::layout::VIA;
-ghost use mathlib.Core.Path.{_≡_};
-ghost use Prim.Native.Nat.{ℕ, _+_, _*_, _<_, _≤_};
-ghost use lib.ListN.{length, getD};
-ghost use Rattle.soundness.specs.contracts.Laid.{Decides, Rising, Older, ZeroFrom, RowsLaid, RequestsLaid};
-ghost use Rattle.rows.specs.contracts.Sizes.{ROWS, REQUESTS, ROW-COLUMNS, REQUEST-COLUMNS, Q-NUMBER, IsTables};
+ghost use Prim.Native.Nat.{_≤_};
+ghost use lib.ListN.{length};
+ghost use Rattle.rows.specs.contracts.Sizes.{ROWS, REQUESTS, IsTables};
+ghost use Rattle.soundness.specs.contracts.Laid.{Decides, Rising, Older, ZeroFrom, RowsUnused, RequestsUnused};
+ghost use Rattle.soundness.specs.contracts.Laid.{RowsLaid, RequestsLaid};
 
-// Whether the words of a column from place k on are 0.
-// Ruled out: yes where the last word is not 0; no for what stands before place k.
+// Whether the words of a column from position k on are 0.
+// Ruled out: yes where the last word is not 0; no for what stands before position k.
 pub fn zero_from(column: &[u32], k: usize) -> bool
     ensures { λ r. ⌜ Decides r (ZeroFrom k (now (column .entry))) ⌝ }
 {
@@ -70,7 +70,7 @@ pub fn older(column: &[u32], k: usize) -> bool
 // Ruled out: yes where a word of one column alone is left; no for the row at slot n - 1.
 pub fn rows_unused(t: &[u32], n: usize) -> bool
     requires { ⌜ IsTables (now t) ⌝ }
-    ensures { λ r. ⌜ Decides r ((c i : ℕ) → c < ROW-COLUMNS → n ≤ i → i < ROWS → getD (now (t .entry)) (c * ROWS + i) 0 ≡ 0) ⌝ }
+    ensures { λ r. ⌜ Decides r (RowsUnused (now (t .entry)) n) ⌝ }
 {
     let mut unused = true;
     let mut c = 0;
@@ -87,7 +87,7 @@ pub fn rows_unused(t: &[u32], n: usize) -> bool
 // Ruled out: yes where an item is left in a slot; no for the next number, which follows the columns.
 pub fn requests_unused(t: &[u32], m: usize) -> bool
     requires { ⌜ IsTables (now t) ⌝ }
-    ensures { λ r. ⌜ Decides r ((c i : ℕ) → c < REQUEST-COLUMNS → m ≤ i → i < REQUESTS → getD (now (t .entry)) (Q-NUMBER + (c * REQUESTS + i)) 0 ≡ 0) ⌝ }
+    ensures { λ r. ⌜ Decides r (RequestsUnused (now (t .entry)) m) ⌝ }
 {
     let mut unused = true;
     let mut c = 0;

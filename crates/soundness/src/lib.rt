@@ -1,4 +1,5 @@
-// Sound tables, tested on words of any length and any content: how rows and requests are laid, the process records and the next number, and all clauses together.
+// Sound tables, on words of any length and content: how rows and requests are laid, the clauses of process records and
+// of the next number, one function a clause, and all clauses together.
 
 // ---- functions
 pub mod laid;

@@ -1,9 +1,9 @@
-// The clauses of soundness of the process records and of the next number, each named as in specs/Sound.antt.
+// The clauses of soundness of the process records and of the next number, each named as in rows/specs/Sound.antt.
 use rows::Found;
 use rows::Process;
 use rows::codes::A_SUBDIRECTORY;
-use rows::codes::BEFORE_CLISTS;
-use rows::codes::LAST_NODE;
+use rows::codes::clist;
+use rows::codes::is_node;
 use rows::find::row_among;
 use rows::layout::KIND;
 use rows::layout::NEXT;
@@ -12,18 +12,19 @@ use rows::layout::PROCESSES;
 use rows::layout::Q_NUMBER;
 use rows::layout::Q_PORT;
 use rows::read::row_at;
-ghost use mathlib.Core.Bool.{_&&_};
 ghost use mathlib.Core.Path.{_≡_};
 ghost use Prim.Native.Nat.{_<_, _≤_};
 ghost use lib.ListN.{length, getD};
-ghost use Rattle.rows.specs.Tables.{State, noProcess};
-ghost use Rattle.rows.specs.Sound.{belowNext, nextInRange, recordInRange, recordsInRange, processPlaced, processesPlaced};
+ghost use Rattle.rows.specs.Lists.{all};
+ghost use Rattle.rows.specs.Tables.{noProcess};
+ghost use Rattle.rows.specs.Sound.{recordInRange, processPlaced, placedFrom};
 ghost use Rattle.rows.specs.Layout.{recordsIn};
-ghost use Rattle.rows.specs.contracts.Represents.{Represents};
-ghost use Rattle.soundness.specs.contracts.Laid.{before};
 ghost use Rattle.rows.specs.contracts.Sizes.{ROWS, REQUESTS, PROCESSES, IsTables, IsRecords};
+ghost use Rattle.soundness_rows.specs.contracts.OfState.{OfRows, TestsTables};
+ghost use Rattle.soundness.specs.contracts.Laid.{before};
+ghost use Rattle.soundness.specs.contracts.Clauses.{nextClauses};
 
-// one more than the greatest number
+// The greatest next number: one more than the greatest number of a row or a request.
 const LAST_NEXT: u32 = 1000001;
 
 // ---- the next number
@@ -41,7 +42,7 @@ pub fn last_of(column: &[u32], k: usize) -> u32
 // Ruled out: a next number of 1,000,002; one that a row or a request has.
 pub fn next_sound(t: &[u32], n: usize, m: usize) -> bool
     requires { ⌜ IsTables (now t) × (n ≤ ROWS) × (m ≤ REQUESTS) ⌝ }
-    ensures { λ r. ⌜ ((st : State) → Represents (now (t .entry)) st → n ≡ length (st .rows) → m ≡ length (st .requests) → r ≡ (nextInRange st && belowNext st)) ⌝ }
+    ensures { λ r. ⌜ TestsTables (now (t .entry)) n m r nextClauses ⌝ }
 {
     let next = t[NEXT];
     let row = last_of(&t[NUMBER..KIND], n);
@@ -51,7 +52,7 @@ pub fn next_sound(t: &[u32], n: usize, m: usize) -> bool
 }
 
 // ---- the process records
-// The record of process i + 1. Ruled out: the record after it; two fields in each other's place.
+// The record of process i + 1. Ruled out: the record after it; two fields exchanged.
 pub fn record_at(p: &[u32], i: usize) -> Process
     requires { ⌜ IsRecords (now p) × (i < PROCESSES) ⌝ }
     ensures { λ r. ⌜ r ≡ getD (recordsIn (now (p .entry))) i noProcess ⌝ }
@@ -69,15 +70,15 @@ pub fn record_in_range(x: Process) -> bool
     ensures { λ r. ⌜ r ≡ recordInRange x ⌝ }
 {
     let unused = (x.prime == 0) & ((x.active == 0) & (x.through == 0));
-    let prime = (1 <= x.prime) & (x.prime <= LAST_NODE);
-    let active = (1 <= x.active) & (x.active <= LAST_NODE);
+    let prime = is_node(x.prime);
+    let active = is_node(x.active);
     unused | (prime & active)
 }
 
 // Ruled out: yes where the last record is out of range; no for a record that is not used.
 pub fn records_sound(p: &[u32]) -> bool
     requires { ⌜ IsRecords (now p) ⌝ }
-    ensures { λ r. ⌜ ((st : State) → st .processes ≡ recordsIn (now (p .entry)) → r ≡ recordsInRange st) ⌝ }
+    ensures { λ r. ⌜ r ≡ all recordInRange (recordsIn (now (p .entry))) ⌝ }
 {
     let mut in_range = true;
     let mut i = 0;
@@ -92,7 +93,7 @@ pub fn records_sound(p: &[u32]) -> bool
 // Of the record of process q. Ruled out: a row of another process's c-list; one that is no subdirectory.
 pub fn process_placed(t: &[u32], n: usize, q: u32, x: Process) -> bool
     requires { ⌜ IsTables (now t) × (n ≤ ROWS) × (q ≤ PROCESSES) ⌝ }
-    ensures { λ r. ⌜ ((st : State) → Represents (now (t .entry)) st → n ≡ length (st .rows) → r ≡ processPlaced (st .rows) q x) ⌝ }
+    ensures { λ r. ⌜ OfRows (now (t .entry)) n r (λ rs. processPlaced rs q x) ⌝ }
 {
     if x.through == 0 {
         return x.active == x.prime;
@@ -101,14 +102,14 @@ pub fn process_placed(t: &[u32], n: usize, q: u32, x: Process) -> bool
         return false;
     };
     let r = row_at(t, i);
-    let home = BEFORE_CLISTS + q;
+    let home = clist(q);
     (r.kind == A_SUBDIRECTORY) & ((r.place == home) & (r.object == x.active))
 }
 
-// Ruled out: yes where process 64 is not in its place; the records counted from 0.
+// Of every process. Ruled out: yes where process 64 alone is in a wrong node; the processes counted from 0.
 pub fn processes_placed(t: &[u32], p: &[u32], n: usize) -> bool
     requires { ⌜ IsTables (now t) × IsRecords (now p) × (n ≤ ROWS) ⌝ }
-    ensures { λ r. ⌜ ((st : State) → Represents (now (t .entry)) st → st .processes ≡ recordsIn (now (p .entry)) → n ≡ length (st .rows) → r ≡ processesPlaced st) ⌝ }
+    ensures { λ r. ⌜ OfRows (now (t .entry)) n r (λ rs. placedFrom rs 1 (recordsIn (now (p .entry)))) ⌝ }
 {
     let mut placed = true;
     let mut i = 0;

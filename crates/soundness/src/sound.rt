@@ -1,4 +1,4 @@
-// Sound tables as words, of any length and any content: first that the words are laid, then the clauses, group by group.
+// Sound tables as words, of any length and any content: first that the words are laid, then the clauses group by group.
 use crate::laid::requests_laid;
 use crate::laid::rows_laid;
 use crate::record_clauses::next_sound;
@@ -12,21 +12,20 @@ use soundness_loans::holder_clauses::holders_sound;
 use soundness_loans::request_clauses::requests_sound;
 use soundness_rows::rows_sound::rows_sound;
 ghost use mathlib.Core.Path.{_≡_};
-ghost use mathlib.Core.Bool.{true, _&&_};
-ghost use Prim.Native.Nat.{ℕ, _+_, _<_, _≤_};
-ghost use lib.ListN.{length, getD};
-ghost use Rattle.rows.specs.Tables.{State};
-ghost use Rattle.rows.specs.Sound.{belowNext, nextInRange, recordsInRange, sound};
-ghost use Rattle.rows.specs.Layout.{recordsIn, soundWords};
-ghost use Rattle.rows.specs.contracts.Represents.{Represents};
-ghost use Rattle.rows.specs.contracts.Sizes.{ROWS, REQUESTS, SOURCE, VIA, IsTables, IsRecords};
+ghost use Prim.Native.Nat.{_≤_};
+ghost use Rattle.rows.specs.Sound.{sound};
+ghost use Rattle.rows.specs.Layout.{soundWords};
+ghost use Rattle.rows.specs.contracts.Sizes.{ROWS, REQUESTS, IsTables, IsRecords};
+ghost use Rattle.soundness_rows.specs.contracts.OfState.{Tests};
+ghost use Rattle.soundness_rows.specs.contracts.Seen.{SourcesOlder};
+ghost use Rattle.soundness.specs.contracts.Clauses.{TestsRest};
 
-// The clauses of rows, requests and processes, where the next number and the records are in range.
+// The clauses of rows, requests, holders and processes, where the next number and the records are in range.
+// Ruled out: one of the four groups is left out; holders are asked of items that are no rows.
 fn tables_sound(t: &[u32], p: &[u32], n: usize, m: usize) -> bool
     requires sizes { ⌜ IsTables (now t) × IsRecords (now p) × (n ≤ ROWS) × (m ≤ REQUESTS) ⌝ }
-    requires sources { ⌜ ((i : ℕ) → i < n → getD (now t) (SOURCE + i) 0 ≤ i) ⌝ }
-    requires vias { ⌜ ((i : ℕ) → i < n → getD (now t) (VIA + i) 0 ≤ i) ⌝ }
-    ensures { λ r. ⌜ ((st : State) → Represents (now (t .entry)) st → st .processes ≡ recordsIn (now (p .entry)) → n ≡ length (st .rows) → m ≡ length (st .requests) → nextInRange st && belowNext st ≡ true → recordsInRange st ≡ true → r ≡ sound st) ⌝ }
+    requires sources { ⌜ SourcesOlder (now t) n ⌝ }
+    ensures { λ r. ⌜ TestsRest (now (t .entry)) (now (p .entry)) n m r ⌝ }
 {
     let rows = rows_sound(t, p, n, m);
     let requests = requests_sound(t, p, n, m);
@@ -35,12 +34,11 @@ fn tables_sound(t: &[u32], p: &[u32], n: usize, m: usize) -> bool
     rows & (requests & (holders & placed))
 }
 
-// All clauses, where the words are laid.
+// All clauses, where the words are laid. Ruled out: the records are left out; tables with a wrong next number.
 fn clauses_sound(t: &[u32], p: &[u32], n: usize, m: usize) -> bool
     requires sizes { ⌜ IsTables (now t) × IsRecords (now p) × (n ≤ ROWS) × (m ≤ REQUESTS) ⌝ }
-    requires sources { ⌜ ((i : ℕ) → i < n → getD (now t) (SOURCE + i) 0 ≤ i) ⌝ }
-    requires vias { ⌜ ((i : ℕ) → i < n → getD (now t) (VIA + i) 0 ≤ i) ⌝ }
-    ensures { λ r. ⌜ ((st : State) → Represents (now (t .entry)) st → st .processes ≡ recordsIn (now (p .entry)) → n ≡ length (st .rows) → m ≡ length (st .requests) → r ≡ sound st) ⌝ }
+    requires sources { ⌜ SourcesOlder (now t) n ⌝ }
+    ensures { λ r. ⌜ Tests (now (t .entry)) (now (p .entry)) n m r sound ⌝ }
 {
     let next = next_sound(t, n, m);
     let records = records_sound(p);

@@ -16,7 +16,7 @@ use Rattle.rows.specs.Tables.{State, noRow, rowOf, lists}
 use Rattle.rows.specs.Sound.{mayBeListed}
 use Rattle.rows.specs.contracts.Represents.{Represents}
 use Rattle.rows.specs.Layout.{rowSlot}
-use Rattle.soundness_loans.specs.contracts.Clauses.{codeAt, listAt, listAll}
+use Rattle.soundness_loans.specs.contracts.Clauses.{itemsListable, codeAt, listAt, listAll, itemSlots}
 use Rattle.rows.proofs.Bools.{false-of, clash, and-l, and-r, and-i, pos-some, eqb-self, all-at}
 use Rattle.rows.proofs.Slots.{represented-well, slot-le, row-absent}
 use Rattle.soundness_loans.proofs.RequestClauses.{no-slot, slot-test, member-nonzero}
@@ -141,7 +141,7 @@ small-slots {st} rep (e ∷ es) =
 
 -- what is asked of the items of a request
 abbrev pub Lent : State → Request → Type 0
-Lent st v = all (λ e. mayBeListed v (rowOf (st .rows) e)) (nonzero (v .items)) ≡ true
+Lent st v = itemsListable (st .rows) v ≡ true
 
 -- an item that is there is a row
 item-there : (st : State) (v : Request) → Lent st v → (e : ℕ) → lists e v ≡ true → rowSlot (st .rows) e ≡ 0 → ⊥
@@ -158,12 +158,12 @@ member-slot {st} rep e i d (a ∷ es) = rw (slot-test rep e i d a, member-slot r
 
 -- the code of a row after a request was listed
 pub code-turn : {st : State} {t : List ℕ} → Represents t st → (v : Request) → Lent st v → (code : ℕ) → 0 < code → (l : List ℕ) → length l ≡ 1024 → (e : ℕ)
-    → codeAt (listAll code (map (rowSlot (st .rows)) (v .items)) l) (rowSlot (st .rows) e) ≡ listed-now (lists e v) code (codeAt l (rowSlot (st .rows) e))
+    → codeAt (listAll code (itemSlots (st .rows) v) l) (rowSlot (st .rows) e) ≡ listed-now (lists e v) code (codeAt l (rowSlot (st .rows) e))
 unfolding codeAt lists
 code-turn {st} rep v lent code pos l long e = pick (rowSlot (st .rows) e) refl
   where
     slots : List ℕ
-    slots = map (rowSlot (st .rows)) (v .items)
+    slots = itemSlots (st .rows) v
 
     pick : (s : ℕ) → rowSlot (st .rows) e ≡ s → codeAt (listAll code slots l) s ≡ listed-now (lists e v) code (codeAt l s)
     pick zero d = sym (ap (λ (b : Bool). listed-now b code 0) (false-of (lists e v) (λ h. item-there st v lent e h d)))

@@ -11,13 +11,13 @@ use lib.Dec.{eqb}
 use lib.ListN.{length, getD, replicate, length-replicate}
 use Rattle.rows.specs.declared.Row.{Row}
 use Rattle.rows.specs.declared.Request.{Request}
-use Rattle.rows.specs.Lists.{any, all, rises, some, nonzero}
+use Rattle.rows.specs.Lists.{any, all, rises, some}
 use Rattle.rows.specs.Codes.{isSystem}
-use Rattle.rows.specs.Tables.{State, rowOf, lists}
-use Rattle.rows.specs.Sound.{mayBeListed, itemsLent, isFetched, olderFetched, awaitsFetch, same, systemHolds}
+use Rattle.rows.specs.Tables.{State, lists}
+use Rattle.rows.specs.Sound.{itemsLent, isFetched, olderFetched, awaitsFetch, same, systemHolds}
 use Rattle.rows.specs.Layout.{requestAt, requestsTo, rowSlot}
 use Rattle.rows.specs.contracts.Represents.{Represents}
-use Rattle.soundness_loans.specs.contracts.Clauses.{listingCode, listingOf, codeAt, listAll, heldTo}
+use Rattle.soundness_loans.specs.contracts.Clauses.{itemsListable, listingCode, listingOf, codeAt, listAll, itemSlots, listedOnce, withItems, heldTo, holderClauses}
 use Rattle.rows.proofs.Bools.{and-l, and-r, or-r, pos-some}
 use Rattle.rows.proofs.Slots.{represented-well, row-words-at, slot-number}
 use Rattle.soundness_loans.proofs.RequestClauses.{requests-read, and-true}
@@ -86,8 +86,7 @@ code-pos true = omega arith
 code-pos false = omega arith
 
 pub listing-turn : {st : State} {t : List ℕ} → Represents t st → (whole vs : List Request) (l l′ : List ℕ) (older r : Bool) (v : Request) → Lent st v
-    → r ≡ isFetched v || not (any (λ s. some (codeAt l s)) (map (rowSlot (st .rows)) (v .items)))
-    → l′ ≡ listAll (listingCode (isFetched v)) (map (rowSlot (st .rows)) (v .items)) l
+    → r ≡ listedOnce l (st .rows) v → l′ ≡ withItems l (st .rows) v
     → Listing (st .rows) whole (v ∷ vs) l older → Listing (st .rows) whole vs l′ (r && older)
 unfolding listingOf fetchedAfter
 listing-turn {st} rep whole vs l l′ older r v lent e d p =
@@ -95,11 +94,14 @@ listing-turn {st} rep whole vs l l′ older r v lent e d p =
     (record {
       long = length-list-all code slots l ∙ p .long;
       codes = λ x. p .codes x ∙ code-is (lists x v) code (listingOf vs x) (old x) pos ∙ sym (ap (λ (n : ℕ). cond (eqb n 0) (listingOf vs x) n) (now x));
-      told = (λ i. (check i && older) && fetchedAfter (λ x. more x i) vs) ∙ swap (isFetched v || not (any (λ x. some (old x)) (v .items))) older (fetchedAfter (λ x. some (old x) || lists x v) vs) ∙ p .told;
+      told =
+          (λ i. (check i && older) && fetchedAfter (λ x. more x i) vs)
+          ∙ swap (isFetched v || not (any (λ x. some (old x)) (v .items))) older (fetchedAfter (λ x. some (old x) || lists x v) vs)
+          ∙ p .told;
     })
   where
     slots : List ℕ
-    slots = map (rowSlot (st .rows)) (v .items)
+    slots = itemSlots (st .rows) v
 
     code : ℕ
     code = listingCode (isFetched v)
@@ -164,13 +166,11 @@ lent-at F t (suc m) h j lt =
 pub items-lent : {st : State} {t : List ℕ} → Represents t st → itemsLent st ≡ true → (j : ℕ) → j < length (st .requests) → Lent st (requestAt t j)
 unfolding itemsLent
 items-lent {st} {t} rep h j lt =
-    lent-at (λ v. all (λ e. mayBeListed v (rowOf (st .rows) e)) (nonzero (v .items))) t (length (st .requests))
-    (ap (all (λ v. all (λ e. mayBeListed v (rowOf (st .rows) e)) (nonzero (v .items)))) (requests-read rep) ∙ h) j lt
+    lent-at (itemsListable (st .rows)) t (length (st .requests)) (ap (all (itemsListable (st .rows))) (requests-read rep) ∙ h) j lt
 
 -- the request before j is next
 pub listing-next : {st : State} {t : List ℕ} → Represents t st → (whole : List Request) (j : ℕ) (l l′ : List ℕ) (older r : Bool) → 0 < j → Lent st (requestAt t (j - 1))
-    → r ≡ isFetched (requestAt t (j - 1)) || not (any (λ s. some (codeAt l s)) (map (rowSlot (st .rows)) (requestAt t (j - 1) .items)))
-    → l′ ≡ listAll (listingCode (isFetched (requestAt t (j - 1)))) (map (rowSlot (st .rows)) (requestAt t (j - 1) .items)) l
+    → r ≡ listedOnce l (st .rows) (requestAt t (j - 1)) → l′ ≡ withItems l (st .rows) (requestAt t (j - 1))
     → Listing (st .rows) whole (requestsTo t j) l older → Listing (st .rows) whole (requestsTo t (j - 1)) l′ (r && older)
 unfolding requestsTo
 listing-next {st} {t} rep whole j l l′ older r pos lent e d p =
@@ -179,7 +179,7 @@ listing-next {st} {t} rep whole j l l′ older r pos lent e d p =
 
 -- all requests are listed, and the rows looked at
 pub holders-end : {st : State} {t : List ℕ} → Represents t st → (n m : ℕ) → n ≡ length (st .rows) → m ≡ length (st .requests) → (j : ℕ) → j ≤ 0 → (l : List ℕ) (older held : Bool)
-    → Listing (st .rows) (requestsTo t m) (requestsTo t j) l older → held ≡ heldTo t l n → older && held ≡ olderFetched st && systemHolds st
+    → Listing (st .rows) (requestsTo t m) (requestsTo t j) l older → held ≡ heldTo t l n → older && held ≡ holderClauses st
 unfolding requestsTo
 holders-end {st} {t} rep n m e d j h l older held p q =
     let none : j ≡ 0 = omega arith in

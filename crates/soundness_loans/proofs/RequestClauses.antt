@@ -98,8 +98,8 @@ module _ {st : State} {t : List ℕ} (rep : Represents t st) where
       pick (suc i) d = ap (λ (n : ℕ). isEnd (rowOf (st .rows) e .kind) && ltb n q) (sym (row-found (st .rows) e i d .1))
 
   pub may-be-listed : (v : Request) (e q kind bears : ℕ) → v .number ≡ q → kind ≡ rowOf (st .rows) e .kind → bears ≡ rowOf (st .rows) e .request
-      → not (ltb 0 e) || (((eqb kind 3 || eqb kind 4) && ltb e q) || (ltb 0 bears && eqb bears q)) ≡ not (some e) || mayBeListed v (rowOf (st .rows) e)
-  unfolding some mayBeListed isEnd isClient isServer clientEnd serverEnd
+      → not (ltb 0 e) || ((isEnd kind && ltb e q) || (ltb 0 bears && eqb bears q)) ≡ not (some e) || mayBeListed v (rowOf (st .rows) e)
+  unfolding some mayBeListed
   may-be-listed v e q kind bears a b c =
       rw (b, c, ← a) (ap (λ (x : Bool). not (ltb 0 e) || (x || (ltb 0 (rowOf (st .rows) e .request) && eqb (rowOf (st .rows) e .request) (v .number)))) (older-end e (v .number)))
 

@@ -14,11 +14,11 @@ use Rattle.rows.specs.declared.Row.{Row}
 use Rattle.rows.specs.declared.Request.{Request}
 use Rattle.rows.specs.Lists.{any, all, member, distinct, nonzero}
 use Rattle.rows.specs.Codes.{clientEnd, isClient}
-use Rattle.rows.specs.Tables.{State, noRow, rowOf, isListed, numbers}
-use Rattle.rows.specs.Sound.{numbersApart, fetchedInRange, portStands, portsStand, requestersListed, itemsApart, mayBeListed, itemsLent, onePerPort}
+use Rattle.rows.specs.Tables.{State, noRow, rowOf, isListed}
+use Rattle.rows.specs.Sound.{numbersApart, fetchedInRange, portStands, portsStand, requestersListed, itemsApart, itemsLent, onePerPort}
 use Rattle.rows.specs.Layout.{requestAt, requestsTo, rowSlot}
 use Rattle.rows.specs.contracts.Represents.{Represents}
-use Rattle.soundness_loans.specs.contracts.Clauses.{requestRight, standingPort, portsRight, isFree, withMark}
+use Rattle.soundness_loans.specs.contracts.Clauses.{numberApart, itemsListable, requestRight, requestsRight, standingPort, portsRight, requestClauses, isFree, withMark}
 use Rattle.rows.proofs.Bools.{clash, and-l, and-r, and-false, eqb-sym}
 use Rattle.rows.proofs.Slots.{row-absent}
 use Rattle.soundness_loans.proofs.RequestClauses.{slot-test, all-both}
@@ -97,14 +97,25 @@ ports-turn {st} rep vs marks right v (suc i) e h p =
     joined at false q = and-false (not (taken (st .rows) (suc i) vs))
 
     marked : (k : ℕ) → k < 1024 → getD (set marks i true) k false ≡ eqb (standingPort (st .rows) v) (suc k) || taken (st .rows) (suc k) vs
-    marked k lt =
-        elim (ℕ-discrete k i) [
-          | yes d ↦ ap (λ (n : ℕ). getD (set marks i true) n false) d ∙ getD-set-same marks i true false (omega (arith, p .long)) ∙ sym (ap (λ (b : Bool). b || taken (st .rows) (suc k) vs) (eq-eqb (standingPort (st .rows) v) (suc k) (sym e ∙ ap suc (sym d))))
-          | no d ↦ getD-set-other marks i k true false d ∙ p .held k lt ∙ sym (ap (λ (b : Bool). b || taken (st .rows) (suc k) vs) (ne-eqb (standingPort (st .rows) v) (suc k) (λ x. d (same k x))))
-        ]
+    marked k lt = elim (ℕ-discrete k i) [ yes d ↦ here d | no d ↦ there d ]
       where
         same : (k : ℕ) → standingPort (st .rows) v ≡ suc k → k ≡ i
         same k x = omega (arith, e, x)
+
+        or-taken : {a b : Bool} → a ≡ b → b || taken (st .rows) (suc k) vs ≡ a || taken (st .rows) (suc k) vs
+        or-taken q = sym (ap (λ (b : Bool). b || taken (st .rows) (suc k) vs) q)
+
+        here : k ≡ i → getD (set marks i true) k false ≡ eqb (standingPort (st .rows) v) (suc k) || taken (st .rows) (suc k) vs
+        here d =
+            ap (λ (n : ℕ). getD (set marks i true) n false) d
+            ∙ getD-set-same marks i true false (omega (arith, p .long))
+            ∙ or-taken (eq-eqb (standingPort (st .rows) v) (suc k) (sym e ∙ ap suc (sym d)))
+
+        there : (k ≡ i → ⊥) → getD (set marks i true) k false ≡ eqb (standingPort (st .rows) v) (suc k) || taken (st .rows) (suc k) vs
+        there d =
+            getD-set-other marks i k true false d
+            ∙ p .held k lt
+            ∙ or-taken (ne-eqb (standingPort (st .rows) v) (suc k) (λ x. d (same k x)))
 
 -- one request more
 pub ports-next : {st : State} {t : List ℕ} → Represents t st → (u : List ℕ) (j : ℕ) (marks marks′ : List Bool) (right r : Bool) (s : ℕ) → s ≡ standingPort (st .rows) (requestAt u j) → s ≤ 1024
@@ -113,7 +124,7 @@ unfolding requestsTo
 ports-next rep u j marks marks′ right r s e h free mark p = rw (add-one j, free, mark) (ports-turn rep (requestsTo u j) marks right (requestAt u j) s e h p)
 
 -- ---- the clauses joined
-each-right : (st : State) → all (requestRight st) (st .requests) ≡ numbersApart st && (fetchedInRange st && (requestersListed st && (itemsApart st && itemsLent st)))
+each-right : (st : State) → requestsRight st ≡ numbersApart st && (fetchedInRange st && (requestersListed st && (itemsApart st && itemsLent st)))
 unfolding requestRight numbersApart fetchedInRange requestersListed itemsApart itemsLent
 each-right st =
     all-both apart (λ v. fetched v && (asked v && (once v && lent v))) vs
@@ -125,7 +136,7 @@ each-right st =
     vs = st .requests
 
     apart : Request → Bool
-    apart v = not (member (v .number) (numbers (st .rows)))
+    apart v = numberApart (st .rows) v
 
     fetched : Request → Bool
     fetched v = leb (v .fetched) 1
@@ -137,10 +148,9 @@ each-right st =
     once v = distinct (nonzero (v .items))
 
     lent : Request → Bool
-    lent v = all (λ e. mayBeListed v (rowOf (st .rows) e)) (nonzero (v .items))
+    lent v = itemsListable (st .rows) v
 
-pub requests-joined : (st : State) → all (requestRight st) (st .requests) && portsRight (st .rows) (st .requests)
-    ≡ numbersApart st && (fetchedInRange st && (portsStand st && (requestersListed st && (itemsApart st && (itemsLent st && onePerPort st)))))
+pub requests-joined : (st : State) → requestsRight st && portsRight (st .rows) (st .requests) ≡ requestClauses st
 unfolding portsRight portsStand onePerPort
 requests-joined st =
     ap (λ (b : Bool). b && portsRight (st .rows) (st .requests)) (each-right st)

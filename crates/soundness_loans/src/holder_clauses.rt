@@ -1,4 +1,5 @@
-// Sound tables, who holds what is lent: the listing of rows by requests, from the newest request to the oldest.
+// The clauses of soundness of holders, each named as in rows/specs/Sound.antt: the listing of rows by requests, from
+// the newest request to the oldest. Slots of rows are given plus 1, 0 for none.
 use crate::request_clauses::slot_among;
 use rows::codes::THE_SYSTEM;
 use rows::layout::PLACE;
@@ -7,25 +8,21 @@ use rows::layout::Q_ITEMS;
 use rows::layout::REQUESTS;
 use rows::layout::ROWS;
 ghost use mathlib.Core.Path.{_≡_};
-ghost use mathlib.Core.Bool.{true, not, _&&_, _||_};
-ghost use mathlib.Core.List.{map};
-ghost use Prim.Native.Nat.{ℕ, _<_, _≤_};
+ghost use Prim.Native.Nat.{_<_, _≤_};
 ghost use lib.Dec.{eqb};
-ghost use lib.ListN.{length, getD};
-ghost use Rattle.rows.specs.Lists.{any, some};
+ghost use Rattle.rows.specs.Lists.{some};
 ghost use Rattle.rows.specs.Codes.{isSystem};
-ghost use Rattle.rows.specs.Tables.{State};
-ghost use Rattle.rows.specs.Sound.{itemsLent, isFetched, olderFetched, same, systemHolds};
-ghost use Rattle.rows.specs.Layout.{requestAt, rowSlot};
-ghost use Rattle.rows.specs.contracts.Represents.{Represents};
-ghost use Rattle.soundness_loans.specs.contracts.Clauses.{listingCode, codeAt, listAt, listAll, heldTo};
+ghost use Rattle.rows.specs.Sound.{same};
 ghost use Rattle.rows.specs.contracts.Sizes.{ROWS, REQUESTS, IsTables};
+ghost use Rattle.soundness_loans.specs.contracts.Clauses.{OfRequest, SlotsWithin, TestsHolders, listingCode};
+ghost use Rattle.soundness_loans.specs.contracts.Clauses.{codeAt, listAt, listAll, anyListed, itemSlots};
+ghost use Rattle.soundness_loans.specs.contracts.Clauses.{listedOnce, withItems, heldTo};
 
-// The slots of the items of the request in slot j.
+// The slots of the items of the request in slot j. Ruled out: three of the four; a slot past the rows in use.
 fn item_slots(t: &[u32], n: usize, j: usize) -> [usize; 4]
     requires { ⌜ IsTables (now t) × (n ≤ ROWS) × (j < REQUESTS) ⌝ }
-    ensures within { λ r. ⌜ ((k : ℕ) → getD r k 0 ≤ n) ⌝ }
-    ensures found { λ r. ⌜ ((st : State) → Represents (now (t .entry)) st → n ≡ length (st .rows) → r ≡ map (rowSlot (st .rows)) (requestAt (now (t .entry)) j .items)) ⌝ }
+    ensures within { λ r. ⌜ SlotsWithin n r ⌝ }
+    ensures found { λ r. ⌜ OfRequest (now (t .entry)) n j r itemSlots ⌝ }
 {
     let a = slot_among(t, n, t[Q_ITEMS + j]);
     let b = slot_among(t, n, t[Q_ITEMS + REQUESTS + j]);
@@ -34,7 +31,7 @@ fn item_slots(t: &[u32], n: usize, j: usize) -> [usize; 4]
     [a, b, c, d]
 }
 
-// Whether a slot is listed.
+// Whether a slot is listed. Ruled out: 0, which is no slot, is listed; the slot after decides.
 fn is_listed(listing: &[u8; ROWS], s: usize) -> bool
     requires { ⌜ s ≤ ROWS ⌝ }
     ensures { λ r. ⌜ r ≡ some (codeAt (now (listing .entry)) s) ⌝ }
@@ -46,9 +43,10 @@ fn is_listed(listing: &[u8; ROWS], s: usize) -> bool
     0 < code
 }
 
+// Whether one of four slots is listed. Ruled out: the fourth slot is not looked at; all four must be.
 fn any_listed(listing: &[u8; ROWS], slots: [usize; 4]) -> bool
-    requires { ⌜ ((k : ℕ) → getD slots k 0 ≤ ROWS) ⌝ }
-    ensures { λ r. ⌜ r ≡ any (λ s. some (codeAt (now (listing .entry)) s)) slots ⌝ }
+    requires { ⌜ SlotsWithin ROWS slots ⌝ }
+    ensures { λ r. ⌜ r ≡ anyListed (now (listing .entry)) slots ⌝ }
 {
     let a = is_listed(listing, slots[0]);
     let b = is_listed(listing, slots[1]);
@@ -57,7 +55,7 @@ fn any_listed(listing: &[u8; ROWS], slots: [usize; 4]) -> bool
     a | (b | (c | d))
 }
 
-// Lists a slot, unless a newer request did.
+// Lists a slot, unless a newer request did. Ruled out: an older request's code over a newer one's; the slot after.
 fn list_at(listing: &mut [u8; ROWS], s: usize, code: u8)
     requires { ⌜ s ≤ ROWS ⌝ }
     ensures { λ _. ⌜ now (listing .exit) ≡ listAt code s (now (listing .entry)) ⌝ }
@@ -71,8 +69,9 @@ fn list_at(listing: &mut [u8; ROWS], s: usize, code: u8)
     }
 }
 
+// Lists four slots. Ruled out: the fourth slot is left out; the code of a newer request is lost.
 fn mark_listing(listing: &mut [u8; ROWS], slots: [usize; 4], code: u8)
-    requires { ⌜ ((k : ℕ) → getD slots k 0 ≤ ROWS) ⌝ }
+    requires { ⌜ SlotsWithin ROWS slots ⌝ }
     ensures { λ _. ⌜ now (listing .exit) ≡ listAll code slots (now (listing .entry)) ⌝ }
 {
     list_at(listing, slots[0], code);
@@ -81,6 +80,7 @@ fn mark_listing(listing: &mut [u8; ROWS], slots: [usize; 4], code: u8)
     list_at(listing, slots[3], code);
 }
 
+// The code of what a request lists: 1 where it is fetched, 2 where it waits. Ruled out: 0; the two exchanged.
 fn code_of(fetched: bool) -> u8
     ensures { λ r. ⌜ r ≡ listingCode fetched ⌝ }
 {
@@ -90,11 +90,12 @@ fn code_of(fetched: bool) -> u8
     2
 }
 
-// Lists the items of the request in slot j. It is fetched, or no newer request lists one of them.
+// Lists the items of the request in slot j, and says whether it is fetched or no newer request lists one of them.
+// Ruled out: its own items count as listed by a newer one; an item is left out.
 fn listed_once(t: &[u32], n: usize, listing: &mut [u8; ROWS], j: usize) -> bool
     requires { ⌜ IsTables (now t) × (n ≤ ROWS) × (j < REQUESTS) ⌝ }
-    ensures once { λ r. ⌜ ((st : State) → Represents (now (t .entry)) st → n ≡ length (st .rows) → r ≡ (isFetched (requestAt (now (t .entry)) j) || not (any (λ s. some (codeAt (now (listing .entry)) s)) (map (rowSlot (st .rows)) (requestAt (now (t .entry)) j .items))))) ⌝ }
-    ensures marked { λ _. ⌜ ((st : State) → Represents (now (t .entry)) st → n ≡ length (st .rows) → now (listing .exit) ≡ listAll (listingCode (isFetched (requestAt (now (t .entry)) j))) (map (rowSlot (st .rows)) (requestAt (now (t .entry)) j .items)) (now (listing .entry))) ⌝ }
+    ensures once { λ r. ⌜ OfRequest (now (t .entry)) n j r (listedOnce (now (listing .entry))) ⌝ }
+    ensures marked { λ _. ⌜ OfRequest (now (t .entry)) n j (now (listing .exit)) (withItems (now (listing .entry))) ⌝ }
 {
     let slots = item_slots(t, n, j);
     let word = t[Q_FETCHED + j];
@@ -106,6 +107,7 @@ fn listed_once(t: &[u32], n: usize, listing: &mut [u8; ROWS], j: usize) -> bool
 }
 
 // Whether a row's place is the system exactly if its listing says so.
+// Ruled out: yes for a row that waits in a c-list; yes for a row with the system that no request lists.
 fn system_holds(place: u32, code: u8) -> bool
     ensures { λ r. ⌜ r ≡ same (isSystem place) (eqb code 2) ⌝ }
 {
@@ -114,6 +116,7 @@ fn system_holds(place: u32, code: u8) -> bool
     (there & waits) | (!there & !waits)
 }
 
+// Whether each of the first n rows is held as the listing says. Ruled out: the last row alone decides; one past them.
 fn rows_held(t: &[u32], n: usize, listing: &[u8; ROWS]) -> bool
     requires { ⌜ IsTables (now t) × (n ≤ ROWS) ⌝ }
     ensures { λ r. ⌜ r ≡ heldTo (now (t .entry)) (now (listing .entry)) n ⌝ }
@@ -128,10 +131,10 @@ fn rows_held(t: &[u32], n: usize, listing: &[u8; ROWS]) -> bool
 }
 
 // The clauses of who holds what is lent, for tables whose items are rows.
-// Ruled out: an older request that is not fetched lists an item too; a row waits with the system that no request lists.
+// Ruled out: an older request that is not fetched and lists an item too; a row with the system that no request lists.
 pub fn holders_sound(t: &[u32], n: usize, m: usize) -> bool
     requires { ⌜ IsTables (now t) × (n ≤ ROWS) × (m ≤ REQUESTS) ⌝ }
-    ensures { λ r. ⌜ ((st : State) → Represents (now (t .entry)) st → n ≡ length (st .rows) → m ≡ length (st .requests) → itemsLent st ≡ true → r ≡ (olderFetched st && systemHolds st)) ⌝ }
+    ensures { λ r. ⌜ TestsHolders (now (t .entry)) n m r ⌝ }
 {
     let mut listing = [0u8; ROWS];
     let mut older = true;

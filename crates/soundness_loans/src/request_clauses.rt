@@ -1,8 +1,8 @@
-// Sound tables, the requests: a function for each clause on one request slot, and the loops over the requests.
-// Slots of rows are given plus 1, 0 for none.
+// The clauses of soundness of requests, each named as in rows/specs/Sound.antt: of the request in one slot, and the
+// loops over all requests. Slots of rows are given plus 1, 0 for none.
 use rows::Found;
 use rows::codes::A_CLIENT_END;
-use rows::codes::A_SERVER_END;
+use rows::codes::is_end;
 use rows::find::row_among;
 use rows::layout::KIND;
 use rows::layout::Q_ASKER;
@@ -16,26 +16,26 @@ use rows::layout::ROWS;
 use rows::layout::RowMarks;
 use rows::records::listed;
 ghost use mathlib.Core.Path.{_≡_};
-ghost use mathlib.Core.Bool.{not, _&&_, _||_};
+ghost use mathlib.Core.Bool.{not, _||_};
 ghost use mathlib.Core.List.{[], _∷_};
 ghost use Prim.Native.Nat.{suc, _<_, _≤_};
 ghost use lib.Dec.{leb, ltb};
-ghost use lib.ListN.{length};
-ghost use Rattle.rows.specs.declared.Request.{Request};
-ghost use Rattle.rows.specs.Lists.{all, member, distinct, some, nonzero};
-ghost use Rattle.rows.specs.Tables.{State, rowOf, isListed, numbers};
-ghost use Rattle.rows.specs.Sound.{numbersApart, fetchedInRange, portsStand, requestersListed, itemsApart, mayBeListed, itemsLent, onePerPort};
+ghost use Rattle.rows.specs.Lists.{member, distinct, some, nonzero};
+ghost use Rattle.rows.specs.Tables.{isListed};
 ghost use Rattle.rows.specs.Layout.{requestAt, recordsIn, rowSlot};
-ghost use Rattle.rows.specs.contracts.Represents.{Represents};
-ghost use Rattle.soundness_loans.specs.contracts.Clauses.{wordAt, requestRight, standingPort, portsRight, isFree, withMark};
 ghost use Rattle.rows.specs.contracts.Sizes.{ROWS, REQUESTS, REQUEST, IsTables, IsRecords};
+ghost use Rattle.soundness_rows.specs.contracts.OfState.{OfRows, TestsTables, Tests};
+ghost use Rattle.soundness_loans.specs.contracts.Clauses.{OfRequest, TestsItem, wordAt, numberApart};
+ghost use Rattle.soundness_loans.specs.contracts.Clauses.{itemsListable, requestRight, standingPort};
+ghost use Rattle.soundness_loans.specs.contracts.Clauses.{requestsRight, portsRight, requestClauses, isFree};
+ghost use Rattle.soundness_loans.specs.contracts.Clauses.{withMark};
 
-// The slot of the row numbered x, of n rows.
+// The slot plus 1 of the row numbered x, of n rows; 0 for none.
 // Ruled out: the slot of another row; a slot past the rows in use.
 pub fn slot_among(t: &[u32], n: usize, x: u32) -> usize
     requires { ⌜ IsTables (now t) × (n ≤ ROWS) ⌝ }
     ensures within { λ r. ⌜ r ≤ n ⌝ }
-    ensures found { λ r. ⌜ ((st : State) → Represents (now (t .entry)) st → n ≡ length (st .rows) → r ≡ rowSlot (st .rows) x) ⌝ }
+    ensures found { λ r. ⌜ OfRows (now (t .entry)) n r (λ rs. rowSlot rs x) ⌝ }
 {
     if x == 0 {
         return 0;
@@ -46,7 +46,7 @@ pub fn slot_among(t: &[u32], n: usize, x: u32) -> usize
     i + 1
 }
 
-// The word of a row's slot in the column that starts at c.
+// The word of a row's slot in the column that starts at c. Ruled out: the word of the slot after; a word for none.
 fn word_at(t: &[u32], c: usize, s: usize) -> u32
     requires { ⌜ IsTables (now t) × (c ≤ REQUEST) × (s ≤ ROWS) ⌝ }
     ensures { λ r. ⌜ r ≡ wordAt (now (t .entry)) c s ⌝ }
@@ -58,15 +58,17 @@ fn word_at(t: &[u32], c: usize, s: usize) -> u32
 }
 
 // ---- the clauses for the request in slot j
+// Its number is no row's. Ruled out: yes for the number of a row; the number of another request decides.
 fn number_apart(t: &[u32], n: usize, j: usize) -> bool
     requires { ⌜ IsTables (now t) × (n ≤ ROWS) × (j < REQUESTS) ⌝ }
-    ensures { λ r. ⌜ ((st : State) → Represents (now (t .entry)) st → n ≡ length (st .rows) → r ≡ not (member (requestAt (now (t .entry)) j .number) (numbers (st .rows)))) ⌝ }
+    ensures { λ r. ⌜ OfRequest (now (t .entry)) n j r numberApart ⌝ }
 {
     let q = t[Q_NUMBER + j];
     let s = slot_among(t, n, q);
     s == 0
 }
 
+// Ruled out: a request fetched twice; the word of another request.
 fn fetched_in_range(t: &[u32], j: usize) -> bool
     requires { ⌜ IsTables (now t) × (j < REQUESTS) ⌝ }
     ensures { λ r. ⌜ r ≡ leb (requestAt (now (t .entry)) j .fetched) 1 ⌝ }
@@ -75,6 +77,7 @@ fn fetched_in_range(t: &[u32], j: usize) -> bool
     f <= 1
 }
 
+// Ruled out: the port for the requester; yes for a process that is not listed.
 fn requester_listed(t: &[u32], p: &[u32], j: usize) -> bool
     requires { ⌜ IsTables (now t) × IsRecords (now p) × (j < REQUESTS) ⌝ }
     ensures { λ r. ⌜ r ≡ isListed (recordsIn (now (p .entry))) (requestAt (now (t .entry)) j .asker) ⌝ }
@@ -83,13 +86,14 @@ fn requester_listed(t: &[u32], p: &[u32], j: usize) -> bool
     listed(p, asker)
 }
 
-// An item that is there is none of three others.
+// An item that is there is none of three others. Ruled out: no for 0 twice; yes for an item that is one of them.
 fn item_apart(e: u32, a: u32, b: u32, c: u32) -> bool
     ensures { λ r. ⌜ r ≡ (not (some e) || not (member e (a ∷ b ∷ c ∷ []))) ⌝ }
 {
     !(0 < e) | !((e == a) | ((e == b) | (e == c)))
 }
 
+// No item stands twice. Ruled out: the third item is the fourth too; no for two items that are not there.
 fn items_apart(t: &[u32], j: usize) -> bool
     requires { ⌜ IsTables (now t) × (j < REQUESTS) ⌝ }
     ensures { λ r. ⌜ r ≡ distinct (nonzero (requestAt (now (t .entry)) j .items)) ⌝ }
@@ -105,20 +109,22 @@ fn items_apart(t: &[u32], j: usize) -> bool
 }
 
 // An item that is there may be listed by a request numbered q.
+// Ruled out: a copy that bears another request; an end newer than the request.
 fn may_be_listed(t: &[u32], n: usize, q: u32, e: u32) -> bool
     requires { ⌜ IsTables (now t) × (n ≤ ROWS) ⌝ }
-    ensures { λ r. ⌜ ((st : State) (v : Request) → Represents (now (t .entry)) st → n ≡ length (st .rows) → v .number ≡ q → r ≡ (not (some e) || mayBeListed v (rowOf (st .rows) e))) ⌝ }
+    ensures { λ r. ⌜ TestsItem (now (t .entry)) n q e r ⌝ }
 {
     let s = slot_among(t, n, e);
     let kind = word_at(t, KIND, s);
     let bears = word_at(t, REQUEST, s);
-    let end = (kind == A_CLIENT_END) | (kind == A_SERVER_END);
+    let end = is_end(kind);
     !(0 < e) | ((end & (e < q)) | ((0 < bears) & (bears == q)))
 }
 
+// Each item may be listed. Ruled out: the fourth item is not tested; no for an item that is not there.
 fn items_lent(t: &[u32], n: usize, j: usize) -> bool
     requires { ⌜ IsTables (now t) × (n ≤ ROWS) × (j < REQUESTS) ⌝ }
-    ensures { λ r. ⌜ ((st : State) → Represents (now (t .entry)) st → n ≡ length (st .rows) → r ≡ all (λ e. mayBeListed (requestAt (now (t .entry)) j) (rowOf (st .rows) e)) (nonzero (requestAt (now (t .entry)) j .items))) ⌝ }
+    ensures { λ r. ⌜ OfRequest (now (t .entry)) n j r itemsListable ⌝ }
 {
     let q = t[Q_NUMBER + j];
     let first = may_be_listed(t, n, q, t[Q_ITEMS + j]);
@@ -128,9 +134,10 @@ fn items_lent(t: &[u32], n: usize, j: usize) -> bool
     first & (second & (third & fourth))
 }
 
+// The clauses but for the port. Ruled out: one of the five alone decides; the tests of another request.
 fn request_right(t: &[u32], p: &[u32], n: usize, j: usize) -> bool
     requires { ⌜ IsTables (now t) × IsRecords (now p) × (n ≤ ROWS) × (j < REQUESTS) ⌝ }
-    ensures { λ r. ⌜ ((st : State) → Represents (now (t .entry)) st → st .processes ≡ recordsIn (now (p .entry)) → n ≡ length (st .rows) → r ≡ requestRight st (requestAt (now (t .entry)) j)) ⌝ }
+    ensures { λ r. ⌜ OfRequest (now (t .entry)) n j r (requestRight (recordsIn (now (p .entry)))) ⌝ }
 {
     let apart = number_apart(t, n, j);
     let fetched = fetched_in_range(t, j);
@@ -140,18 +147,19 @@ fn request_right(t: &[u32], p: &[u32], n: usize, j: usize) -> bool
     apart & (fetched & (asked & (once & lent)))
 }
 
-// A request is newer than both ends of its port.
+// A request is newer than both ends of its port. Ruled out: newer than the client end alone; a sum that wraps to 0.
 fn newer_than_port(port: u32, q: u32) -> bool
     ensures { λ r. ⌜ r ≡ ltb (suc port) q ⌝ }
 {
     (port as u64) + 1 < (q as u64)
 }
 
-// The slot of the client end of the request's port, if the port stands.
+// The slot plus 1 of the client end of the request's port, if the port stands.
+// Ruled out: the slot of a server end; a slot where the request is older than its port.
 fn standing_port(t: &[u32], n: usize, j: usize) -> usize
     requires { ⌜ IsTables (now t) × (n ≤ ROWS) × (j < REQUESTS) ⌝ }
     ensures within { λ r. ⌜ r ≤ n ⌝ }
-    ensures found { λ r. ⌜ ((st : State) → Represents (now (t .entry)) st → n ≡ length (st .rows) → r ≡ standingPort (st .rows) (requestAt (now (t .entry)) j)) ⌝ }
+    ensures found { λ r. ⌜ OfRequest (now (t .entry)) n j r standingPort ⌝ }
 {
     let port = t[Q_PORT + j];
     let q = t[Q_NUMBER + j];
@@ -164,7 +172,7 @@ fn standing_port(t: &[u32], n: usize, j: usize) -> usize
     0
 }
 
-// Marks a slot, and says whether it was free.
+// Marks a slot, and says whether it was free. Ruled out: free a second time; 0, which is no slot, is free.
 fn claim(marks: &mut RowMarks, s: usize) -> bool
     requires { ⌜ s ≤ ROWS ⌝ }
     ensures free { λ r. ⌜ r ≡ isFree (now (marks .entry)) s ⌝ }
@@ -180,9 +188,10 @@ fn claim(marks: &mut RowMarks, s: usize) -> bool
 }
 
 // ---- the loops
+// The clauses of each request by itself. Ruled out: the last request alone decides; a request past the first m.
 fn requests_right(t: &[u32], p: &[u32], n: usize, m: usize) -> bool
     requires { ⌜ IsTables (now t) × IsRecords (now p) × (n ≤ ROWS) × (m ≤ REQUESTS) ⌝ }
-    ensures { λ r. ⌜ ((st : State) → Represents (now (t .entry)) st → st .processes ≡ recordsIn (now (p .entry)) → n ≡ length (st .rows) → m ≡ length (st .requests) → r ≡ all (requestRight st) (st .requests)) ⌝ }
+    ensures { λ r. ⌜ Tests (now (t .entry)) (now (p .entry)) n m r requestsRight ⌝ }
 {
     let mut right = true;
     let mut j = 0;
@@ -193,9 +202,10 @@ fn requests_right(t: &[u32], p: &[u32], n: usize, m: usize) -> bool
     right
 }
 
+// Every port stands, and has one request. Ruled out: two requests on one port; a port that no longer stands.
 fn ports_right(t: &[u32], n: usize, m: usize) -> bool
     requires { ⌜ IsTables (now t) × (n ≤ ROWS) × (m ≤ REQUESTS) ⌝ }
-    ensures { λ r. ⌜ ((st : State) → Represents (now (t .entry)) st → n ≡ length (st .rows) → m ≡ length (st .requests) → r ≡ portsRight (st .rows) (st .requests)) ⌝ }
+    ensures { λ r. ⌜ TestsTables (now (t .entry)) n m r (λ st. portsRight (st .rows) (st .requests)) ⌝ }
 {
     let mut marks = [false; ROWS];
     let mut right = true;
@@ -209,10 +219,10 @@ fn ports_right(t: &[u32], n: usize, m: usize) -> bool
 }
 
 // The clauses of requests.
-// Ruled out: a request on a port that another is open on passes; a copy that bears another request's number may be listed.
+// Ruled out: a request on a port that another is open on; an item that is a copy for another request.
 pub fn requests_sound(t: &[u32], p: &[u32], n: usize, m: usize) -> bool
     requires { ⌜ IsTables (now t) × IsRecords (now p) × (n ≤ ROWS) × (m ≤ REQUESTS) ⌝ }
-    ensures { λ r. ⌜ ((st : State) → Represents (now (t .entry)) st → st .processes ≡ recordsIn (now (p .entry)) → n ≡ length (st .rows) → m ≡ length (st .requests) → r ≡ (numbersApart st && (fetchedInRange st && (portsStand st && (requestersListed st && (itemsApart st && (itemsLent st && onePerPort st))))))) ⌝ }
+    ensures { λ r. ⌜ Tests (now (t .entry)) (now (p .entry)) n m r requestClauses ⌝ }
 {
     let right = requests_right(t, p, n, m);
     let ports = ports_right(t, n, m);

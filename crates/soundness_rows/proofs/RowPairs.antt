@@ -2,7 +2,7 @@
 use Prim.Native.Nat.{ℕ, zero, suc, pred, _+_, _-_, _<_, _≤_}
 use mathlib.Core.Bool.{Bool, true, false, cond, _&&_}
 use mathlib.Core.List.{List, [], _∷_, _++_, append-assoc, map}
-use mathlib.Core.Path.{_≡_, refl, ap, sym, subst, _∙_}
+use mathlib.Core.Path.{_≡_, refl, ap, sym, _∙_}
 use native.Mathlib.Omega.{arith}
 use borrow.Author.Tests.{eq-eqb, eqb-true, eqb-false, ne-eqb}
 use lib.Dec.{eqb}
@@ -17,6 +17,7 @@ use Rattle.rows.specs.contracts.Represents.{Represents}
 use Rattle.rows.specs.Setters.{withSources}
 use Rattle.rows.specs.contracts.Slots.{slotted}
 use Rattle.soundness_rows.specs.contracts.AtSlot.{AtSlot}
+use Rattle.soundness_rows.specs.contracts.Clauses.{pairedAbove, pairedBelow}
 use Rattle.soundness_rows.specs.contracts.Seen.{slotRow}
 use Rattle.rows.proofs.Bools.{false-of, bool-eq, eqb-sym}
 use Rattle.rows.proofs.Keyed.{first-none, rises-rest, rises-first, rises-range}
@@ -133,7 +134,7 @@ module _ {st : State} {t : List ℕ} (rep : Represents t st) where
   word-number new y old e x d = ap (λ (r : Row). r .number) (d ∙ raw-row-at rep new y old e)
 
   -- ---- the next slot
-  pub above-none : (i n : ℕ) → n ≡ length (st .rows) → n ≤ i + 1 → AtSlot (λ y old. isPairedWith y (rowOf (st .rows) (suc (y .number)))) (st .rows) i false
+  pub above-none : (i n : ℕ) → n ≡ length (st .rows) → n ≤ i + 1 → AtSlot (λ y old. pairedAbove (st .rows) y) (st .rows) i false
   unfolding rowOf topOf
   above-none i n long h =
       record {
@@ -149,7 +150,7 @@ module _ {st : State} {t : List ℕ} (rep : Represents t st) where
       }
 
   pub above-next : (i n : ℕ) → n ≡ length (st .rows) → i + 1 < n → (x z : Row) → x ≡ rawRow t i → z ≡ rawRow t (i + 1)
-      → AtSlot (λ y old. isPairedWith y (rowOf (st .rows) (suc (y .number)))) (st .rows) i (eqb (suc (x .number)) (z .number) && isPairedWith x z)
+      → AtSlot (λ y old. pairedAbove (st .rows) y) (st .rows) i (eqb (suc (x .number)) (z .number) && isPairedWith x z)
   above-next i n long h x z dx dz =
       record {
         told =
@@ -175,7 +176,7 @@ module _ {st : State} {t : List ℕ} (rep : Represents t st) where
   before zero h = absurd (omega arith)
   before (suc k) h = refl
 
-  pub below-none : (i : ℕ) → i ≡ 0 → AtSlot (λ y old. isPairedWith y (rowOf (st .rows) (pred (y .number)))) (st .rows) i false
+  pub below-none : (i : ℕ) → i ≡ 0 → AtSlot (λ y old. pairedBelow (st .rows) y) (st .rows) i false
   unfolding rowOf topOf
   below-none i first =
       record {
@@ -192,7 +193,7 @@ module _ {st : State} {t : List ℕ} (rep : Represents t st) where
       }
 
   pub below-next : (i : ℕ) → (i ≡ 0 → ⊥) → (x z : Row) → x ≡ rawRow t i → z ≡ rawRow t (i - 1)
-      → AtSlot (λ y old. isPairedWith y (rowOf (st .rows) (pred (y .number)))) (st .rows) i (eqb (suc (z .number)) (x .number) && isPairedWith x z)
+      → AtSlot (λ y old. pairedBelow (st .rows) y) (st .rows) i (eqb (suc (z .number)) (x .number) && isPairedWith x z)
   below-next i h x z dx dz = record { told = λ new y old e d. at new y old e d }
     where
       at : (new : List Row) (y : Row) (old : List Row) → st .rows ≡ new ++ (y ∷ old) → length old ≡ i

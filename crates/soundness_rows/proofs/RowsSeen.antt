@@ -1,26 +1,27 @@
 -- The row at a slot of the words that represent a state, as the tests of one row see it: its own words and its sources.
 use Prim.Native.Nat.{ℕ, zero, suc, _+_, _-_, _<_, _≤_}
-use mathlib.Core.Bool.{Bool, true, false}
-use mathlib.Core.List.{List, [], _∷_, _++_, append-assoc, map}
+use mathlib.Core.Bool.{true}
+use mathlib.Core.List.{List, [], _∷_, _++_, append-assoc}
 use mathlib.Core.Path.{_≡_, refl, ap, sym, subst, _∙_}
-use mathlib.Core.Logic.{_⊎_, inl, inr}
+use mathlib.Core.Logic.{inl, inr}
 use native.Mathlib.Omega.{arith}
-use borrow.Author.Tests.{eq-eqb, eqb-true, ne-eqb}
+use borrow.Author.Tests.{ne-eqb}
 use lib.Dec.{eqb}
-use lib.ListN.{length, getD}
+use lib.ListN.{length}
 use Rattle.rows.specs.declared.Row.{Row}
-use Rattle.rows.specs.Lists.{rises, member}
+use Rattle.rows.specs.Lists.{rises}
 use Rattle.rows.specs.Limits.{rowSlots}
 use Rattle.rows.specs.Tables.{State, noRow, rowOf, numbers}
 use Rattle.rows.specs.Layout.{sourceSlot, rowField, rowSlot, rawRow}
 use Rattle.rows.specs.contracts.Represents.{sourcesOlder, Represents}
 use Rattle.rows.specs.Setters.{withSources}
+use Rattle.rows.specs.contracts.Sizes.{ROWS}
 use Rattle.rows.specs.contracts.Slots.{slotted}
-use Rattle.soundness_rows.specs.contracts.Seen.{Same, Seen, slotRow}
+use Rattle.soundness_rows.specs.contracts.Seen.{Same, Seen, SourcesBefore, slotRow}
 use Rattle.rows.proofs.Bools.{clash}
 use Rattle.rows.proofs.Keyed.{olderOf, first-key, rises-rest, rises-range}
 use Rattle.rows.proofs.RowSources.{Among}
-use Rattle.rows.proofs.Slots.{Well, represented-well, newerOf, rises-old, slot-zero, source-rises, source-zero, sources-among, source-kept, row-cut, row-found, row-absent, none-row, row-none, raw-row-at}
+use Rattle.rows.proofs.Slots.{represented-well, newerOf, rises-old, slot-zero, source-rises, source-zero, sources-among, source-kept, row-cut, row-absent, row-none, raw-row-at}
 
 -- ---- the same row
 same-self : (r : Row) → Same r r
@@ -37,9 +38,9 @@ slot-row-pos t zero h = absurd (h refl)
 slot-row-pos t (suc i) h = ap (rawRow t) (omega arith)
 
 -- source words in range
-pub row-sources : (t : List ℕ) (i : ℕ) (x : Row) → x ≡ rawRow t i → i < 1024 → getD t (6144 + i) 0 ≤ i → getD t (7168 + i) 0 ≤ i → (x .source ≤ 1024) × (x .via ≤ 1024)
+pub row-sources : (t : List ℕ) (i : ℕ) (x : Row) → x ≡ rawRow t i → i < ROWS → SourcesBefore t i → (x .source ≤ ROWS) × (x .via ≤ ROWS)
 unfolding rawRow rowField rowSlots
-row-sources t i x d h s v = (omega (arith, ap (λ (r : Row). r .source) d), omega (arith, ap (λ (r : Row). r .via) d))
+row-sources t i x d h (s, v) = (omega (arith, ap (λ (r : Row). r .source) d), omega (arith, ap (λ (r : Row). r .via) d))
 
 module _ {st : State} {t : List ℕ} (rep : Represents t st) where
   slot-row-at : (new old : List Row) → st .rows ≡ new ++ old → (n s : ℕ) → rowSlot old n ≡ s → Same (slotRow t s) (rowOf old n)

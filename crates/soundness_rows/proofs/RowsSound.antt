@@ -1,23 +1,25 @@
 -- The clauses of a row joined, and of all rows: laws for the functions of src/rows_sound.rt.
-use Prim.Native.Nat.{ℕ, zero, suc, pred, _+_, _<_, _≤_}
-use mathlib.Core.Bool.{Bool, true, false, not, cond, _&&_, _||_}
-use mathlib.Core.List.{List, [], _∷_, _++_}
-use mathlib.Core.Path.{_≡_, refl, ap, sym, subst, _∙_}
+use Prim.Native.Nat.{ℕ, suc, _+_}
+use mathlib.Core.Bool.{Bool, true, false, _&&_, _||_}
+use mathlib.Core.List.{List, _∷_, _++_}
+use mathlib.Core.Path.{_≡_, refl, ap, sym, _∙_}
 use borrow.Author.Tests.{ne-eqb}
 use lib.Dec.{eqb, ltb}
 use lib.ListN.{length, getD}
 use Rattle.rows.specs.declared.Row.{Row}
 use Rattle.rows.specs.declared.Request.{Request}
 use Rattle.rows.specs.declared.Process.{Process}
-use Rattle.rows.specs.Lists.{all, each, member, some}
+use Rattle.rows.specs.Lists.{each, member, some}
 use Rattle.rows.specs.Codes.{clientEnd, serverEnd, isClient, isServer, isEnd}
-use Rattle.rows.specs.Tables.{State, noRequest, noRow, rowOf, requestOf, lists}
-use Rattle.rows.specs.Sound.{objectInRange, objectsInRange, rightInRange, rightsInRange, placeInRange, placesInRange, sourceRight, sourcesRight, depthRight, depthsRight, copyMatches, copiesMatch, isPairedWith, otherEnd, endPaired, endsPaired, copyListed, copiesListed}
+use Rattle.rows.specs.Tables.{State, noRequest, requestOf, lists}
+use Rattle.rows.specs.Sound.{objectInRange, objectsInRange, rightInRange, rightsInRange, placeInRange, placesInRange, sourceRight, sourcesRight, depthRight, depthsRight}
+use Rattle.rows.specs.Sound.{copyMatches, copiesMatch, isPairedWith, otherEnd, endPaired, endsPaired, copyListed, copiesListed}
 use Rattle.rows.specs.Layout.{requestAt, rawRow}
 use Rattle.rows.specs.contracts.Represents.{Represents}
 use Rattle.rows.specs.contracts.Slots.{requestSlot}
 use Rattle.soundness_rows.specs.contracts.AtSlot.{AtSlot}
-use Rattle.soundness_rows.specs.contracts.Seen.{Same, Seen, slotRow, rowSound}
+use Rattle.soundness_rows.specs.contracts.Clauses.{fieldsInRange, sourceClauses, loanClauses, pairedAbove, pairedBelow, rowSound, rowClauses}
+use Rattle.soundness_rows.specs.contracts.Seen.{Same, SaysOfLoan, SaysListed, slotRow}
 use Rattle.rows.proofs.Bools.{or-false, and-false}
 use Rattle.rows.proofs.Slots.{represented-well, slot-zero, request-absent, request-words, raw-request, request-read}
 use Rattle.soundness_rows.proofs.SlotLoops.{each-join, each-all}
@@ -32,9 +34,13 @@ lists-words t j e =
     ap (λ (b : Bool). ltb 0 e && (eqb e (getD t (10752 + j) 0) || (eqb e (getD t (10880 + j) 0) || (eqb e (getD t (11008 + j) 0) || b)))) (sym (or-false (eqb e (getD t (11136 + j) 0))))
     ∙ ap (lists e) (request-read t j)
 
-pub loan-none : (vs : List Request) (q e : ℕ) → requestSlot vs q ≡ 0 → (0 ≡ requestOf vs q .port) × (false ≡ lists e (requestOf vs q))
+pub port-none : (vs : List Request) (q : ℕ) → requestSlot vs q ≡ 0 → 0 ≡ requestOf vs q .port
+unfolding noRequest
+port-none vs q d = rw (request-absent vs q d) refl
+
+pub listed-none : (vs : List Request) (q e : ℕ) → requestSlot vs q ≡ 0 → false ≡ lists e (requestOf vs q)
 unfolding noRequest lists member
-loan-none vs q e d = (rw (request-absent vs q d) refl, rw (request-absent vs q d) (sym (and-false (some e))))
+listed-none vs q e d = rw (request-absent vs q d) (sym (and-false (some e)))
 
 -- ---- order
 and-comm : (a b : Bool) → a && b ≡ b && a
@@ -52,13 +58,12 @@ ordered true true true true false c l e = refl
 ordered true true true true true false l e = refl
 ordered true true true true true true l e = and-comm l e
 
-fields-same : (ps : List Process) (x y : Row) → Same x y → objectInRange ps x && (rightInRange x && placeInRange ps x) ≡ objectInRange ps y && (rightInRange y && placeInRange ps y)
+fields-same : (ps : List Process) (x y : Row) → Same x y → fieldsInRange ps x ≡ fieldsInRange ps y
 unfolding objectInRange rightInRange placeInRange
 fields-same ps x y s = rw (s .number, s .kind, s .object, s .operation, s .rights, s .place) refl
 
 -- all rows
-pub rows-joined : (st : State) → each (rowSound st) (st .rows)
-    ≡ objectsInRange st && (rightsInRange st && (placesInRange st && (sourcesRight st && (depthsRight st && (copiesMatch st && (endsPaired st && copiesListed st))))))
+pub rows-joined : (st : State) → each (rowSound st) (st .rows) ≡ rowClauses st
 unfolding rowSound objectsInRange rightsInRange placesInRange sourcesRight depthsRight copiesMatch endsPaired copiesListed
 rows-joined st =
     each-join (λ y old. objectInRange (st .processes) y) _ (st .rows) (each-all (objectInRange (st .processes)) (st .rows))
@@ -67,27 +72,30 @@ rows-joined st =
     (each-join (sourceRight (st .requests)) _ (st .rows) refl
     (each-join depthRight _ (st .rows) refl
     (each-join copyMatches _ (st .rows) refl
-    (each-join (λ y old. endPaired (st .rows) y) (λ y old. copyListed (st .requests) y) (st .rows) (each-all (endPaired (st .rows)) (st .rows)) (each-all (copyListed (st .requests)) (st .rows))))))))
+    (each-join (λ y old. endPaired (st .rows) y) (λ y old. copyListed (st .requests) y) (st .rows) (each-all (endPaired (st .rows)) (st .rows))
+    (each-all (copyListed (st .requests)) (st .rows))))))))
 
 module _ {st : State} {t : List ℕ} (rep : Represents t st) where
   pub no-request : (q : ℕ) → q ≡ 0 → requestSlot (st .requests) q ≡ 0
   unfolding requestSlot
   no-request q z = rw z (slot-zero (λ v. v .number) (st .requests) (represented-well rep .requests-rise))
 
-  pub loan-at : (q e j : ℕ) → requestSlot (st .requests) q ≡ suc j
-      → (getD t (10368 + j) 0 ≡ requestOf (st .requests) q .port) × (lists e (requestAt t j) ≡ lists e (requestOf (st .requests) q))
-  loan-at q e j d = (request-words rep q j d .port, ap (lists e) (raw-request rep q j d))
+  pub port-at : (q j : ℕ) → requestSlot (st .requests) q ≡ suc j → getD t (10368 + j) 0 ≡ requestOf (st .requests) q .port
+  port-at q j d = request-words rep q j d .port
+
+  pub listed-at : (q e j : ℕ) → requestSlot (st .requests) q ≡ suc j → lists e (requestAt t j) ≡ lists e (requestOf (st .requests) q)
+  listed-at q e j d = ap (lists e) (raw-request rep q j d)
 
   -- ---- ends
   module _ (i : ℕ) (x : Row) (at : x ≡ rawRow t i) where
     kind-at : (new : List Row) (y : Row) (old : List Row) → st .rows ≡ new ++ (y ∷ old) → length old ≡ i → y .kind ≡ x .kind
     kind-at new y old e d = sym (same-at rep new y old e x (at ∙ ap (rawRow t) (sym d)) .kind)
 
-    pub end-client : {b : Bool} → x .kind ≡ 3 → AtSlot (λ y old. isPairedWith y (rowOf (st .rows) (suc (y .number)))) (st .rows) i b → AtSlot (λ y old. endPaired (st .rows) y) (st .rows) i b
+    pub end-client : {b : Bool} → x .kind ≡ 3 → AtSlot (λ y old. pairedAbove (st .rows) y) (st .rows) i b → AtSlot (λ y old. endPaired (st .rows) y) (st .rows) i b
     unfolding endPaired otherEnd isEnd isClient isServer clientEnd serverEnd isPairedWith
     end-client k p = record { told = λ new y old e d. rw (kind-at new y old e d ∙ k) (p .told new y old e d) }
 
-    pub end-server : {b : Bool} → x .kind ≡ 4 → AtSlot (λ y old. isPairedWith y (rowOf (st .rows) (pred (y .number)))) (st .rows) i b → AtSlot (λ y old. endPaired (st .rows) y) (st .rows) i b
+    pub end-server : {b : Bool} → x .kind ≡ 4 → AtSlot (λ y old. pairedBelow (st .rows) y) (st .rows) i b → AtSlot (λ y old. endPaired (st .rows) y) (st .rows) i b
     unfolding endPaired otherEnd isEnd isClient isServer clientEnd serverEnd isPairedWith
     end-server k p = record { told = λ new y old e d. rw (kind-at new y old e d ∙ k) (p .told new y old e d) }
 
@@ -97,12 +105,10 @@ module _ {st : State} {t : List ℕ} (rep : Represents t st) where
 
     -- ---- the clauses joined
     pub sources-joined : (s v : Row) (port : ℕ) (listed : Bool) {a b : Bool} → s ≡ slotRow t (x .source) → v ≡ slotRow t (x .via)
-        → (port ≡ requestOf (st .requests) (x .request) .port) × (listed ≡ lists (x .number) (requestOf (st .requests) (x .request)))
-        → ((y : Row) (rs : List Row) (vs : List Request) → Seen x s v y rs → port ≡ requestOf vs (y .request) .port → a ≡ sourceRight vs y rs && (depthRight y rs && copyMatches y rs))
-        → ((vs : List Request) → listed ≡ lists (x .number) (requestOf vs (x .request)) → b ≡ copyListed vs x)
-        → AtSlot (λ y old. (sourceRight (st .requests) y old && (depthRight y old && copyMatches y old)) && copyListed (st .requests) y) (st .rows) i (a && b)
+        → port ≡ requestOf (st .requests) (x .request) .port → listed ≡ lists (x .number) (requestOf (st .requests) (x .request))
+        → SaysOfLoan x s v port a sourceClauses → SaysListed x listed b → AtSlot (λ y old. loanClauses (st .requests) y old) (st .rows) i (a && b)
     unfolding copyListed
-    sources-joined s v port listed ds dv (dp, dl) right listing =
+    sources-joined s v port listed ds dv dp dl right listing =
         record {
           told =
               λ new y old e d.
@@ -112,8 +118,8 @@ module _ {st : State} {t : List ℕ} (rep : Represents t st) where
               (rw (same .request, same .number) refl);
         }
 
-    pub row-joined : (ps : List Process) → st .processes ≡ ps → {a b c : Bool} → a ≡ objectInRange ps x && (rightInRange x && placeInRange ps x)
-        → AtSlot (λ y old. (sourceRight (st .requests) y old && (depthRight y old && copyMatches y old)) && copyListed (st .requests) y) (st .rows) i b
+    pub row-joined : (ps : List Process) → st .processes ≡ ps → {a b c : Bool} → a ≡ fieldsInRange ps x
+        → AtSlot (λ y old. loanClauses (st .requests) y old) (st .rows) i b
         → AtSlot (λ y old. endPaired (st .rows) y) (st .rows) i c → AtSlot (rowSound st) (st .rows) i (a && (b && c))
     unfolding rowSound
     row-joined ps p {a} {b} {c} fields sources paired =
@@ -121,5 +127,6 @@ module _ {st : State} {t : List ℕ} (rep : Represents t st) where
           told =
               λ new y old e d.
               rw (p, fields ∙ fields-same ps x y (same-at rep new y old e x (at ∙ ap (rawRow t) (sym d))), sources .told new y old e d, paired .told new y old e d)
-              (ordered (objectInRange ps y) (rightInRange y) (placeInRange ps y) (sourceRight (st .requests) y old) (depthRight y old) (copyMatches y old) (copyListed (st .requests) y) (endPaired (st .rows) y));
+              (ordered (objectInRange ps y) (rightInRange y) (placeInRange ps y) (sourceRight (st .requests) y old) (depthRight y old) (copyMatches y old)
+              (copyListed (st .requests) y) (endPaired (st .rows) y));
         }

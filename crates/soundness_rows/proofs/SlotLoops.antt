@@ -10,7 +10,7 @@ use lib.ListN.{length}
 use Rattle.rows.specs.Lists.{all, each}
 use Rattle.soundness_rows.specs.contracts.AtSlot.{AtSlot}
 use Rattle.rows.proofs.Bools.{false-of, clash, and-i}
-use Rattle.rows.proofs.KeySlots.{Cut, cut-at, each-cut}
+use Rattle.rows.proofs.KeySlots.{cut-at, each-cut}
 
 module _ {A : Type 0} where
   -- the elements of the first i slots pass

@@ -1,4 +1,5 @@
-// The clauses of soundness of one row, each named as in specs/Sound.antt. The row comes as its slot's words: x; s and v are its sources.
+// The clauses of soundness of one row, each named as in rows/specs/Sound.antt.
+// The row comes as its slot's words: x; s and v are the words of its sources' slots.
 use rows::Rights;
 use rows::Row;
 use rows::codes::A_CLIENT_END;
@@ -16,19 +17,15 @@ use rows::codes::is_copied;
 use rows::codes::is_end;
 use rows::codes::is_node;
 use rows::records::listed;
-ghost use mathlib.Core.Bool.{_||_};
-ghost use mathlib.Core.List.{List};
 ghost use mathlib.Core.Path.{_≡_};
-ghost use Prim.Native.Nat.{ℕ, suc};
+ghost use Prim.Native.Nat.{suc};
 ghost use lib.Dec.{eqb};
-ghost use lib.ListN.{length};
-ghost use Rattle.rows.specs.declared.Row.{Row};
-ghost use Rattle.rows.specs.declared.Request.{Request};
-ghost use Rattle.rows.specs.Tables.{requestOf, lists};
-ghost use Rattle.rows.specs.Sound.{objectInRange, rightInRange, placeInRange, isOpening, isRegistered, isHeld, isPortEnd, isLentCopy, sourceRight, depthRight, copyMatches, isPairedWith, copyListed};
+ghost use Rattle.rows.specs.Sound.{objectInRange, rightInRange, placeInRange, isOpening, isRegistered, isHeld};
+ghost use Rattle.rows.specs.Sound.{isPortEnd, isLentCopy, sourceRight, depthRight, copyMatches, isPairedWith};
 ghost use Rattle.rows.specs.Layout.{recordsIn};
-ghost use Rattle.soundness_rows.specs.contracts.Seen.{Seen};
 ghost use Rattle.rows.specs.contracts.Sizes.{IsRecords};
+ghost use Rattle.soundness_rows.specs.contracts.Seen.{SaysOf, SaysOfLoan, SaysListed};
+ghost use Rattle.soundness_rows.specs.contracts.Clauses.{isOwn};
 
 // ---- numbers
 // The next number. Ruled out: the same number; a sum that wraps to 0.
@@ -95,7 +92,7 @@ fn is_opening(x: Row) -> bool
 
 // Ruled out: a source that is in no node; a second source.
 fn is_registered(x: Row, s: Row, v: Row) -> bool
-    ensures { λ r. ⌜ ((y : Row) (rs : List Row) → Seen x s v y rs → r ≡ isRegistered rs y) ⌝ }
+    ensures { λ r. ⌜ SaysOf x s v r (λ y rs. isRegistered rs y) ⌝ }
 {
     let node = is_node(x.place);
     let copied = is_copied(x.kind);
@@ -105,7 +102,7 @@ fn is_registered(x: Row, s: Row, v: Row) -> bool
 
 // Ruled out: a source that is in no node; a second source that is an operation.
 fn is_held(x: Row, s: Row, v: Row) -> bool
-    ensures { λ r. ⌜ ((y : Row) (rs : List Row) → Seen x s v y rs → r ≡ isHeld rs y) ⌝ }
+    ensures { λ r. ⌜ SaysOf x s v r (λ y rs. isHeld rs y) ⌝ }
 {
     let home = is_clist(x.place);
     let copied = is_copied(x.kind);
@@ -116,7 +113,7 @@ fn is_held(x: Row, s: Row, v: Row) -> bool
 
 // Ruled out: an end in a node; an end whose source is a subdirectory.
 fn is_port_end(x: Row, s: Row, v: Row) -> bool
-    ensures { λ r. ⌜ ((y : Row) (rs : List Row) → Seen x s v y rs → r ≡ isPortEnd rs y) ⌝ }
+    ensures { λ r. ⌜ SaysOf x s v r (λ y rs. isPortEnd rs y) ⌝ }
 {
     let end = is_end(x.kind);
     let node = is_node(x.place);
@@ -126,7 +123,7 @@ fn is_port_end(x: Row, s: Row, v: Row) -> bool
 
 // Ruled out: a second source that is a server end; one that is not the port of the request.
 fn is_lent_copy(x: Row, s: Row, v: Row, port: u32) -> bool
-    ensures { λ r. ⌜ ((y : Row) (rs : List Row) (vs : List Request) → Seen x s v y rs → port ≡ requestOf vs (y .request) .port → r ≡ isLentCopy vs rs y) ⌝ }
+    ensures { λ r. ⌜ SaysOfLoan x s v port r (λ vs y rs. isLentCopy vs rs y) ⌝ }
 {
     let node = is_node(x.place);
     let copied = is_copied(x.kind);
@@ -137,7 +134,7 @@ fn is_lent_copy(x: Row, s: Row, v: Row, port: u32) -> bool
 
 // A row that was not lent and is no end. Ruled out: a row that is none of the three; an opening row alone.
 fn is_own(x: Row, s: Row, v: Row) -> bool
-    ensures { λ r. ⌜ ((y : Row) (rs : List Row) → Seen x s v y rs → r ≡ isOpening y || (isRegistered rs y || isHeld rs y)) ⌝ }
+    ensures { λ r. ⌜ SaysOf x s v r isOwn ⌝ }
 {
     let opening = is_opening(x);
     let registered = is_registered(x, s, v);
@@ -147,7 +144,7 @@ fn is_own(x: Row, s: Row, v: Row) -> bool
 
 // One of the five, by what the row itself is. Ruled out: a row that is none of them; an opening row alone.
 pub fn source_right(x: Row, s: Row, v: Row, port: u32) -> bool
-    ensures { λ r. ⌜ ((y : Row) (rs : List Row) (vs : List Request) → Seen x s v y rs → port ≡ requestOf vs (y .request) .port → r ≡ sourceRight vs y rs) ⌝ }
+    ensures { λ r. ⌜ SaysOfLoan x s v port r sourceRight ⌝ }
 {
     if x.request != 0 {
         return is_lent_copy(x, s, v, port);
@@ -160,7 +157,7 @@ pub fn source_right(x: Row, s: Row, v: Row, port: u32) -> bool
 
 // Ruled out: the depth of the first source alone decides; depth 13.
 pub fn depth_right(x: Row, s: Row, v: Row) -> bool
-    ensures { λ r. ⌜ ((y : Row) (rs : List Row) → Seen x s v y rs → r ≡ depthRight y rs) ⌝ }
+    ensures { λ r. ⌜ SaysOf x s v r depthRight ⌝ }
 {
     let mut top = s.depth;
     if top < v.depth {
@@ -172,7 +169,7 @@ pub fn depth_right(x: Row, s: Row, v: Row) -> bool
 
 // Ruled out: a copy with a right that its row lacks; a copy of another object.
 pub fn copy_matches(x: Row, s: Row, v: Row) -> bool
-    ensures { λ r. ⌜ ((y : Row) (rs : List Row) → Seen x s v y rs → r ≡ copyMatches y rs) ⌝ }
+    ensures { λ r. ⌜ SaysOf x s v r copyMatches ⌝ }
 {
     let end = is_end(x.kind);
     let own = Rights(x.rights);
@@ -193,7 +190,7 @@ pub fn is_paired_with(a: Row, b: Row) -> bool
 
 // Ruled out: a copy that its request does not list; a copy older than its request.
 pub fn copy_listed(x: Row, listed: bool) -> bool
-    ensures { λ r. ⌜ ((vs : List Request) → listed ≡ lists (x .number) (requestOf vs (x .request)) → r ≡ copyListed vs x) ⌝ }
+    ensures { λ r. ⌜ SaysListed x listed r ⌝ }
 {
     (x.request == 0) | ((x.request < x.number) & listed)
 }

@@ -18,20 +18,17 @@ use rows::layout::Q_NUMBER;
 use rows::layout::Q_PORT;
 use rows::layout::REQUESTS;
 use rows::read::row_at;
-ghost use mathlib.Core.Bool.{_&&_};
-ghost use mathlib.Core.List.{List};
 ghost use mathlib.Core.Path.{_≡_};
-ghost use Prim.Native.Nat.{ℕ, suc, pred, _+_, _<_, _≤_};
-ghost use lib.ListN.{length, getD};
-ghost use Rattle.rows.specs.declared.Row.{Row};
-ghost use Rattle.rows.specs.declared.Request.{Request};
-ghost use Rattle.rows.specs.Tables.{State, rowOf, requestOf, lists};
-ghost use Rattle.rows.specs.Sound.{objectInRange, objectsInRange, rightInRange, rightsInRange, placeInRange, placesInRange, sourceRight, sourcesRight, depthRight, depthsRight, copyMatches, copiesMatch, isPairedWith, endPaired, endsPaired, copyListed, copiesListed};
-ghost use Rattle.rows.specs.Layout.{requestAt, recordsIn, rawRow};
-ghost use Rattle.rows.specs.contracts.Represents.{Represents};
-ghost use Rattle.soundness_rows.specs.contracts.AtSlot.{AtSlot};
-ghost use Rattle.soundness_rows.specs.contracts.Seen.{Seen, slotRow, rowSound};
-ghost use Rattle.rows.specs.contracts.Sizes.{ROWS, REQUESTS, SOURCE, VIA, IsTables, IsRecords};
+ghost use Prim.Native.Nat.{_<_, _≤_};
+ghost use Rattle.rows.specs.Tables.{requestOf, lists};
+ghost use Rattle.rows.specs.Sound.{endPaired};
+ghost use Rattle.rows.specs.Layout.{requestAt, recordsIn};
+ghost use Rattle.rows.specs.contracts.Sizes.{ROWS, REQUESTS, IsTables, IsRecords};
+ghost use Rattle.soundness_rows.specs.contracts.OfState.{OfRequests, Tests};
+ghost use Rattle.soundness_rows.specs.contracts.AtSlot.{OfRowAt, OfRowAmong, OfSources, OfSlot};
+ghost use Rattle.soundness_rows.specs.contracts.Seen.{SaysOfLoan, SourcesBefore, SourcesOlder, slotRow};
+ghost use Rattle.soundness_rows.specs.contracts.Clauses.{fieldsInRange, sourceClauses, pairedAbove, pairedBelow};
+ghost use Rattle.soundness_rows.specs.contracts.Clauses.{rowClauses};
 
 // What the request that a row bears says: its port, and whether it lists the row.
 pub struct Loan {
@@ -75,10 +72,12 @@ fn lists_at(t: &[u32], j: usize, e: u32) -> bool
     (0 < e) & ((e == a) | ((e == b) | ((e == c) | (e == d))))
 }
 
-// What request q says of the row numbered e. Ruled out: the port of another request; a row that only another request lists.
+// What request q says of the row numbered e.
+// Ruled out: the port of another request; a row that only another request lists.
 fn loan_of(t: &[u32], m: usize, q: u32, e: u32) -> Loan
     requires { ⌜ IsTables (now t) × (m ≤ REQUESTS) ⌝ }
-    ensures { λ r. ⌜ ((st : State) → Represents (now (t .entry)) st → m ≡ length (st .requests) → (r .port ≡ requestOf (st .requests) q .port) × (r .listed ≡ lists e (requestOf (st .requests) q))) ⌝ }
+    ensures port { λ r. ⌜ OfRequests (now (t .entry)) m (r .port) (λ vs. requestOf vs q .port) ⌝ }
+    ensures listed { λ r. ⌜ OfRequests (now (t .entry)) m (r .listed) (λ vs. lists e (requestOf vs q)) ⌝ }
 {
     let none = Loan {
         port: 0,
@@ -98,10 +97,11 @@ fn loan_of(t: &[u32], m: usize, q: u32, e: u32) -> Loan
 }
 
 // ---- ends in pairs
-// The client end x at slot i has its server end in the next slot. Ruled out: a server end further on; the end of another port.
+// The client end x at slot i has its server end in the next slot.
+// Ruled out: a server end further on; the end of another port.
 fn pair_above(t: &[u32], x: Row, i: usize, n: usize) -> bool
     requires { ⌜ IsTables (now t) × (i < ROWS) × (n ≤ ROWS) ⌝ }
-    ensures { λ r. ⌜ ((st : State) → Represents (now (t .entry)) st → n ≡ length (st .rows) → x ≡ rawRow (now (t .entry)) i → AtSlot (λ y old. isPairedWith y (rowOf (st .rows) (suc (y .number)))) (st .rows) i r) ⌝ }
+    ensures { λ r. ⌜ OfRowAmong (now (t .entry)) n x i r pairedAbove ⌝ }
 {
     let j = i + 1;
     if n <= j {
@@ -113,10 +113,11 @@ fn pair_above(t: &[u32], x: Row, i: usize, n: usize) -> bool
     next & paired
 }
 
-// The server end x at slot i has its client end in the slot before. Ruled out: a client end further back; the end of another port.
+// The server end x at slot i has its client end in the slot before.
+// Ruled out: a client end further back; the end of another port.
 fn pair_below(t: &[u32], x: Row, i: usize) -> bool
     requires { ⌜ IsTables (now t) × (i < ROWS) ⌝ }
-    ensures { λ r. ⌜ ((st : State) → Represents (now (t .entry)) st → x ≡ rawRow (now (t .entry)) i → AtSlot (λ y old. isPairedWith y (rowOf (st .rows) (pred (y .number)))) (st .rows) i r) ⌝ }
+    ensures { λ r. ⌜ OfRowAt (now (t .entry)) x i r pairedBelow ⌝ }
 {
     if i == 0 {
         return false;
@@ -130,7 +131,7 @@ fn pair_below(t: &[u32], x: Row, i: usize) -> bool
 // Ruled out: a client end without its server end; a server end without its client end.
 fn end_paired(t: &[u32], x: Row, i: usize, n: usize) -> bool
     requires { ⌜ IsTables (now t) × (i < ROWS) × (n ≤ ROWS) ⌝ }
-    ensures { λ r. ⌜ ((st : State) → Represents (now (t .entry)) st → n ≡ length (st .rows) → x ≡ rawRow (now (t .entry)) i → AtSlot (λ y old. endPaired (st .rows) y) (st .rows) i r) ⌝ }
+    ensures { λ r. ⌜ OfRowAmong (now (t .entry)) n x i r endPaired ⌝ }
 {
     if x.kind == A_CLIENT_END {
         return pair_above(t, x, i, n);
@@ -145,7 +146,7 @@ fn end_paired(t: &[u32], x: Row, i: usize, n: usize) -> bool
 // Ruled out: one of the three tests alone decides; rights or a place out of range.
 fn fields_in_range(x: Row, p: &[u32]) -> bool
     requires { ⌜ IsRecords (now p) ⌝ }
-    ensures { λ r. ⌜ r ≡ objectInRange (recordsIn (now (p .entry))) x && (rightInRange x && placeInRange (recordsIn (now (p .entry))) x) ⌝ }
+    ensures { λ r. ⌜ r ≡ fieldsInRange (recordsIn (now (p .entry))) x ⌝ }
 {
     let object = object_in_range(x, p);
     let right = right_in_range(x);
@@ -155,7 +156,7 @@ fn fields_in_range(x: Row, p: &[u32]) -> bool
 
 // Ruled out: one of the three tests alone decides; a wrong depth.
 fn by_sources(x: Row, s: Row, v: Row, port: u32) -> bool
-    ensures { λ r. ⌜ ((y : Row) (rs : List Row) (vs : List Request) → Seen x s v y rs → port ≡ requestOf vs (y .request) .port → r ≡ sourceRight vs y rs && (depthRight y rs && copyMatches y rs)) ⌝ }
+    ensures { λ r. ⌜ SaysOfLoan x s v port r sourceClauses ⌝ }
 {
     let right = source_right(x, s, v, port);
     let depth = depth_right(x, s, v);
@@ -166,7 +167,7 @@ fn by_sources(x: Row, s: Row, v: Row, port: u32) -> bool
 // Ruled out: the tests of another row's sources; a copy that its request does not list.
 fn sources_sound(t: &[u32], x: Row, m: usize) -> bool
     requires { ⌜ IsTables (now t) × (m ≤ REQUESTS) × (x .source ≤ ROWS) × (x .via ≤ ROWS) ⌝ }
-    ensures { λ r. ⌜ ((st : State) (i : ℕ) → Represents (now (t .entry)) st → m ≡ length (st .requests) → x ≡ rawRow (now (t .entry)) i → AtSlot (λ y old. (sourceRight (st .requests) y old && (depthRight y old && copyMatches y old)) && copyListed (st .requests) y) (st .rows) i r) ⌝ }
+    ensures { λ r. ⌜ OfSources (now (t .entry)) m x r ⌝ }
 {
     let s = source_row(t, x.source);
     let v = source_row(t, x.via);
@@ -178,8 +179,9 @@ fn sources_sound(t: &[u32], x: Row, m: usize) -> bool
 
 // The clauses of the row at slot i. Ruled out: a row whose fields alone are right; the row at another slot.
 fn row_sound(t: &[u32], p: &[u32], i: usize, n: usize, m: usize) -> bool
-    requires { ⌜ IsTables (now t) × IsRecords (now p) × (i < ROWS) × (n ≤ ROWS) × (m ≤ REQUESTS) × (getD (now t) (SOURCE + i) 0 ≤ i) × (getD (now t) (VIA + i) 0 ≤ i) ⌝ }
-    ensures { λ r. ⌜ ((st : State) → Represents (now (t .entry)) st → st .processes ≡ recordsIn (now (p .entry)) → n ≡ length (st .rows) → m ≡ length (st .requests) → AtSlot (rowSound st) (st .rows) i r) ⌝ }
+    requires sizes { ⌜ IsTables (now t) × IsRecords (now p) × (i < ROWS) × (n ≤ ROWS) × (m ≤ REQUESTS) ⌝ }
+    requires sources { ⌜ SourcesBefore (now t) i ⌝ }
+    ensures { λ r. ⌜ OfSlot (now (t .entry)) (now (p .entry)) n m i r ⌝ }
 {
     let x = row_at(t, i);
     let fields = fields_in_range(x, p);
@@ -191,9 +193,8 @@ fn row_sound(t: &[u32], p: &[u32], i: usize, n: usize, m: usize) -> bool
 // The clauses of every row. Ruled out: a last row that is not tested; true where one row breaks one clause.
 pub fn rows_sound(t: &[u32], p: &[u32], n: usize, m: usize) -> bool
     requires sizes { ⌜ IsTables (now t) × IsRecords (now p) × (n ≤ ROWS) × (m ≤ REQUESTS) ⌝ }
-    requires sources { ⌜ ((i : ℕ) → i < n → getD (now t) (SOURCE + i) 0 ≤ i) ⌝ }
-    requires vias { ⌜ ((i : ℕ) → i < n → getD (now t) (VIA + i) 0 ≤ i) ⌝ }
-    ensures { λ r. ⌜ ((st : State) → Represents (now (t .entry)) st → st .processes ≡ recordsIn (now (p .entry)) → n ≡ length (st .rows) → m ≡ length (st .requests) → r ≡ objectsInRange st && (rightsInRange st && (placesInRange st && (sourcesRight st && (depthsRight st && (copiesMatch st && (endsPaired st && copiesListed st))))))) ⌝ }
+    requires sources { ⌜ SourcesOlder (now t) n ⌝ }
+    ensures { λ r. ⌜ Tests (now (t .entry)) (now (p .entry)) n m r rowClauses ⌝ }
 {
     let mut i = 0;
     while i < n {

@@ -1,16 +1,22 @@
 -- What the functions that test soundness say of one slot, of marks and of the listing: slots are given plus 1, 0 for none.
-use Prim.Native.Nat.{ℕ, zero, suc, _+_}
-use mathlib.Core.Bool.{Bool, true, false, not, _&&_}
+use Prim.Native.Nat.{ℕ, zero, suc, _+_, _*_, _≤_}
+use mathlib.Core.Bool.{Bool, true, false, not, _&&_, _||_}
 use mathlib.Core.List.{List, [], _∷_, map}
+use mathlib.Core.Path.{_≡_}
 use lib.Dec.{leb, eqb}
-use lib.ListN.{getD, set}
+use lib.ListN.{length, getD, set}
 use Rattle.rows.specs.declared.Row.{Row}
 use Rattle.rows.specs.declared.Request.{Request}
-use Rattle.rows.specs.Lists.{if_then_else_, all, member, distinct, nonzero}
+use Rattle.rows.specs.declared.Process.{Process}
+use Rattle.rows.specs.Lists.{if_then_else_, any, all, member, distinct, some, nonzero}
 use Rattle.rows.specs.Codes.{isSystem}
 use Rattle.rows.specs.Tables.{State, rowOf, isListed, numbers, lists}
-use Rattle.rows.specs.Sound.{portStands, mayBeListed, isFetched, same}
-use Rattle.rows.specs.Layout.{rowSlot}
+use Rattle.rows.specs.Sound.{numbersApart, fetchedInRange, portStands, portsStand, requestersListed, itemsApart, mayBeListed, itemsLent, onePerPort, isFetched, olderFetched, same}
+use Rattle.rows.specs.Sound.{systemHolds}
+use Rattle.rows.specs.Layout.{requestAt, rowSlot}
+use Rattle.rows.specs.contracts.Sizes.{ROWS}
+use Rattle.rows.specs.contracts.Represents.{Represents}
+use Rattle.soundness_rows.specs.contracts.OfState.{OfRows}
 
 -- the word of a slot plus 1 in the column that starts at c
 unfoldable pub wordAt : List ℕ → ℕ → ℕ → ℕ
@@ -18,20 +24,46 @@ wordAt t c zero = 0
 wordAt t c (suc i) = getD t (c + i) 0
 
 -- ---- one request
+-- r is F of the rows and of the request in slot j, in every state that t represents, n rows standing
+abbrev pub OfRequest : {A : Type 0} → List ℕ → ℕ → ℕ → A → (List Row → Request → A) → Type 0
+OfRequest t n j r F = OfRows t n r (λ rs. F rs (requestAt t j))
+
+-- its number is no row's
+abbrev pub numberApart : List Row → Request → Bool
+numberApart rs v = not (member (v .number) (numbers rs))
+
+-- each of its items may be listed
+abbrev pub itemsListable : List Row → Request → Bool
+itemsListable rs v = all (λ e. mayBeListed v (rowOf rs e)) (nonzero (v .items))
+
+-- r says that e is no item, or one that a request numbered q may list
+abbrev pub TestsItem : List ℕ → ℕ → ℕ → ℕ → Bool → Type 0
+TestsItem t n q e r =
+    (st : State) (v : Request) → Represents t st → n ≡ length (st .rows) → v .number ≡ q
+    → r ≡ (not (some e) || mayBeListed v (rowOf (st .rows) e))
+
 -- what is asked of each request by itself, but for its port
-unfoldable pub requestRight : State → Request → Bool
-requestRight st v =
-    not (member (v .number) (numbers (st .rows)))
-    && (leb (v .fetched) 1
-    && (isListed (st .processes) (v .asker)
-    && (distinct (nonzero (v .items)) && all (λ e. mayBeListed v (rowOf (st .rows) e)) (nonzero (v .items)))))
+unfoldable pub requestRight : List Process → List Row → Request → Bool
+requestRight ps rs v =
+    numberApart rs v && (leb (v .fetched) 1 && (isListed ps (v .asker) && (distinct (nonzero (v .items)) && itemsListable rs v)))
 
 -- the slot plus 1 of the client end of its port, if that stands
 unfoldable pub standingPort : List Row → Request → ℕ
 standingPort rs v = if portStands rs v then rowSlot rs (v .port) else 0
 
+-- ---- all requests
+abbrev pub requestsRight : State → Bool
+requestsRight st = all (requestRight (st .processes) (st .rows)) (st .requests)
+
+-- the ports stand, and no two are the same
 unfoldable pub portsRight : List Row → List Request → Bool
 portsRight rs vs = all (portStands rs) vs && distinct (map (λ v. v .port) vs)
+
+-- the seven clauses of requests
+abbrev pub requestClauses : State → Bool
+requestClauses st =
+    numbersApart st
+    && (fetchedInRange st && (portsStand st && (requestersListed st && (itemsApart st && (itemsLent st && onePerPort st)))))
 
 -- ---- marks: a slot is free once
 unfoldable pub isFree : List Bool → ℕ → Bool
@@ -50,6 +82,7 @@ unfoldable pub listingOf : List Request → ℕ → ℕ
 listingOf [] e = 0
 listingOf (v ∷ vs) e = if lists e v then listingCode (isFetched v) else listingOf vs e
 
+-- the code of a slot plus 1
 unfoldable pub codeAt : List ℕ → ℕ → ℕ
 codeAt listing zero = 0
 codeAt listing (suc i) = getD listing i 0
@@ -63,7 +96,40 @@ unfoldable pub listAll : ℕ → List ℕ → List ℕ → List ℕ
 listAll code [] listing = listing
 listAll code (s ∷ ss) listing = listAll code ss (listAt code s listing)
 
+-- ---- the items of a request in the listing
+-- no slot of a list is past the first n; a slot of it is listed
+abbrev pub SlotsWithin : ℕ → List ℕ → Type 0
+SlotsWithin n slots = (k : ℕ) → getD slots k 0 ≤ n
+
+abbrev pub anyListed : List ℕ → List ℕ → Bool
+anyListed listing slots = any (λ s. some (codeAt listing s)) slots
+
+abbrev pub itemSlots : List Row → Request → List ℕ
+itemSlots rs v = map (rowSlot rs) (v .items)
+
+-- the request is fetched, or none of its items is listed
+abbrev pub listedOnce : List ℕ → List Row → Request → Bool
+listedOnce listing rs v = isFetched v || not (anyListed listing (itemSlots rs v))
+
+-- the listing with its items listed too
+abbrev pub withItems : List ℕ → List Row → Request → List ℕ
+withItems listing rs v = listAll (listingCode (isFetched v)) (itemSlots rs v) listing
+
+-- ---- who holds
+-- where the column of rows' places starts
+abbrev PLACE : ℕ
+PLACE = 5 * ROWS
+
 -- the rows of the first slots are with the system exactly where the listing says 2
 unfoldable pub heldTo : List ℕ → List ℕ → ℕ → Bool
 heldTo t listing zero = true
-heldTo t listing (suc i) = same (isSystem (getD t (5120 + i) 0)) (eqb (getD listing i 0) 2) && heldTo t listing i
+heldTo t listing (suc i) = same (isSystem (getD t (PLACE + i) 0)) (eqb (getD listing i 0) 2) && heldTo t listing i
+
+-- the two clauses of holders
+abbrev pub holderClauses : State → Bool
+holderClauses st = olderFetched st && systemHolds st
+
+-- r is what they say of every state that t represents whose items may be listed, n rows and m requests standing
+abbrev pub TestsHolders : List ℕ → ℕ → ℕ → Bool → Type 0
+TestsHolders t n m r =
+    (st : State) → Represents t st → n ≡ length (st .rows) → m ≡ length (st .requests) → itemsLent st ≡ true → r ≡ holderClauses st

@@ -1,13 +1,16 @@
 -- What the tests of one row know of it: the words of its slot and of its sources' slots, and the request that it bears.
-use Prim.Native.Nat.{ℕ, zero, suc}
-use mathlib.Core.Bool.{Bool, _&&_}
+use Prim.Native.Nat.{ℕ, zero, suc, _+_, _<_, _≤_}
+use mathlib.Core.Bool.{Bool}
 use mathlib.Core.List.{List}
 use mathlib.Core.Path.{_≡_}
 use lib.Dec.{eqb}
+use lib.ListN.{getD}
 use Rattle.rows.specs.declared.Row.{Row}
-use Rattle.rows.specs.Tables.{State, noRow, rowOf}
-use Rattle.rows.specs.Sound.{objectInRange, rightInRange, placeInRange, sourceRight, depthRight, copyMatches, endPaired, copyListed}
+use Rattle.rows.specs.declared.Request.{Request}
+use Rattle.rows.specs.Tables.{noRow, rowOf, requestOf, lists}
+use Rattle.rows.specs.Sound.{copyListed}
 use Rattle.rows.specs.Layout.{rawRow}
+use Rattle.rows.specs.contracts.Sizes.{SOURCE, VIA}
 
 -- x is y, but for the sources
 pub record Same (x y : Row) : Type 0 where
@@ -29,16 +32,29 @@ pub record Seen (x s v y : Row) (rs : List Row) : Type 0 where
   pub via-none : eqb (x .via) 0 ≡ eqb (y .via) 0
   pub via-number : v .number ≡ y .via
 
+-- ---- what a test of the words x, s and v says
+-- r is F of every row y and older rows that have those words
+abbrev pub SaysOf : Row → Row → Row → Bool → (Row → List Row → Bool) → Type 0
+SaysOf x s v r F = (y : Row) (rs : List Row) → Seen x s v y rs → r ≡ F y rs
+
+-- r is F of them and of every list of requests in which the request that y bears is on that port
+abbrev pub SaysOfLoan : Row → Row → Row → ℕ → Bool → (List Request → Row → List Row → Bool) → Type 0
+SaysOfLoan x s v port r F =
+    (y : Row) (rs : List Row) (vs : List Request) → Seen x s v y rs → port ≡ requestOf vs (y .request) .port → r ≡ F vs y rs
+
+-- r is the clause of a copy's listing, where `listed` says whether the request that x bears lists x
+abbrev pub SaysListed : Row → Bool → Bool → Type 0
+SaysListed x listed r = (vs : List Request) → listed ≡ lists (x .number) (requestOf vs (x .request)) → r ≡ copyListed vs x
+
+-- ---- source words
+-- the sources of the row at slot i are slots before its own, plus 1, or 0; those of the first n rows are
+abbrev pub SourcesBefore : List ℕ → ℕ → Type 0
+SourcesBefore t i = (getD t (SOURCE + i) 0 ≤ i) × (getD t (VIA + i) 0 ≤ i)
+
+abbrev pub SourcesOlder : List ℕ → ℕ → Type 0
+SourcesOlder t n = (i : ℕ) → i < n → SourcesBefore t i
+
 -- the row at a slot plus 1
 unfoldable pub slotRow : List ℕ → ℕ → Row
 slotRow t zero = noRow
 slotRow t (suc i) = rawRow t i
-
--- the eight clauses of one row, old the older ones
-unfoldable pub rowSound : State → Row → List Row → Bool
-rowSound st y old =
-    objectInRange (st .processes) y
-    && (rightInRange y
-    && (placeInRange (st .processes) y
-    && (sourceRight (st .requests) y old
-    && (depthRight y old && (copyMatches y old && (endPaired (st .rows) y && copyListed (st .requests) y))))))

@@ -1,4 +1,4 @@
--- `laid::older` meets its contract: the answer so far tells of the places passed.
+-- `laid::older` meets its contract: the answer so far tells of the positions passed.
 use borrow.Author.Needs.{needs}
 use Prim.Native.Nat.{_≤_, _<_, _-_, _+_}
 use native.Mathlib.Omega.{arith}

@@ -6,6 +6,7 @@ use denote.Ref.{now}
 use mathlib.Core.Path.{_≡_}
 use mathlib.Core.List.{List}
 use lib.ListN.{getD}
+use Rattle.rows.specs.contracts.Sizes.{REQUESTS, REQUEST-COLUMNS, Q-NUMBER}
 use Rattle.soundness.specs.contracts.Laid.{Decides}
 use Rattle.soundness.proofs.Decides.{Between, decides-none, decides-more, decides-below, decides-part, decides-columns}
 use Rattle.soundness.proofs.laid.requests_unused.Statement.{statement}
@@ -13,13 +14,13 @@ use Rattle.soundness.proofs.laid.requests_unused.Tie as tie
 
 -- the slots from n on of column c are 0
 abbrev Empty : List ℕ → ℕ → ℕ → Type 0
-Empty t n c = (i : ℕ) → n ≤ i → i < 128 → getD t (10240 + (c * 128 + i)) 0 ≡ 0
+Empty t n c = (i : ℕ) → n ≤ i → i < REQUESTS → getD t (Q-NUMBER + (c * REQUESTS + i)) 0 ≡ 0
 
 abbrev Inv-loop : tie.InvT-loop
-Inv-loop t m unused₀ c₀ unused c = (c ≤ 8) × Decides unused (Between 0 c (Empty t m))
+Inv-loop t m unused₀ c₀ unused c = (c ≤ REQUEST-COLUMNS) × Decides unused (Between 0 c (Empty t m))
 
 abbrev μ-loop : tie.MeasureT-loop
-μ-loop t m unused₀ c₀ unused c = 8 - c
+μ-loop t m unused₀ c₀ unused c = REQUEST-COLUMNS - c
 
 loop-holds : tie.Need-loop-holds Inv-loop μ-loop
 loop-holds c = (search needs, decides-none (Empty (now (c .before .args .t)) (c .before .args .m)) 0)
@@ -56,19 +57,25 @@ loop-less c = search needs
 
 loop-again : tie.Need-loop-again Inv-loop μ-loop
 loop-again c =
-    let b = c .before .before .before in
-    let s = b .before .before in
-    let k = b .loop .c in (
+    let turn = c .before .before .before in
+    let a = turn .before .before .args in
+    let t = now (a .t) in
+    let k = turn .loop .c in
+    let start : ℕ = Q-NUMBER + k * REQUESTS in
+    let zero = c .zero-from in (
       search needs,
-      decides-more (Empty (now (s .args .t)) (s .args .m)) 0 k (b .loop .unused) (c .zero-from .result) (omega arith) (b .loop .inv .1)
-          (decides-part (now (s .args .t)) (s .args .m) (10240 + k * 128) (10240 + k * 128 + 128 - (10240 + k * 128)) 128 (λ i. 10240 + (k * 128 + i)) (c .zero-from .result) (omega arith) (λ i. omega arith) (c .zero-from .ensures)),
+      decides-more (Empty t (a .m)) 0 k (turn .loop .unused) (zero .result) (omega arith) (turn .loop .inv .1)
+          (decides-part t (a .m) start (start + REQUESTS - start) REQUESTS (λ i. Q-NUMBER + (k * REQUESTS + i)) (zero .result) (omega arith) (λ i. omega arith)
+          (zero .ensures)),
     )
 
 returns : tie.Need-returns Inv-loop μ-loop
 returns c =
-    let s = c .before .before .before in
-    decides-columns (λ c i. getD (now (s .args .t)) (10240 + (c * 128 + i)) 0 ≡ 0) (s .args .m) 8 128 (c .before .loop .unused)
-    (decides-below (Empty (now (s .args .t)) (s .args .m)) 8 (c .before .loop .c) (c .before .loop .unused) (c .before .loop .inv .0) (c .loop-test .left) (c .before .loop .inv .1))
+    let last = c .before .loop in
+    let a = c .before .before .before .args in
+    let t = now (a .t) in
+    decides-columns (λ c i. getD t (Q-NUMBER + (c * REQUESTS + i)) 0 ≡ 0) (a .m) REQUEST-COLUMNS REQUESTS (last .unused)
+    (decides-below (Empty t (a .m)) REQUEST-COLUMNS (last .c) (last .unused) (last .inv .0) (c .loop-test .left) (last .inv .1))
 
 pub requests-unused-spec : {M : Type 1} → statement M
 requests-unused-spec =

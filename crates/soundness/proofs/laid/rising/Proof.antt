@@ -1,4 +1,4 @@
--- `laid::rising` meets its contract: the answer so far tells of the places passed, and `last` is the word before.
+-- `laid::rising` meets its contract: the answer so far tells of the positions passed, and `last` is the word before.
 use borrow.Author.Needs.{needs}
 use Prim.Native.Nat.{ℕ, _≤_, _<_, _-_, _+_}
 use native.Mathlib.Omega.{arith}

@@ -46,9 +46,12 @@ rows-unused-requires c κs = search needs
 
 returns : tie.Need-returns
 returns c =
-    let b = c .before in
-    let s = b .before .before .before .before .before .before .before in
-    decides-rows (now (s .args .t)) (s .args .n) _ _ _ _ (s .pre .1) (b .before .before .before .before .rising .ensures) (b .before .before .older .ensures) (b .older2 .ensures) (c .rows-unused .ensures)
+    let vias = c .before in
+    let sources = vias .before .before in
+    let numbers = sources .before .before in
+    let s = numbers .before .before .before in
+    decides-rows (now (s .args .t)) (s .args .n) _ _ _ _ (s .pre .1) (numbers .rising .ensures) (sources .older .ensures) (vias .older2 .ensures)
+    (c .rows-unused .ensures)
 
 pub rows-laid-spec : {M : Type 1} → statement M
 rows-laid-spec =

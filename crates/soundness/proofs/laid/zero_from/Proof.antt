@@ -1,4 +1,4 @@
--- `laid::zero_from` meets its contract: the answer so far tells of the places passed.
+-- `laid::zero_from` meets its contract: the answer so far tells of the positions passed.
 use borrow.Author.Needs.{needs}
 use Prim.Native.Nat.{_≤_, _-_}
 use denote.Ref.{now}

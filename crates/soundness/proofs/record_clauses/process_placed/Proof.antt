@@ -34,17 +34,20 @@ row-at-requires c κs =
     let s = b .before .before .before .before in
     (s .pre .0, omega (arith, at-below (s .args .n) (b .row-among .result) _ (b .row-among .ensures .0) (c .before .i .given .1)))
 
-add-home : tie.Need-add-home
-add-home c = search needs
+clist-requires : tie.Need-clist-requires
+clist-requires c κs = search needs
 
 returns-3 : tie.Need-returns-3
 returns-3 c =
-    let w = c .before .before .before .before in
-    let b = w .before .before .before .before in
-    let s = b .before .before .before .before in
+    let home = c .before .before .before .before in
+    let read = home .before in
+    let found = read .before .before in
+    let searched = found .before .before in
+    let s = searched .before .before .before .before in
     λ st rep e.
-    placed-at st (s .args .q) (s .args .x) (b .before .if1 .left) rep _ (w .row-at .result)
-    (found-at (rowSlot (st .rows) (s .args .x .through)) _ (b .row-among .ensures .1 st rep e) (w .before .before .i .given .1)) (w .row-at .ensures)
+    rw (home .clist .ensures (s .pre .2))
+    (placed-at st (s .args .q) (s .args .x) (searched .before .if1 .left) rep _ (read .row-at .result)
+    (found-at (rowSlot (st .rows) (s .args .x .through)) _ (searched .row-among .ensures .1 st rep e) (found .i .given .1)) (read .row-at .ensures))
 
 pub process-placed-spec : {M : Type 1} → statement M
 process-placed-spec =
@@ -56,5 +59,5 @@ process-placed-spec =
     enum-told
     returns-2
     row-at-requires
-    add-home
+    clist-requires
     returns-3)

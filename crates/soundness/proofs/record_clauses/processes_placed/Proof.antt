@@ -1,21 +1,21 @@
 -- `record_clauses::processes_placed` meets its contract: the answer so far is that of the records passed.
 use borrow.Author.Needs.{needs}
 use Prim.Native.Nat.{_≤_, _-_}
-use mathlib.Core.Path.{_≡_, refl, ap, sym, _∙_}
+use mathlib.Core.Path.{refl, ap, sym, _∙_}
 use native.Mathlib.Omega.{arith}
 use denote.Ref.{now}
-use lib.ListN.{length, take}
-use Rattle.rows.specs.Tables.{State, noProcess}
-use Rattle.rows.specs.Sound.{placedFrom, processesPlaced}
+use lib.ListN.{take}
+use Rattle.rows.specs.Tables.{noProcess}
+use Rattle.rows.specs.Sound.{placedFrom}
 use Rattle.rows.specs.Layout.{recordsIn}
-use Rattle.rows.specs.contracts.Represents.{Represents}
+use Rattle.soundness_rows.specs.contracts.OfState.{OfRows}
 use Rattle.rows.proofs.ProcessRecords.{length-in}
 use Rattle.soundness.proofs.RecordClauses.{placed-more, taken-all}
 use Rattle.soundness.proofs.record_clauses.processes_placed.Statement.{statement}
 use Rattle.soundness.proofs.record_clauses.processes_placed.Tie as tie
 
 abbrev Inv-loop : tie.InvT-loop
-Inv-loop t p n placed₀ i₀ placed i = (i ≤ 64) × ((st : State) → Represents t st → n ≡ length (st .rows) → placed ≡ placedFrom (st .rows) 1 (take i (recordsIn p)))
+Inv-loop t p n placed₀ i₀ placed i = (i ≤ 64) × OfRows t n placed (λ rs. placedFrom rs 1 (take i (recordsIn p)))
 
 abbrev μ-loop : tie.MeasureT-loop
 μ-loop t p n placed₀ i₀ placed i = 64 - i
@@ -55,13 +55,12 @@ loop-again c =
     )
 
 returns : tie.Need-returns Inv-loop μ-loop
-unfolding processesPlaced
 returns c =
     let b = c .before in
     let s = b .before .before .before in
     let p = now (s .args .p) in
-    λ st rep d e.
-    b .loop .inv .1 st rep e ∙ ap (placedFrom (st .rows) 1) (taken-all (recordsIn p) (b .loop .i) 64 (length-in 64 p (s .pre .1)) (c .loop-test .left) ∙ sym d)
+    λ st rep e.
+    b .loop .inv .1 st rep e ∙ ap (placedFrom (st .rows) 1) (taken-all (recordsIn p) (b .loop .i) 64 (length-in 64 p (s .pre .1)) (c .loop-test .left))
 
 pub processes-placed-spec : {M : Type 1} → statement M
 processes-placed-spec =

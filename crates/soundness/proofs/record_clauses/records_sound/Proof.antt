@@ -7,7 +7,7 @@ use denote.Ref.{now}
 use lib.ListN.{take}
 use Rattle.rows.specs.Lists.{all}
 use Rattle.rows.specs.Tables.{noProcess}
-use Rattle.rows.specs.Sound.{recordInRange, recordsInRange}
+use Rattle.rows.specs.Sound.{recordInRange}
 use Rattle.rows.specs.Layout.{recordsIn}
 use Rattle.rows.proofs.ProcessRecords.{length-in}
 use Rattle.soundness.proofs.RecordClauses.{all-more, taken-all}
@@ -47,13 +47,11 @@ loop-again c =
     )
 
 returns : tie.Need-returns Inv-loop μ-loop
-unfolding recordsInRange
 returns c =
     let b = c .before in
     let s = b .before .before in
     let p = now (s .args .p) in
-    λ st e.
-    b .loop .inv .1 ∙ ap (all recordInRange) (taken-all (recordsIn p) (b .loop .i) 64 (length-in 64 p (s .pre)) (c .loop-test .left) ∙ sym e)
+    b .loop .inv .1 ∙ ap (all recordInRange) (taken-all (recordsIn p) (b .loop .i) 64 (length-in 64 p (s .pre)) (c .loop-test .left))
 
 pub records-sound-spec : {M : Type 1} → statement M
 records-sound-spec =

@@ -1,6 +1,8 @@
 -- The next number and the records, then the tables. Assumes nothing.
 use borrow.Author.Needs.{needs}
-use Prim.Native.Nat.{_-_}
+use mathlib.Core.Path.{ap, sym, _∙_}
+use Rattle.rows.specs.Lists.{all}
+use Rattle.rows.specs.Sound.{recordInRange, recordsInRange}
 use Rattle.soundness.proofs.SoundParts.{clauses-sound}
 use Rattle.soundness.proofs.sound.clauses_sound.Statement.{statement}
 use Rattle.soundness.proofs.sound.clauses_sound.Tie as tie
@@ -15,9 +17,12 @@ tables-sound-requires : tie.Need-tables-sound-requires
 tables-sound-requires c κs = search needs
 
 returns : tie.Need-returns
+unfolding recordsInRange
 returns c = λ st rep pe en em.
-    clauses-sound st (c .before .before .next-sound .result) (c .before .records-sound .result) (c .tables-sound .result)
-    (c .before .before .next-sound .ensures st rep en em) (c .before .records-sound .ensures st pe) (λ next records. c .tables-sound .ensures st rep pe en em next records)
+    let next = c .before .before .next-sound in
+    let records = c .before .records-sound in
+    clauses-sound st (next .result) (records .result) (c .tables-sound .result) (next .ensures st rep en em)
+    (records .ensures ∙ ap (all recordInRange) (sym pe)) (λ plain listed. c .tables-sound .ensures st rep pe en em plain listed)
 
 pub clauses-sound-spec : {M : Type 1} → statement M
 clauses-sound-spec =

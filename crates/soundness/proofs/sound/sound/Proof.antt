@@ -31,32 +31,37 @@ requests-laid-requires c κs = search needs
 
 returns-3 : tie.Need-returns-3
 returns-3 c =
+    let requests = c .before .requests-laid in
     let r = c .before .before in
     let m = r .before in
     let n = m .before in
-    let s = n .before .before .before .before .before in
-    not-laid (s .args .tables .now) (s .args .processes .now) (n .rows-in .result) (m .requests-in .result) (r .rows-laid .result) (c .before .requests-laid .result)
-    (n .rows-in .ensures .0) (m .requests-in .ensures .0) (r .rows-laid .ensures) (c .before .requests-laid .ensures) (c .if3 .taken)
+    let i = n .before .before in
+    let s = i .before .before .before in
+    not-laid (s .args .tables .now) (s .args .processes .now) (n .rows-in .result) (m .requests-in .result) (r .rows-laid .result) (requests .result)
+    (n .rows-in .ensures .0) (m .requests-in .ensures .0) (r .rows-laid .ensures) (requests .ensures) (c .if3 .taken)
 
 clauses-sound-requires : tie.Need-clauses-sound-requires
 clauses-sound-requires c κs =
     let r = c .before .before in
     let n = r .before .before in
     let laid = r .rows-laid .ensures .holds (and-l (r .rows-laid .result) (c .before .requests-laid .result) (not-f _ (c .if3 .left))) in
-    ((n .before .before .if1 .left, n .before .if2 .left, n .rows-in .ensures .1, r .before .requests-in .ensures .1), (laid .sources, laid .vias))
+    ((n .before .before .if1 .left, n .before .if2 .left, n .rows-in .ensures .1, r .before .requests-in .ensures .1), (λ i h. (laid .sources i h, laid .vias i h)))
 
 returns-4 : tie.Need-returns-4
 unfolding stateOf
 returns-4 c =
-    let e = c .before in
-    let r = e .before .before in
+    let both = c .before in
+    let requests = both .before .requests-laid in
+    let r = both .before .before in
     let m = r .before in
     let n = m .before in
     let i = n .before .before in
     let s = i .before .before .before in
     let t = s .args .tables .now in
     let p = s .args .processes .now in
-    let rep = decided-represents t p (n .rows-in .result) (m .requests-in .result) (r .rows-laid .result) (e .before .requests-laid .result) (n .rows-in .ensures .0) (m .requests-in .ensures .0) (r .rows-laid .ensures) (e .before .requests-laid .ensures) (i .if1 .left) (e .if3 .left) in
+    let rep =
+    decided-represents t p (n .rows-in .result) (m .requests-in .result) (r .rows-laid .result) (requests .result)
+    (n .rows-in .ensures .0) (m .requests-in .ensures .0) (r .rows-laid .ensures) (requests .ensures) (i .if1 .left) (both .if3 .left) in
     c .clauses-sound .ensures (stateOf t p) rep refl (n .rows-in .ensures .0 ∙ represented-rows rep) (m .requests-in .ensures .0 ∙ represented-requests rep)
     ∙ laid-sound t p (i .if1 .left) (n .before .if2 .left) rep
 

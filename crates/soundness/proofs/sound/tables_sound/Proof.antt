@@ -1,6 +1,7 @@
 -- The clauses of rows, requests, holders and processes, joined. Assumes nothing.
 use borrow.Author.Needs.{needs}
-use Prim.Native.Nat.{_-_}
+use mathlib.Core.Path.{ap, sym, _∙_}
+use Rattle.rows.specs.Sound.{placedFrom, processesPlaced}
 use Rattle.soundness.proofs.SoundParts.{groups-sound, records-fit}
 use Rattle.soundness.proofs.sound.tables_sound.Statement.{statement}
 use Rattle.soundness.proofs.sound.tables_sound.Tie as tie
@@ -18,11 +19,16 @@ processes-placed-requires : tie.Need-processes-placed-requires
 processes-placed-requires c κs = search needs
 
 returns : tie.Need-returns
+unfolding processesPlaced
 returns c = λ st rep pe en em next records.
-    let q = c .before .before in
-    let s = q .before .before .before .before in
-    groups-sound st rep (records-fit st (s .args .p .now) (s .pre .0 .1) pe) (q .before .rows-sound .result) (q .requests-sound .result) (c .before .holders-sound .result) (c .processes-placed .result)
-    (q .before .rows-sound .ensures st rep pe en em) (q .requests-sound .ensures st rep pe en em) (c .before .holders-sound .ensures st rep en em) (c .processes-placed .ensures st rep pe en) next records
+    let holders = c .before .holders-sound in
+    let asked = c .before .before in
+    let requests = asked .requests-sound in
+    let rows = asked .before .rows-sound in
+    let s = asked .before .before .before .before in
+    groups-sound st rep (records-fit st (s .args .p .now) (s .pre .0 .1) pe) (rows .result) (requests .result) (holders .result) (c .processes-placed .result)
+    (rows .ensures st rep pe en em) (requests .ensures st rep pe en em) (holders .ensures st rep en em)
+    (c .processes-placed .ensures st rep en ∙ ap (placedFrom (st .rows) 1) (sym pe)) next records
 
 pub tables-sound-spec : {M : Type 1} → statement M
 tables-sound-spec =

@@ -15,7 +15,10 @@ use Rattle.soundness_loans.proofs.holder_clauses.holders_sound.Statemen
 use Rattle.soundness_loans.proofs.holder_clauses.holders_sound.Tie as tie
 
 abbrev Inv-loop : tie.InvT-loop
-Inv-loop t n m listing₀ older₀ j₀ listing older j = (j ≤ m) × ((st : State) → Represents t st → n ≡ length (st .rows) → m ≡ length (st .requests) → itemsLent st ≡ true → Listing (st .rows) (requestsTo t m) (requestsTo t j) listing older)
+Inv-loop t n m listing₀ older₀ j₀ listing older j =
+    (j ≤ m)
+    × ((st : State) → Represents t st → n ≡ length (st .rows) → m ≡ length (st .requests) → itemsLent st ≡ true
+    → Listing (st .rows) (requestsTo t m) (requestsTo t j) listing older)
 
 abbrev μ-loop : tie.MeasureT-loop
 μ-loop t n m listing₀ older₀ j₀ listing older j = j
@@ -33,13 +36,15 @@ loop-less : tie.Need-loop-less Inv-loop μ-loop
 loop-less c = search needs
 
 loop-again : tie.Need-loop-again Inv-loop μ-loop
-loop-again c = let b = c .before .before .before in
-    let s = b .before .before in
-    let f = c .listed-once in (
+loop-again c = let test = c .before .before in
+    let turn = test .before .loop in
+    let a = test .before .before .before .args in
+    let once = c .listed-once in (
       search needs,
       (λ st rep e d lent.
-          listing-next rep (requestsTo (now (s .args .t)) (s .args .m)) (b .loop .j) (b .loop .listing) (f .last .1 .1 .0) (b .loop .older) (f .result) (c .before .before .loop-test .taken)
-          (items-lent rep lent (b .loop .j - 1) (omega (arith, b .loop .inv .0, c .before .before .loop-test .taken, d))) (f .ensures .0 st rep e) (f .ensures .1 st rep e) (b .loop .inv .1 st rep e d lent)),
+          let item = items-lent rep lent (turn .j - 1) (omega (arith, turn .inv .0, test .loop-test .taken, d)) in
+          listing-next rep (requestsTo (now (a .t)) (a .m)) (turn .j) (turn .listing) (once .last .1 .1 .0) (turn .older) (once .result) (test .loop-test .taken)
+          item (once .ensures .0 st rep e) (once .ensures .1 st rep e) (turn .inv .1 st rep e d lent)),
     )
 
 rows-held-requires : tie.Need-rows-held-requires Inv-loop μ-loop
@@ -47,8 +52,11 @@ rows-held-requires c κs = search needs
 
 returns : tie.Need-returns Inv-loop μ-loop
 returns c = λ st rep e d lent.
-    let b = c .before .before .before in
-    holders-end rep (b .before .before .args .n) (b .before .before .args .m) e d (b .loop .j) (c .before .before .loop-test .left) (b .loop .listing) (b .loop .older) (c .rows-held .result) (b .loop .inv .1 st rep e d lent) (c .rows-held .ensures)
+    let test = c .before .before in
+    let last = test .before .loop in
+    let a = test .before .before .before .args in
+    holders-end rep (a .n) (a .m) e d (last .j) (test .loop-test .left) (last .listing) (last .older) (c .rows-held .result)
+    (last .inv .1 st rep e d lent) (c .rows-held .ensures)
 
 pub holders-sound-spec : {M : Type 1} → statement M
 holders-sound-spec =

@@ -73,13 +73,18 @@ slot-among-requires-4 : tie.Need-slot-among-requires-4
 slot-among-requires-4 c κs = search needs
 
 returns : tie.Need-returns
-returns c = let a = c .before .before .before .before .before .before .before .before .before .args in
-    let first = c .before .before .before .before .before .before .slot-among .ensures in
-    let second = c .before .before .before .before .slot-among2 .ensures in
-    let third = c .before .before .slot-among3 .ensures in
+returns c = let at-three = c .before .before in
+    let at-two = at-three .before .before in
+    let at-one = at-two .before .before in
+    let a = at-one .before .before .before .args in
+    let first = at-one .slot-among .ensures in
+    let second = at-two .slot-among2 .ensures in
+    let third = at-three .slot-among3 .ensures in
     let fourth = c .slot-among4 .ensures in (
       within-four (first .0) (second .0) (third .0) (fourth .0),
-      (λ st rep e. (λ i. first .1 st rep e i ∷ second .1 st rep e i ∷ third .1 st rep e i ∷ fourth .1 st rep e i ∷ []) ∙ ap (map (rowSlot (st .rows))) (items-words (now (a .t)) (a .j))),
+      (λ st rep e.
+          (λ i. first .1 st rep e i ∷ second .1 st rep e i ∷ third .1 st rep e i ∷ fourth .1 st rep e i ∷ [])
+          ∙ ap (map (rowSlot (st .rows))) (items-words (now (a .t)) (a .j))),
     )
 
 pub item-slots-spec : {M : Type 1} → statement M

@@ -7,10 +7,9 @@ use mathlib.Core.Bool.{not, _||_}
 use mathlib.Core.Path.{ap, _∙_}
 use denote.Ref.{now}
 use lib.Dec.{eqb}
-use Rattle.soundness_loans.specs.contracts.Clauses.{codeAt, listingCode, listAll}
+use Rattle.soundness_loans.specs.contracts.Clauses.{listingCode, listAll, anyListed}
 use Rattle.rows.specs.Layout.{requestAt}
 use Rattle.rows.specs.Sound.{isFetched}
-use Rattle.rows.specs.Lists.{any, some}
 use Rattle.soundness_loans.proofs.RequestClauses.{fetched-word}
 use Rattle.soundness_loans.proofs.holder_clauses.listed_once.Statement.{statement}
 use Rattle.soundness_loans.proofs.holder_clauses.listed_once.Tie as tie
@@ -34,17 +33,21 @@ code-of-requires : tie.Need-code-of-requires
 code-of-requires c κs = search needs
 
 mark-listing-requires : tie.Need-mark-listing-requires
-mark-listing-requires c κs = λ k. omega (arith, c .before .before .before .before .before .item-slots .ensures .0 k, c .before .before .before .before .before .before .before .pre .1)
+mark-listing-requires c κs = let read = c .before .before .before in
+    let slots = read .before .before in
+    λ k. omega (arith, slots .item-slots .ensures .0 k, slots .before .before .pre .1)
 
 returns : tie.Need-returns
 unfolding isFetched
-returns c = let s = c .before .before .before .before .before .before .before .before in
+returns c = let asked = c .before .before .before in
+    let read = asked .before .before .before in
+    let s = read .before .before in
     let t = now (s .args .t) in
     let l = now (s .args .listing) in
-    let slots = c .before .before .before .before .before .before .item-slots in
+    let slots = read .item-slots in
     let fetched = fetched-word t (s .args .j) in (
       (λ st rep e.
-          let newer = c .before .before .before .any-listed .ensures ∙ ap (any (λ x. some (codeAt l x))) (slots .ensures .1 st rep e) in λ i. eqb (fetched i) 1 || not (newer i)),
+          let newer = asked .any-listed .ensures ∙ ap (anyListed l) (slots .ensures .1 st rep e) in λ i. eqb (fetched i) 1 || not (newer i)),
       (λ st rep e.
           c .mark-listing .ensures
           ∙ ap (λ (k : ℕ). listAll k (slots .result) l) (c .before .before .code-of .ensures ∙ ap (λ (f : ℕ). listingCode (eqb f 1)) fetched)

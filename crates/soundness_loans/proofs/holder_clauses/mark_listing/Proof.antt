@@ -26,19 +26,22 @@ array-read-list-at-3 : tie.Need-array-read-list-at-3
 array-read-list-at-3 c = search needs
 
 list-at-requires-3 : tie.Need-list-at-requires-3
-list-at-requires-3 c κs = c .before .before .before .before .before .pre 2
+list-at-requires-3 c κs = let second = c .before .before in second .before .before .before .pre 2
 
 array-read-list-at-4 : tie.Need-array-read-list-at-4
 array-read-list-at-4 c = search needs
 
 list-at-requires-4 : tie.Need-list-at-requires-4
-list-at-requires-4 c κs = c .before .before .before .before .before .before .before .pre 3
+list-at-requires-4 c κs = let second = c .before .before .before .before in second .before .before .before .pre 3
 
 returns : tie.Need-returns
-returns c = let s = c .before .before .before .before .before .before .before .before in
-    let g : ℕ → List ℕ → List ℕ = λ k l. listAt (s .args .code) (getD (s .args .t2) k 0) l in
+returns c = let third = c .before .before in
+    let second = third .before .before in
+    let first = second .before .before in
+    let s = first .before .before in
+    let listed : ℕ → List ℕ → List ℕ = λ k l. listAt (s .args .code) (getD (s .args .t2) k 0) l in
     c .list-at4 .ensures
-    ∙ ap (g 3) (c .before .before .list-at3 .ensures ∙ ap (g 2) (c .before .before .before .before .list-at2 .ensures ∙ ap (g 1) (c .before .before .before .before .before .before .list-at .ensures)))
+    ∙ ap (listed 3) (third .list-at3 .ensures ∙ ap (listed 2) (second .list-at2 .ensures ∙ ap (listed 1) (first .list-at .ensures)))
     ∙ list-four (s .args .code) (s .args .t2) (now (s .args .listing)) (s .good .1 .0 .1 .0 .1)
 
 pub mark-listing-spec : {M : Type 1} → statement M

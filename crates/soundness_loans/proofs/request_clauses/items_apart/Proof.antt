@@ -71,10 +71,12 @@ item-apart-requires-3 : tie.Need-item-apart-requires-3
 item-apart-requires-3 c κs = search needs
 
 returns : tie.Need-returns
-returns c = let s = c .before .before .before .before .before .before .before .before in
-    let t = now (s .args .t) in
-    let j = s .args .j in
-    rw (c .before .before .item-apart .ensures, c .before .item-apart2 .ensures, c .item-apart3 .ensures)
+returns c = let first = c .before .before in
+    let read = first .before .before .before in
+    let a = read .before .before .before .args in
+    let t = now (a .t) in
+    let j = a .j in
+    rw (first .item-apart .ensures, c .before .item-apart2 .ensures, c .item-apart3 .ensures)
     (items-apart (getD t (10752 + j) 0) (getD t (10880 + j) 0) (getD t (11008 + j) 0) (getD t (11136 + j) 0) ∙ ap (λ (l : List ℕ). distinct (nonzero l)) (items-words t j))
 
 pub items-apart-spec : {M : Type 1} → statement M

@@ -88,14 +88,21 @@ may-be-listed-requires-4 c κs = search needs
 
 returns : tie.Need-returns
 returns c = λ st rep e.
-    let b = c .before .before .before .before .before .before in
-    let t = now (b .before .before .before .before .args .t) in
-    let j = b .before .before .before .before .args .j in
+    let at-three = c .before .before in
+    let at-two = at-three .before .before in
+    let at-one = at-two .before .before in
+    let a = at-one .before .before .before .before .args in
+    let t = now (a .t) in
+    let j = a .j in
     let v = requestAt t j in
     let P : ℕ → Bool = λ x. mayBeListed v (rowOf (st .rows) x) in
     let q = sym (number-word t j) in
-    rw (b .may-be-listed .ensures st v rep e q, c .before .before .before .before .may-be-listed2 .ensures st v rep e q, c .before .before .may-be-listed3 .ensures st v rep e q, c .may-be-listed4 .ensures st v rep e q)
-    (items-all P (getD t (10752 + j) 0) (getD t (10880 + j) 0) (getD t (11008 + j) 0) (getD t (11136 + j) 0) ∙ ap (λ (l : List ℕ). all P (nonzero l)) (items-words t j))
+    let first = at-one .may-be-listed .ensures st v rep e q in
+    let second = at-two .may-be-listed2 .ensures st v rep e q in
+    let third = at-three .may-be-listed3 .ensures st v rep e q in
+    rw (first, second, third, c .may-be-listed4 .ensures st v rep e q)
+    (items-all P (getD t (10752 + j) 0) (getD t (10880 + j) 0) (getD t (11008 + j) 0) (getD t (11136 + j) 0)
+    ∙ ap (λ (l : List ℕ). all P (nonzero l)) (items-words t j))
 
 pub items-lent-spec : {M : Type 1} → statement M
 items-lent-spec =

@@ -28,7 +28,7 @@ standing-port-requires : tie.Need-standing-port-requires Inv-loop μ-loop
 standing-port-requires c κs = search needs
 
 claim-requires : tie.Need-claim-requires Inv-loop μ-loop
-claim-requires c κs = let s = c .before .before .before .before .before in omega (arith, c .before .standing-port .ensures .0, s .pre .1)
+claim-requires c κs = let turn = c .before .before .before in omega (arith, c .before .standing-port .ensures .0, turn .before .before .pre .1)
 
 add-j : tie.Need-add-j Inv-loop μ-loop
 add-j c = search needs
@@ -38,12 +38,14 @@ loop-less c = search needs
 
 loop-again : tie.Need-loop-again Inv-loop μ-loop
 loop-again c = let b = c .before .before .before .before in
+    let turn = b .loop in
     let s = b .before .before in
-    let p = c .before .before .standing-port in (
+    let p = c .before .before .standing-port in
+    let claim = c .claim in (
       search needs,
       (λ st rep e.
-          ports-next rep (now (s .args .t)) (b .loop .j) (b .loop .marks) (c .claim .last .0) (b .loop .right) (c .claim .result) (p .result) (p .ensures .1 st rep e) (omega (arith, p .ensures .0, s .pre .1))
-          (c .claim .ensures .0) (c .claim .ensures .1) (b .loop .inv .1 st rep e)),
+          ports-next rep (now (s .args .t)) (turn .j) (turn .marks) (claim .last .0) (turn .right) (claim .result) (p .result) (p .ensures .1 st rep e)
+          (omega (arith, p .ensures .0, s .pre .1)) (claim .ensures .0) (claim .ensures .1) (turn .inv .1 st rep e)),
     )
 
 returns : tie.Need-returns Inv-loop μ-loop

@@ -22,21 +22,26 @@ enum-told : tie.Need-enum-told
 enum-told c = search needs
 
 returns-2 : tie.Need-returns-2
-returns-2 c = let f = c .before .before .row-among in
-    let x = c .before .before .before .before .before .args .x in
+returns-2 c = let searched = c .before .before in
+    let f = searched .row-among in
+    let x = searched .before .before .before .args .x in
     (search needs, (λ st rep e. sym (found-nothing (rowSlot (st .rows) x) (f .ensures .1 st rep e) (c .enum-told .given .1))))
 
 add-result : tie.Need-add-result
-add-result c = let f = c .before .before .before .row-among in
-    let s = c .before .before .before .before .before .before in
-    omega (arith, at-below (s .args .n) (f .result) (c .before .i .given .0 .0) (f .ensures .0) (c .before .i .given .1), s .pre .1)
+add-result c = let found = c .before .i .given in
+    let searched = c .before .before .before in
+    let f = searched .row-among in
+    let s = searched .before .before .before in
+    omega (arith, at-below (s .args .n) (f .result) (found .0 .0) (f .ensures .0) (found .1), s .pre .1)
 
 returns-3 : tie.Need-returns-3
-returns-3 c = let f = c .before .before .before .row-among in
-    let s = c .before .before .before .before .before .before in
-    let i = c .before .i .given .0 .0 in (
-      omega (arith, at-below (s .args .n) (f .result) i (f .ensures .0) (c .before .i .given .1)),
-      (λ st rep e. add-one i ∙ sym (found-at (rowSlot (st .rows) (s .args .x)) i (f .ensures .1 st rep e) (c .before .i .given .1))),
+returns-3 c = let found = c .before .i .given in
+    let searched = c .before .before .before in
+    let f = searched .row-among in
+    let a = searched .before .before .before .args in
+    let i = found .0 .0 in (
+      omega (arith, at-below (a .n) (f .result) i (f .ensures .0) (found .1)),
+      (λ st rep e. add-one i ∙ sym (found-at (rowSlot (st .rows) (a .x)) i (f .ensures .1 st rep e) (found .1))),
     )
 
 pub slot-among-spec : {M : Type 1} → statement M

@@ -40,7 +40,8 @@ newer-than-port-requires : tie.Need-newer-than-port-requires
 newer-than-port-requires c κs = search needs
 
 returns : tie.Need-returns
-returns c = let b = c .before .before .before in
+returns c = let kind = c .before .before .word-at in
+    let b = c .before .before .before in
     let a = b .before .before .before .before .args in
     let t = now (a .t) in
     let v = requestAt t (a .j) in
@@ -49,13 +50,15 @@ returns c = let b = c .before .before .before in
       b .slot-among .ensures .0,
       (λ st rep e.
           let slot = b .slot-among .ensures .1 st rep e in
-          let kind = c .before .before .word-at .ensures ∙ ap (wordAt t 1024) slot ∙ kind-word rep port in
-          let same = ap (λ (x : Bool). eqb (c .before .before .word-at .result) 3 && x) (c .before .newer-than-port .ensures) ∙ stands rep v port q (c .before .before .word-at .result) (port-word t (a .j)) (number-word t (a .j)) kind in
+          let right = kind .ensures ∙ ap (wordAt t 1024) slot ∙ kind-word rep port in
+          let newer = ap (λ (x : Bool). eqb (kind .result) 3 && x) (c .before .newer-than-port .ensures) in
+          let same = newer ∙ stands rep v port q (kind .result) (port-word t (a .j)) (number-word t (a .j)) right in
           standing-yes (st .rows) v (b .slot-among .result) (sym same ∙ c .if1 .taken) (slot ∙ ap (rowSlot (st .rows)) (port-word t (a .j)))),
     )
 
 returns-2 : tie.Need-returns-2
-returns-2 c = let b = c .before .before .before in
+returns-2 c = let kind = c .before .before .word-at in
+    let b = c .before .before .before in
     let a = b .before .before .before .before .args in
     let t = now (a .t) in
     let v = requestAt t (a .j) in
@@ -64,8 +67,9 @@ returns-2 c = let b = c .before .before .before in
       search needs,
       (λ st rep e.
           let slot = b .slot-among .ensures .1 st rep e in
-          let kind = c .before .before .word-at .ensures ∙ ap (wordAt t 1024) slot ∙ kind-word rep port in
-          let same = ap (λ (x : Bool). eqb (c .before .before .word-at .result) 3 && x) (c .before .newer-than-port .ensures) ∙ stands rep v port q (c .before .before .word-at .result) (port-word t (a .j)) (number-word t (a .j)) kind in
+          let right = kind .ensures ∙ ap (wordAt t 1024) slot ∙ kind-word rep port in
+          let newer = ap (λ (x : Bool). eqb (kind .result) 3 && x) (c .before .newer-than-port .ensures) in
+          let same = newer ∙ stands rep v port q (kind .result) (port-word t (a .j)) (number-word t (a .j)) right in
           standing-no (st .rows) v (sym same ∙ c .if1 .left)),
     )
 

@@ -15,8 +15,12 @@ returns : tie.Need-returns
 unfolding copyMatches
 returns c =
     λ y rs h.
-    rw (c .before .before .before .before .before .before .before .before .is-end .ensures, c .before .before .before .before .before .before .before .within .ensures)
-    (rw (h .source-none, h .own .kind, h .own .object, h .own .operation, h .own .rights, h .source .kind, h .source .object, h .source .operation, h .source .rights) refl)
+    let kind = c .before .before .before in
+    let rights = kind .before .before .before .before in
+    let x = h .own in
+    let s = h .source in
+    rw (rights .before .is-end .ensures, rights .within .ensures)
+    (rw (h .source-none, x .kind, x .object, x .operation, x .rights, s .kind, s .object, s .operation, s .rights) refl)
 
 pub copy-matches-spec : {M : Type 1} → statement M
 copy-matches-spec = tie.close (tie.spec is-end-requires within-requires returns)

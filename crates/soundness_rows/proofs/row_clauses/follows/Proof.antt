@@ -1,7 +1,6 @@
 -- `row_clauses::follows` meets its contract: the sum has room, so it is the next number.
 use borrow.Author.Needs.{needs}
 use mathlib.Core.Path.{ap}
-use mathlib.Core.Bool.{Bool}
 use Prim.Native.Nat.{ℕ}
 use lib.Dec.{eqb}
 use native.Mathlib.Numerals.{add-one}

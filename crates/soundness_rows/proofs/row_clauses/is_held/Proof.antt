@@ -19,7 +19,9 @@ returns : tie.Need-returns
 unfolding isHeld isSubdirectory subdirectory
 returns c =
     λ y rs h.
-    rw (c .before .before .before .before .before .is-clist .ensures, c .before .before .before .before .is-copied .ensures, c .before .before .before .is-node .ensures)
+    let from = c .before .before .before in
+    let copied = from .before in
+    rw (copied .before .is-clist .ensures, copied .is-copied .ensures, from .is-node .ensures)
     (rw (h .own .place, h .own .kind, h .source .place, h .via-none, h .via .kind, h .own .request) refl)
 
 pub is-held-spec : {M : Type 1} → statement M

@@ -20,7 +20,9 @@ returns : tie.Need-returns
 unfolding isLentCopy isClient clientEnd some
 returns c =
     λ y rs vs h e.
-    rw (c .before .before .before .before .before .is-node .ensures, c .before .before .before .before .is-copied .ensures, c .before .before .before .is-copied2 .ensures)
+    let from = c .before .before .before in
+    let copied = from .before in
+    rw (copied .before .is-node .ensures, copied .is-copied .ensures, from .is-copied2 .ensures)
     (rw (e, h .own .place, h .own .kind, h .source .kind, h .via .kind, h .via-number, h .own .request) refl)
 
 pub is-lent-copy-spec : {M : Type 1} → statement M

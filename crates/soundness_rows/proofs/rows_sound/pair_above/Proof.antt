@@ -22,8 +22,11 @@ is-paired-with-requires c κs = search needs
 returns-2 : tie.Need-returns-2
 returns-2 c =
     λ st rep long at.
-    let a = c .before .before .before .before .before .args in
-    rw (c .before .follows .ensures, c .is-paired-with .ensures) (above-next rep (a .i) (a .n) long (c .before .before .before .if1 .left) (a .x) (c .before .before .row-at .result) at (c .before .before .row-at .ensures))
+    let read = c .before .before in
+    let next = read .before in
+    let a = next .before .before .args in
+    let z = read .row-at in
+    rw (c .before .follows .ensures, c .is-paired-with .ensures) (above-next rep (a .i) (a .n) long (next .if1 .left) (a .x) (z .result) at (z .ensures))
 
 pub pair-above-spec : {M : Type 1} → statement M
 pair-above-spec =

@@ -22,8 +22,11 @@ is-paired-with-requires c κs = search needs
 returns-2 : tie.Need-returns-2
 returns-2 c =
     λ st rep at.
-    let a = c .before .before .before .before .before .args in
-    rw (c .before .follows .ensures, c .is-paired-with .ensures) (below-next rep (a .i) (c .before .before .before .if1 .left) (a .x) (c .before .before .row-at .result) at (c .before .before .row-at .ensures))
+    let read = c .before .before in
+    let before = read .before in
+    let a = before .before .before .args in
+    let z = read .row-at in
+    rw (c .before .follows .ensures, c .is-paired-with .ensures) (below-next rep (a .i) (before .if1 .left) (a .x) (z .result) at (z .ensures))
 
 pub pair-below-spec : {M : Type 1} → statement M
 pair-below-spec =

@@ -9,7 +9,7 @@ use Rattle.rows.specs.Tables.{State}
 use Rattle.rows.specs.Layout.{recordsIn}
 use Rattle.rows.specs.contracts.Represents.{Represents}
 use Rattle.soundness_rows.specs.contracts.AtSlot.{AtSlot}
-use Rattle.soundness_rows.specs.contracts.Seen.{rowSound}
+use Rattle.soundness_rows.specs.contracts.Clauses.{rowSound}
 use Rattle.rows.proofs.Bools.{not-t, not-f}
 use Rattle.soundness_rows.proofs.SlotLoops.{Passed, passed-none, passed-more, passed-all, failed-at}
 use Rattle.soundness_rows.proofs.RowsSound.{rows-joined}
@@ -19,7 +19,8 @@ use Rattle.soundness_rows.proofs.rows_sound.rows_sound.Tie as tie
 abbrev Inv-loop : tie.InvT-loop
 Inv-loop t p n m i₀ i =
     (i ≤ n)
-    × ((st : State) → Represents t st → st .processes ≡ recordsIn p → n ≡ length (st .rows) → m ≡ length (st .requests) → Passed (rowSound st) (st .rows) i)
+    × ((st : State) → Represents t st → st .processes ≡ recordsIn p → n ≡ length (st .rows) → m ≡ length (st .requests)
+    → Passed (rowSound st) (st .rows) i)
 
 abbrev μ-loop : tie.MeasureT-loop
 μ-loop t p n m i₀ i = n - i
@@ -32,7 +33,7 @@ row-sound-requires c κs =
     let pre = c .before .before .before .before .pre in
     let i = c .before .loop .i in
     let h = c .loop-test .taken in
-    (pre .0 .0, pre .0 .1, omega arith, pre .0 .2, pre .0 .3, pre .1 .0 i h, pre .1 .1 i h)
+    ((pre .0 .0, pre .0 .1, omega arith, pre .0 .2, pre .0 .3), pre .1 i h)
 
 returns : tie.Need-returns Inv-loop μ-loop
 returns c =
@@ -51,11 +52,12 @@ loop-less c = search needs
 
 loop-again : tie.Need-loop-again Inv-loop μ-loop
 loop-again c =
-    let i = c .before .before .before .loop .i in
+    let turn = c .before .before .before .loop in
     let r = c .before .row-sound in (
       omega arith,
       (λ st rep ps n m.
-          passed-more (c .before .before .before .loop .inv .1 st rep ps n m) (subst (λ (b : Bool). AtSlot (rowSound st) (st .rows) i b) (not-f (r .result) (c .if1 .left)) (r .ensures st rep ps n m))),
+          passed-more (turn .inv .1 st rep ps n m)
+          (subst (λ (b : Bool). AtSlot (rowSound st) (st .rows) (turn .i) b) (not-f (r .result) (c .if1 .left)) (r .ensures st rep ps n m))),
     )
 
 returns-2 : tie.Need-returns-2 Inv-loop μ-loop

@@ -22,10 +22,14 @@ copy-listed-requires c κs = search needs
 returns : tie.Need-returns
 returns c =
     λ st i rep long at.
-    let s = c .before .before .before .before .source-row in
-    let v = c .before .before .before .source-row2 in
-    let l = c .before .before .loan-of in
-    sources-joined rep i (c .before .before .before .before .before .before .args .x) at (s .result) (v .result) (l .result .port) (l .result .listed) (s .ensures) (v .ensures) (l .ensures st rep long) (c .before .by-sources .ensures) (c .copy-listed .ensures)
+    let lent = c .before .before in
+    let second = lent .before in
+    let first = second .before in
+    let s = first .source-row in
+    let v = second .source-row2 in
+    let l = lent .loan-of in
+    sources-joined rep i (first .before .before .args .x) at (s .result) (v .result) (l .result .port) (l .result .listed) (s .ensures) (v .ensures)
+    (l .ensures .0 st rep long) (l .ensures .1 st rep long) (c .before .by-sources .ensures) (c .copy-listed .ensures)
 
 pub sources-sound-spec : {M : Type 1} → statement M
 sources-sound-spec =
