@@ -20,8 +20,9 @@ same-length c = search needs
 
 returns : tie.Need-returns
 returns c =
-    let called = c .before .before .items-back in
-    let closing = c .before .before .before .before .before in
+    let back = c .before .before in
+    let called = back .items-back in
+    let closing = back .before .before .before in
     let read = closing .before .request-at in
     let a = closing .before .before .before .before .args in (
       (λ st g f new v old sd count here closes gone done.
@@ -35,8 +36,9 @@ same-length-2 c = search needs
 
 returns-2 : tie.Need-returns-2
 returns-2 c =
-    let called = c .before .before .items-out in
-    let stays = c .before .before .before .before .before in
+    let out = c .before .before in
+    let called = out .items-out in
+    let stays = out .before .before .before in
     let read = stays .before .request-at in
     let a = stays .before .before .before .before .args in (
       (λ st g f new v old sd count here closes gone done.
