@@ -20,7 +20,7 @@ use Rattle.rows.specs.Sound.{sound, recordsFit, requestersListed, mayBeListed, 
 use Rattle.rows.specs.Layout.{requestAt}
 use Rattle.rows.specs.contracts.Sizes.{ROWS, REQUESTS, PROCESSES}
 use Rattle.rows.specs.contracts.Represents.{Represents}
-use Rattle.rows.specs.Setters.{withRows, withRequests, withPlace, withItems}
+use Rattle.rows.specs.Setters.{withRequests, withPlace, withItems}
 use Rattle.rows.proofs.Bools.{clash, and-l, and-r, pos-some, all-mono, any-append}
 use Rattle.rows.proofs.Keyed.{first-there, keys-map, rises-rest, rises-first}
 use Rattle.tables.proofs.Sound.{Sound, sound-open}

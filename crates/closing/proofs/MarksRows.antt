@@ -45,12 +45,19 @@ mark-within ms zero h = absurd (h refl)
 mark-within ms (suc i) h = let same : suc i - 1 ≡ i = omega arith in ap (λ (j : ℕ). getD ms j false) same
 
 -- ---- seeds, by the words of a slot
+-- where the kinds and the objects start
+abbrev KIND : ℕ
+KIND = ROWS
+
+abbrev pub OBJECT : ℕ
+OBJECT = KIND + ROWS
+
 module _ (t : List ℕ) (i : ℕ) (s : Seed) where
   pub seed-bearing : (q : ℕ) → s ≡ Bearing q → eqb (getD t (REQUEST + i) 0) q ≡ seedOf s (rawRow t i)
   unfolding seedOf rawRow rowField rowSlots bears
   seed-bearing q e = rw e refl
 
-  pub seed-end : (c : ℕ) → s ≡ EndsOf c → isEnd (getD t (1024 + i) 0) && eqb (getD t (2048 + i) 0) c ≡ seedOf s (rawRow t i)
+  pub seed-end : (c : ℕ) → s ≡ EndsOf c → isEnd (getD t (KIND + i) 0) && eqb (getD t (OBJECT + i) 0) c ≡ seedOf s (rawRow t i)
   unfolding seedOf rawRow rowField rowSlots isEndOf
   seed-end c e = rw e refl
 

@@ -1,4 +1,4 @@
--- Lists and places as the pass over the requests, from the oldest on, leaves them: before the marked rows and requests are removed.
+-- Lists and places as the pass over the requests, from the oldest on, leaves them, before what is marked is removed; and what the functions of the pass say.
 use Prim.Native.Nat.{ℕ, _≤_}
 use mathlib.Core.Bool.{Bool, true, false, not, _&&_, _||_}
 use mathlib.Core.List.{List, [], _∷_, _++_, map}

@@ -6,7 +6,7 @@ use Prim.Native.Nat.{_+_}
 use denote.Ref.{now}
 use lib.Dec.{eqb}
 use lib.ListN.{getD}
-use Rattle.closing.proofs.MarksRows.{seed-bearing, seed-end, seed-row}
+use Rattle.closing.proofs.MarksRows.{OBJECT, seed-bearing, seed-end, seed-row}
 use Rattle.closing.proofs.marks.is_seed.Statement.{statement}
 use Rattle.closing.proofs.marks.is_seed.Tie as tie
 
@@ -69,7 +69,7 @@ returns-2 c =
     let ends = c .before .before .before .before in
     let a = ends .before .before .before .args in
     let port = ends .s2 .given .0 .0 in
-    ap (λ (b : Bool). b && eqb (getD (now (a .t)) (2048 + a .i) 0) port) (c .before .is-end .ensures)
+    ap (λ (b : Bool). b && eqb (getD (now (a .t)) (OBJECT + a .i) 0) port) (c .before .is-end .ensures)
     ∙ seed-end (now (a .t)) (a .i) (a .s) port (ends .s2 .given .1)
 
 returns-3 : tie.Need-returns-3
