@@ -1,4 +1,4 @@
-// Closing in place: of a request, of a port, and the drop of one row.
+// The three closings over the lent words: of a request, of a port, and the drop of one row.
 use crate::Seed;
 use crate::homes::home_all;
 use crate::lists::settle_lists;

@@ -34,7 +34,8 @@ fn lists_item(t: &[u32], j: usize, e: u32) -> bool
         | (e == t[Q_ITEMS + 3 * REQUESTS + j])
 }
 
-// Whether an open request lists e. Every list is looked at, with no way out early: the loop runs over many words at once.
+// Whether an open request lists e.
+// Every list is looked at, with no way out early, so that the loop runs over many words at once.
 // Ruled out: no, where the last item of the newest request is e; yes, where e is only a request's port.
 pub fn on_loan(t: &[u32], e: u32) -> bool
     requires { ⌜ IsTables (now t) ⌝ }
@@ -50,7 +51,8 @@ pub fn on_loan(t: &[u32], e: u32) -> bool
     found
 }
 
-// What a question asks of the row in slot i itself: for a request q whether it bears q, for 0 whether it is itself lent.
+// What a question asks of the row in slot i itself:
+// for a request q whether it bears q, for 0 whether it is lent itself.
 fn touched(t: &[u32], i: usize, q: u32) -> bool
     requires { ⌜ IsTables (now t) × (i < ROWS) ⌝ }
     ensures { λ r. ⌜ Touched (now (t .entry)) i q r ⌝ }
