@@ -3,11 +3,11 @@ use Prim.Native.Nat.{ℕ}
 use mathlib.Core.Bool.{Bool, true, false, not, _||_}
 use mathlib.Core.List.{List, [], _∷_}
 use mathlib.Core.Path.{_≡_, refl, sym, ap, _∙_}
-use lib.ListN.{length}
 use Rattle.rows.specs.declared.Row.{Row}
 use Rattle.rows.specs.declared.Request.{Request}
 use Rattle.rows.specs.Lists.{filter, any, all, firstWith, rises, pad, member}
 use Rattle.rows.specs.Tables.{State, noRow, rowOf, numbers, sources, marked}
+use Rattle.rows.specs.contracts.Sizes.{ROWS, REQUESTS}
 use Rattle.rows.specs.contracts.Represents.{sourcesOlder, Represents}
 use Rattle.rows.specs.Setters.{withRows, withRequests}
 use Rattle.rows.proofs.Bools.{and-i, or-l, or-r}
@@ -15,8 +15,9 @@ use Rattle.rows.proofs.Keyed.{first-key}
 use Rattle.rows.proofs.Agree.{Agree, agree-found}
 use Rattle.rows.proofs.RepresentedWords.{represented-well}
 use Rattle.tables.proofs.Marking.{marked-closed}
-use Rattle.changes.specs.contracts.Marks.{tested, marksOf, closedUnder}
+use Rattle.changes.specs.contracts.Marks.{closedUnder}
 use Rattle.closing.specs.Closing.{settled}
+use Rattle.closing.specs.contracts.Marks.{RowCount, RowsMarked, RequestsMarked}
 use Rattle.closing.specs.contracts.Lists.{listsSettled}
 use Rattle.closing.proofs.ListsSettled.{Blind, lists-rows, lists-marks, lists-closed, lists-tested, lists-settled}
 
@@ -25,14 +26,16 @@ unfolding all
 all-agree f [] a = refl
 all-agree f (x ∷ xs) a = and-i (f x) (all f xs) (a .0) (all-agree f xs (a .1))
 
-marked-under : (f : Row → Bool) (rs : List Row) → rises (λ r. r .number) rs ≡ true → sourcesOlder rs ≡ true → closedUnder (marked f rs) rs ≡ true
+marked-under : (f : Row → Bool) (rs : List Row) → rises (λ r. r .number) rs ≡ true → sourcesOlder rs ≡ true
+    → closedUnder (marked f rs) rs ≡ true
 unfolding closedUnder rowOf numbers
 marked-under f rs up old =
     all-agree spared rs
     (agree-found (λ r. r .number) noRow spared (λ r. true) rs up
     (λ n t.
     let x = firstWith (λ r. r .number) noRow rs n in
-    pick x (f x) (any (λ s. member s (marked f rs)) (sources x)) refl (ap (λ (k : ℕ). member k (marked f rs)) (first-key (λ r. r .number) noRow rs n t) ∙ marked-closed f rs up old n t)))
+    pick x (f x) (any (λ s. member s (marked f rs)) (sources x)) refl
+    (ap (λ (k : ℕ). member k (marked f rs)) (first-key (λ r. r .number) noRow rs n t) ∙ marked-closed f rs up old n t)))
   where
     spared : Row → Bool
     spared r = member (r .number) (marked f rs) || not (any (λ s. member s (marked f rs)) (sources r))
@@ -48,15 +51,17 @@ represented-closed f st t rep = marked-under f (st .rows) (represented-well rep 
 
 -- what the two functions of removal leave of any state that the words represent
 module _ (n : ℕ) (removed closed : List Bool) (t u v : List ℕ)
-    (rows-out : (st : State) (g : List ℕ) → Represents t st → n ≡ length (st .rows) → removed ≡ pad false 1024 (marksOf g (st .rows)) → closedUnder g (st .rows) ≡ true → Represents u (withRows (filter (λ r. not (member (r .number) g)) (st .rows)) st))
-    (requests-out : (st : State) (f : Request → Bool) → Represents u st → closed ≡ pad false 128 (tested f (st .requests)) → Represents v (withRequests (filter (λ w. not (f w)) (st .requests)) st))
+    (rows-out : (st : State) (g : List ℕ) → Represents t st → RowCount n st → RowsMarked removed g st → closedUnder g (st .rows) ≡ true
+    → Represents u (withRows (filter (λ r. not (member (r .number) g)) (st .rows)) st))
+    (requests-out : (st : State) (f : Request → Bool) → Represents u st → RequestsMarked closed f st
+    → Represents v (withRequests (filter (λ w. not (f w)) (st .requests)) st))
   where
     -- of the state whose lists are settled
-    pub taken-out : (g : List ℕ) (f : Request → Bool) → Blind f → (st : State) → n ≡ length (st .rows) → removed ≡ pad false 1024 (marksOf g (st .rows)) → closed ≡ pad false 128 (tested f (st .requests))
+    pub taken-out : (g : List ℕ) (f : Request → Bool) → Blind f → (st : State) → RowCount n st → RowsMarked removed g st → RequestsMarked closed f st
         → closedUnder g (st .rows) ≡ true → Represents t (listsSettled g f st) → Represents v (settled g f st)
     taken-out g f blind st count gone ended under rep =
         let now = listsSettled g f st in
         lists-settled g f blind st v
         (requests-out (withRows (filter (λ r. not (member (r .number) g)) (now .rows)) now) f
-        (rows-out now g rep (count ∙ sym (lists-rows g f st)) (gone ∙ ap (pad false 1024) (sym (lists-marks g f st))) (lists-closed g f st ∙ under))
-        (ended ∙ ap (pad false 128) (sym (lists-tested g f blind st))))
+        (rows-out now g rep (count ∙ sym (lists-rows g f st)) (gone ∙ ap (pad false ROWS) (sym (lists-marks g f st))) (lists-closed g f st ∙ under))
+        (ended ∙ ap (pad false REQUESTS) (sym (lists-tested g f blind st))))

@@ -20,9 +20,7 @@ use Rattle.rows.proofs.Places.{copied-no-end}
 use Rattle.rows.proofs.RowSources.{Shape, opening, registered, held, port-end, lent-copy, shape}
 use Rattle.tables.proofs.Standing.{standing-shape}
 use Rattle.tables.proofs.SoundFacts.{row-number}
-
-abbrev pub Stands : State → ℕ → Type 0
-Stands st n = member n (numbers (st .rows)) ≡ true
+use Rattle.closing.specs.contracts.Marks.{Stands}
 
 abbrev pub IsOpen : State → ℕ → Type 0
 IsOpen st q = member q (map (λ v. v .number) (st .requests)) ≡ true
@@ -92,25 +90,31 @@ module _ (st : State) (s : Sound st) where
   copy-at n t k = copy-facts _ _ _ k (standing-shape st s n t)
 
   -- a copy is listed by the open request that it bears
-  pub copy-listed : (n : ℕ) → Stands st n → some (rowOf (st .rows) n .request) ≡ true → lists n (requestOf (st .requests) (rowOf (st .rows) n .request)) ≡ true
+  pub copy-listed : (n : ℕ) → Stands st n → some (rowOf (st .rows) n .request) ≡ true
+      → lists n (requestOf (st .requests) (rowOf (st .rows) n .request)) ≡ true
   unfolding copiesListed rowOf copyListed numbers
   copy-listed n t k = pick (all-first (λ r. r .number) noRow (copyListed (st .requests)) (st .rows) n (s .copies-listed) t)
     where
       r : Row
       r = rowOf (st .rows) n
 
-      pick : copyListed (st .requests) r ≡ true → lists n (requestOf (st .requests) (r .request)) ≡ true
+      v : Request
+      v = requestOf (st .requests) (r .request)
+
+      pick : copyListed (st .requests) r ≡ true → lists n v ≡ true
       pick e =
           ⊎-elim (λ z. clash k (zero-none (r .request) z))
-          (λ w. ap (λ m. lists m (requestOf (st .requests) (r .request))) (sym (row-number (st .rows) n t)) ∙ and-r (ltb (r .request) (r .number)) (lists (r .number) (requestOf (st .requests) (r .request))) w)
-          (or-cases (eqb (r .request) 0) (ltb (r .request) (r .number) && lists (r .number) (requestOf (st .requests) (r .request))) e)
+          (λ w. ap (λ m. lists m v) (sym (row-number (st .rows) n t)) ∙ and-r (ltb (r .request) (r .number)) (lists (r .number) v) w)
+          (or-cases (eqb (r .request) 0) (ltb (r .request) (r .number) && lists (r .number) v) e)
 
   -- what a request lists may be listed there
-  pub listed-right : (q : ℕ) → IsOpen st q → (e : ℕ) → lists e (requestOf (st .requests) q) ≡ true → mayBeListed (requestOf (st .requests) q) (rowOf (st .rows) e) ≡ true
+  pub listed-right : (q : ℕ) → IsOpen st q → (e : ℕ) → lists e (requestOf (st .requests) q) ≡ true
+      → mayBeListed (requestOf (st .requests) q) (rowOf (st .rows) e) ≡ true
   unfolding itemsLent requestOf lists
   listed-right q t e l =
       all-at (λ e. mayBeListed v (rowOf (st .rows) e)) (nonzero (v .items))
-      (all-first (λ v. v .number) noRequest (λ v. all (λ e. mayBeListed v (rowOf (st .rows) e)) (nonzero (v .items))) (st .requests) q (s .items-lent) t) e (member-nonzero (v .items) e ∙ l)
+      (all-first (λ v. v .number) noRequest (λ v. all (λ e. mayBeListed v (rowOf (st .rows) e)) (nonzero (v .items))) (st .requests) q (s .items-lent) t)
+      e (member-nonzero (v .items) e ∙ l)
     where
       v : Request
       v = requestOf (st .requests) q

@@ -20,6 +20,7 @@ use Rattle.rows.proofs.Bools.{clash, and-l, and-r, or-cases, zero-none}
 use Rattle.rows.proofs.RowSources.{subdirectory-there}
 use Rattle.tables.proofs.Sound.{sound-open}
 use Rattle.closing.specs.Closing.{homed}
+use Rattle.closing.specs.contracts.Marks.{Stands}
 use Rattle.closing.proofs.Processes.{homed-at}
 
 -- ---- one record
@@ -29,16 +30,20 @@ module _ (g : List ℕ) (x : Process) where
   homed-none z = ap (λ n. cond (some n && member n g) (record { prime = x .prime; active = x .prime; through = 0 }) x) (sym z)
 
   -- b tells whether the row is removed
-  pub homed-told : (b : Bool) → some (x .through) ≡ true → member (x .through) g ≡ b → cond b (record { prime = x .prime; active = x .prime; through = 0 }) x ≡ homed g x
+  pub homed-told : (b : Bool) → some (x .through) ≡ true → member (x .through) g ≡ b
+      → cond b (record { prime = x .prime; active = x .prime; through = 0 }) x ≡ homed g x
   unfolding homed
   homed-told b sm e = rw (sm, e) refl
 
 -- ---- sound tables: the row through which a process stands in its node is there
-through-there : (rs : List Row) (p : ℕ) (x : Process) → processPlaced rs p x ≡ true → some (x .through) ≡ true → member (x .through) (numbers rs) ≡ true
+through-there : (rs : List Row) (p : ℕ) (x : Process) → processPlaced rs p x ≡ true
+    → some (x .through) ≡ true → member (x .through) (numbers rs) ≡ true
 unfolding processPlaced
 through-there rs p x e sm =
     ⊎-elim (λ u. clash sm (zero-none (x .through) (and-l (eqb (x .through) 0) (eqb (x .active) (x .prime)) u)))
-    (λ w. subdirectory-there rs (x .through) (and-l (isSubdirectory (r .kind)) (eqb (r .place) (inClist p) && eqb (r .object) (x .active)) (and-r (some (x .through)) inside w)))
+    (λ w.
+    subdirectory-there rs (x .through)
+    (and-l (isSubdirectory (r .kind)) (eqb (r .place) (inClist p) && eqb (r .object) (x .active)) (and-r (some (x .through)) inside w)))
     (or-cases (eqb (x .through) 0 && eqb (x .active) (x .prime)) (some (x .through) && inside) e)
   where
     r : Row
@@ -47,7 +52,8 @@ through-there rs p x e sm =
     inside : Bool
     inside = isSubdirectory (r .kind) && (eqb (r .place) (inClist p) && eqb (r .object) (x .active))
 
-placed-there : (rs : List Row) (p : ℕ) (ps : List Process) → placedFrom rs p ps ≡ true → (k : ℕ) → some (getD ps k noProcess .through) ≡ true → member (getD ps k noProcess .through) (numbers rs) ≡ true
+placed-there : (rs : List Row) (p : ℕ) (ps : List Process) → placedFrom rs p ps ≡ true → (k : ℕ)
+    → some (getD ps k noProcess .through) ≡ true → member (getD ps k noProcess .through) (numbers rs) ≡ true
 unfolding placedFrom noProcess some
 placed-there rs p [] e k sm = clash sm refl
 placed-there rs p (x ∷ ps) e zero sm = through-there rs p x (and-l (processPlaced rs p x) (placedFrom rs (suc p) ps) e) sm
@@ -65,14 +71,15 @@ module _ (g : List ℕ) (from : List Process) where
 
   -- the row through which the next process stands in its node is there
   pub homed-next : (st : State) → sound st ≡ true → st .processes ≡ from → (to : List Process) (i : ℕ) → HomedTo g from to i
-      → some (getD to i noProcess .through) ≡ true → member (getD to i noProcess .through) (numbers (st .rows)) ≡ true
+      → some (getD to i noProcess .through) ≡ true → Stands st (getD to i noProcess .through)
   unfolding processesPlaced
   homed-next st sd e to i so =
-      subst (λ (x : Process). some (x .through) ≡ true → member (x .through) (numbers (st .rows)) ≡ true)
+      subst (λ (x : Process). some (x .through) ≡ true → Stands st (x .through))
       (ap (λ (ps : List Process). getD ps i noProcess) e ∙ sym (so .left i (omega arith)))
       (placed-there (st .rows) 1 (st .processes) (sound-open st sd .processes-placed) i)
 
-  pub homed-turn : (to : List Process) (i : ℕ) (y : Process) → i < length to → y ≡ homed g (getD to i noProcess) → HomedTo g from to i → HomedTo g from (set to i y) (i + 1)
+  pub homed-turn : (to : List Process) (i : ℕ) (y : Process) → i < length to → y ≡ homed g (getD to i noProcess)
+      → HomedTo g from to i → HomedTo g from (set to i y) (i + 1)
   homed-turn to i y h e so =
       record {
         done = below-more (λ k. getD (set to i y) k noProcess ≡ homed g (getD from k noProcess)) i

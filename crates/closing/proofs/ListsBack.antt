@@ -17,6 +17,7 @@ use Rattle.rows.specs.Layout.{rowSlot}
 use Rattle.rows.specs.Setters.{withRows, withPlace}
 use Rattle.rows.proofs.Bools.{or-fl, or-fr, eqb-sym-f}
 use Rattle.rows.proofs.Slots.{represented-well, row-none}
+use Rattle.rows.specs.contracts.Sizes.{ROWS}
 use Rattle.closing.specs.contracts.Lists.{slotMarks, among, backRow, itemsBack, WentBack}
 use Rattle.closing.proofs.ListsMarks.{tested-eq, tested-map, among-one, among-zero, mark-put, mark-absent}
 
@@ -32,7 +33,7 @@ back-number b p is r = pick (not (b (r .number)) && among is (r .number))
 pub marks-map : (b : ℕ → Bool) (h : Row → Row) → ((r : Row) → h r .number ≡ r .number) → (rows : List Row) → slotMarks b (map h rows) ≡ slotMarks b rows
 unfolding slotMarks
 marks-map b h k rows =
-    ap (pad false 1024) (tested-map (λ r. b (r .number)) h rows ∙ tested-eq (λ r. b (h r .number)) (λ r. b (r .number)) (λ r. ap b (k r)) rows)
+    ap (pad false ROWS) (tested-map (λ r. b (r .number)) h rows ∙ tested-eq (λ r. b (h r .number)) (λ r. b (r .number)) (λ r. ap b (k r)) rows)
 
 -- ---- one item
 or-none : (a c : Bool) → c ≡ false → a || c ≡ a

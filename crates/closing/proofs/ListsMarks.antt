@@ -17,6 +17,7 @@ use Rattle.rows.proofs.Keyed.{rises-rest, rises-fresh}
 use Rattle.rows.proofs.KeySlots.{slot-le, slot-none}
 use Rattle.changes.specs.contracts.Marks.{tested}
 use Rattle.changes.proofs.Keep.{length-tested}
+use Rattle.rows.specs.contracts.Sizes.{ROWS}
 use Rattle.closing.specs.contracts.Lists.{slotMarks, among}
 
 -- ---- marks that are padded
@@ -122,7 +123,7 @@ module _ (b : ℕ → Bool) where
   pub mark-read : (rows : List Row) (n i : ℕ) → rowSlot rows n ≡ suc i → (marks : List Bool) → marks ≡ slotMarks b rows → getD marks i false ≡ b n
   unfolding slotMarks rowSlot
   mark-read rows n i e marks m =
-      ap (λ (l : List Bool). getD l i false) m ∙ getD-pad false 1024 (tested (λ r. b (r .number)) rows) i ∙ mark-at (λ r. r .number) b n rows i e
+      ap (λ (l : List Bool). getD l i false) m ∙ getD-pad false ROWS (tested (λ r. b (r .number)) rows) i ∙ mark-at (λ r. r .number) b n rows i e
 
   module _ (rows : List Row) (e : ℕ) (h : some e ≡ true) (marks : List Bool) (m : marks ≡ slotMarks b rows) where
     abbrev more : ℕ → Bool
@@ -132,17 +133,17 @@ module _ (b : ℕ → Bool) where
     one-more r = ap (λ (c : Bool). b (r .number) || c) (sym (among-one e (r .number) h))
 
     -- one mark more
-    pub mark-put : rises (λ r. r .number) rows ≡ true → length rows ≤ 1024 → (i : ℕ) → rowSlot rows e ≡ suc i → set marks i true ≡ slotMarks more rows
+    pub mark-put : rises (λ r. r .number) rows ≡ true → length rows ≤ ROWS → (i : ℕ) → rowSlot rows e ≡ suc i → set marks i true ≡ slotMarks more rows
     unfolding slotMarks rowSlot
     mark-put up few i s =
         ap (λ (l : List Bool). set l i true) m
-        ∙ set-pad false 1024 (tested (λ r. b (r .number)) rows) i true (omega (arith, length-tested (λ r. b (r .number)) rows, slot-le (λ r. r .number) rows e))
-        ∙ ap (pad false 1024) (mark-set (λ r. r .number) b e rows up i s ∙ tested-eq _ _ one-more rows)
+        ∙ set-pad false ROWS (tested (λ r. b (r .number)) rows) i true (omega (arith, length-tested (λ r. b (r .number)) rows, slot-le (λ r. r .number) rows e))
+        ∙ ap (pad false ROWS) (mark-set (λ r. r .number) b e rows up i s ∙ tested-eq _ _ one-more rows)
 
     -- no row has the number
     pub mark-absent : rowSlot rows e ≡ 0 → marks ≡ slotMarks more rows
     unfolding slotMarks rowSlot
-    mark-absent s = m ∙ ap (pad false 1024) (mark-none (λ r. r .number) b e rows (slot-none (λ r. r .number) rows e s) ∙ tested-eq _ _ one-more rows)
+    mark-absent s = m ∙ ap (pad false ROWS) (mark-none (λ r. r .number) b e rows (slot-none (λ r. r .number) rows e s) ∙ tested-eq _ _ one-more rows)
 
 -- what two marks say at a slot
 pub marks-read : (g b : ℕ → Bool) (rows : List Row) (n i : ℕ) → rowSlot rows n ≡ suc i → (removed back : List Bool) → removed ≡ slotMarks g rows → back ≡ slotMarks b rows

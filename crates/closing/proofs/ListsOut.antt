@@ -9,9 +9,8 @@ use native.Mathlib.Omega.{arith}
 use lib.Dec.{eqb}
 use lib.ListN.{length, getD, take, drop, set, drop-of-length-le}
 use lib.Seq.{take-all}
-use Rattle.rows.specs.declared.Row.{Row}
 use Rattle.rows.specs.declared.Request.{Request}
-use Rattle.rows.specs.Lists.{all, rises, member, some, nonzero}
+use Rattle.rows.specs.Lists.{rises, member, some, nonzero}
 use Rattle.rows.specs.Tables.{State, numbers}
 use Rattle.rows.specs.contracts.Represents.{Represents, changeRequest}
 use Rattle.rows.specs.contracts.Slots.{requestSlot}
@@ -21,7 +20,8 @@ use Rattle.rows.proofs.Keyed.{rises-rest, rises-fresh}
 use Rattle.tables.proofs.Picked.{older-other}
 use Rattle.rows.proofs.Slots.{represented-well, slot-number}
 use Rattle.changes.specs.contracts.Changes.{itemCleared}
-use Rattle.closing.specs.contracts.Lists.{itemOut, itemsOut}
+use Rattle.closing.specs.contracts.Marks.{Stands}
+use Rattle.closing.specs.contracts.Lists.{itemOut, itemsOut, ItemsStand}
 use Rattle.rows.proofs.Lists.{member-nonzero}
 
 -- ---- a change of one element of a list whose keys rise
@@ -41,7 +41,8 @@ module _ {A : Type 0} (key : A → ℕ) (h : A → A) where
   member-cut [] x old = member-here (key x) (map key old)
   member-cut (y ∷ new) x old = member-there (key x) (key y) (map key (new ++ (x ∷ old))) (member-cut new x old)
 
-  pub change-cut : (new : List A) (x : A) (old : List A) → rises key (new ++ (x ∷ old)) ≡ true → map (at-key (key x)) (new ++ (x ∷ old)) ≡ new ++ (h x ∷ old)
+  pub change-cut : (new : List A) (x : A) (old : List A) → rises key (new ++ (x ∷ old)) ≡ true
+      → map (at-key (key x)) (new ++ (x ∷ old)) ≡ new ++ (h x ∷ old)
   change-cut [] x old up =
       let q = eqb-self (key x) in
       let rest = none-changed (key x) old (rises-fresh key x old up) in
@@ -63,7 +64,8 @@ none-passes false b e = refl
 abbrev pub withHere : State → List Request → Request → List Request → State
 withHere st new w old = withRequests (new ++ (w ∷ old)) st
 
-module _ {st : State} {t : List ℕ} (rep : Represents t st) (new : List Request) (w : Request) (old : List Request) (cut : st .requests ≡ new ++ (w ∷ old)) where
+module _ {st : State} {t : List ℕ} (rep : Represents t st)
+    (new : List Request) (w : Request) (old : List Request) (cut : st .requests ≡ new ++ (w ∷ old)) where
   same-here : withHere st new w old ≡ st
   same-here = λ i. record { rows = st .rows; requests = sym cut i; processes = st .processes; next = st .next }
 
@@ -78,7 +80,8 @@ module _ {st : State} {t : List ℕ} (rep : Represents t st) (new : List Request
   cleared-here : (k : ℕ) → changeRequest (w .number) (itemCleared k) st ≡ withHere st new (itemCleared k w) old
   unfolding changeRequest
   cleared-here k =
-      let requests = ap (map (λ v. cond (eqb (v .number) (w .number)) (itemCleared k v) v)) cut ∙ change-cut (λ v. v .number) (itemCleared k) new w old rise in
+      let requests = ap (map (λ v. cond (eqb (v .number) (w .number)) (itemCleared k v) v)) cut
+      ∙ change-cut (λ v. v .number) (itemCleared k) new w old rise in
       λ i. record { rows = st .rows; requests = requests i; processes = st .processes; next = st .next }
 
   module _ (c : ℕ → Bool) (k e : ℕ) where
@@ -86,9 +89,11 @@ module _ {st : State} {t : List ℕ} (rep : Represents t st) (new : List Request
     unfolding itemOut
     out-same h = subst (λ (s : State). Represents t s) (sym (ap (λ (b : Bool). withHere st new (cond b (itemCleared k w) w) old) h ∙ same-here)) rep
 
-    pub out-now : some e && c e ≡ true → (t′ : List ℕ) → Represents t′ (changeRequest (w .number) (itemCleared k) st) → Represents t′ (withHere st new (itemOut c k e w) old)
+    pub out-now : some e && c e ≡ true → (t′ : List ℕ)
+        → Represents t′ (changeRequest (w .number) (itemCleared k) st) → Represents t′ (withHere st new (itemOut c k e w) old)
     unfolding itemOut
-    out-now h t′ l = subst (λ (s : State). Represents t′ s) (cleared-here k ∙ sym (ap (λ (b : Bool). withHere st new (cond b (itemCleared k w) w) old) h)) l
+    out-now h t′ l =
+        subst (λ (s : State). Represents t′ s) (cleared-here k ∙ sym (ap (λ (b : Bool). withHere st new (cond b (itemCleared k w) w) old) h)) l
 
 -- ---- one item after the other
 module _ (c : ℕ → Bool) where
@@ -154,10 +159,10 @@ member-at [] k h = absurd (not-suc-le-zero h)
 member-at (x ∷ is) zero h = member-here x is
 member-at (x ∷ is) (suc k) h = member-there (getD is k 0) x is (member-at is k (le-of-suc-le-suc h))
 
-pub item-stands : (rows : List Row) (is : List ℕ) (k : ℕ) → k < length is → all (λ e. member e (numbers rows)) (nonzero is) ≡ true
-    → some (getD is k 0) ≡ true → member (getD is k 0) (numbers rows) ≡ true
-item-stands rows is k h stand e =
-    all-at (λ e. member e (numbers rows)) (nonzero is) stand (getD is k 0) (member-nonzero is (getD is k 0) ∙ and-i (some (getD is k 0)) (member (getD is k 0) is) e (member-at is k h))
+pub item-stands : (st : State) (is : List ℕ) (k : ℕ) → k < length is → ItemsStand st is → some (getD is k 0) ≡ true → Stands st (getD is k 0)
+item-stands st is k h stand e =
+    all-at (λ e. member e (numbers (st .rows))) (nonzero is) stand (getD is k 0)
+    (member-nonzero is (getD is k 0) ∙ and-i (some (getD is k 0)) (member (getD is k 0) is) e (member-at is k h))
 
 module _ (st : State) (new old : List Request) (c : ℕ → Bool) where
   -- the state with the first k items of v done
@@ -165,12 +170,15 @@ module _ (st : State) (new old : List Request) (c : ℕ → Bool) where
   outState k v = withHere st new (outTo c k v) old
 
   pub loop-start : (v : Request) (t : List ℕ) → Represents t st → st .requests ≡ new ++ (v ∷ old) → Represents t (outState 0 v)
-  loop-start v t rep cut = subst (λ (s : State). Represents t s) (sym (ap (λ (w : Request). withHere st new w old) (out-start c v) ∙ same-here rep new v old cut)) rep
+  loop-start v t rep cut =
+      subst (λ (s : State). Represents t s) (sym (ap (λ (w : Request). withHere st new w old) (out-start c v) ∙ same-here rep new v old cut)) rep
 
   -- the next item done in that state
-  pub loop-turn : (k : ℕ) (v : Request) (items : List ℕ) → v .items ≡ items → (t : List ℕ) → Represents t (withHere (outState k v) new (itemOut c k (getD items k 0) (outTo c k v)) old)
-      → Represents t (outState (k + 1) v)
-  loop-turn k v items e t rep = subst (λ (w : Request). Represents t (withHere st new w old)) (ap (λ (l : List ℕ). itemOut c k (getD l k 0) (outTo c k v)) (sym e) ∙ out-step c k v) rep
+  pub loop-turn : (k : ℕ) (v : Request) (items : List ℕ) → v .items ≡ items → (t : List ℕ)
+      → Represents t (withHere (outState k v) new (itemOut c k (getD items k 0) (outTo c k v)) old) → Represents t (outState (k + 1) v)
+  loop-turn k v items e t rep =
+      subst (λ (w : Request). Represents t (withHere st new w old)) (ap (λ (l : List ℕ). itemOut c k (getD l k 0) (outTo c k v)) (sym e) ∙ out-step c k v) rep
 
-  pub loop-end : (k : ℕ) (v : Request) → length (v .items) ≤ k → (t : List ℕ) → Represents t (outState k v) → Represents t (withHere st new (itemsOut c v) old)
+  pub loop-end : (k : ℕ) (v : Request) → length (v .items) ≤ k → (t : List ℕ)
+      → Represents t (outState k v) → Represents t (withHere st new (itemsOut c v) old)
   loop-end k v h t rep = subst (λ (w : Request). Represents t (withHere st new w old)) (out-end c k v h) rep

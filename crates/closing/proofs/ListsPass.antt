@@ -18,8 +18,9 @@ use Rattle.rows.specs.Codes.{inClist, isEnd, isClient, isServer, clientEnd, ser
 use Rattle.rows.specs.Tables.{State, noRow, noRequest, noProcess, rowOf, numbers, processAt, isListed, lists}
 use Rattle.rows.specs.Sound.{sound, recordsFit, requestersListed, mayBeListed, itemsLent, requestsRise}
 use Rattle.rows.specs.Layout.{requestAt}
+use Rattle.rows.specs.contracts.Sizes.{ROWS, REQUESTS, PROCESSES}
 use Rattle.rows.specs.contracts.Represents.{Represents}
-use Rattle.rows.specs.Setters.{withRows, withRequests, withPlace, withItems}
+use Rattle.rows.specs.Setters.{withRequests, withPlace, withItems}
 use Rattle.rows.proofs.Bools.{clash, and-l, and-r, pos-some, all-mono, any-append}
 use Rattle.rows.proofs.Keyed.{first-there, keys-map, rises-rest, rises-first}
 use Rattle.tables.proofs.Sound.{Sound, sound-open}
@@ -27,7 +28,9 @@ use Rattle.rows.proofs.Slots.{represented-well, rises-old, request-of-words, re
 use Rattle.changes.specs.contracts.Marks.{tested, marksOf}
 use Rattle.changes.proofs.Keep.{length-tested}
 use Rattle.closing.specs.Closing.{oldestListing, returned, listedIn, leaves, trimmed}
+use Rattle.closing.specs.contracts.Marks.{RowCount, RowsMarked, RequestsMarked}
 use Rattle.closing.specs.contracts.Lists.{slotMarks, among, backRow, itemsBack, WentBack, itemsOut, trimmedAll, partlySettled, SettledTo, listsSettled}
+use Rattle.closing.specs.contracts.Lists.{SlotsMarked, InSlot, ItemsStand, SendsBack, ItemsLeave}
 use Rattle.closing.proofs.Lookups.{returned-keeps, returned-same}
 use Rattle.closing.proofs.ListsMarks.{getD-pad, tested-at}
 use Rattle.closing.proofs.ListsBack.{marks-map}
@@ -52,17 +55,24 @@ unfolding mayBeListed noRow isEnd isClient isServer clientEnd serverEnd some
 no-row-listed v = refl
 
 module _ (st : State) (s : Sound st) (new : List Request) (v : Request) (old : List Request) (cut : st .requests ≡ new ++ (v ∷ old)) where
-  pub asker-low : v .asker ≤ 64
+  pub asker-low : v .asker ≤ PROCESSES
   unfolding requestersListed recordsFit processes
   asker-low =
-      listed-low 64 (st .processes) (v .asker) (eqb-true (length (st .processes)) 64 (s .records-fit))
-      (all-cut (λ v. isListed (st .processes) (v .asker)) new v old (subst (λ (l : List Request). all (λ v. isListed (st .processes) (v .asker)) l ≡ true) cut (s .requesters-listed)))
+      listed-low PROCESSES (st .processes) (v .asker) (eqb-true (length (st .processes)) PROCESSES (s .records-fit))
+      (all-cut listed new v old (subst (λ (l : List Request). all listed l ≡ true) cut (s .requesters-listed)))
+    where
+      listed : Request → Bool
+      listed w = isListed (st .processes) (w .asker)
 
-  pub items-stand : all (λ e. member e (numbers (st .rows))) (nonzero (v .items)) ≡ true
+  pub items-stand : ItemsStand st (v .items)
   unfolding itemsLent numbers rowOf
   items-stand =
-      all-mono (λ e. mayBeListed v (rowOf (st .rows) e)) (λ e. member e (numbers (st .rows))) (λ e h. first-there (λ r. r .number) noRow (mayBeListed v) (no-row-listed v) (st .rows) e h) (nonzero (v .items))
-      (all-cut (λ v. all (λ e. mayBeListed v (rowOf (st .rows) e)) (nonzero (v .items))) new v old (subst (λ (l : List Request). all (λ v. all (λ e. mayBeListed v (rowOf (st .rows) e)) (nonzero (v .items))) l ≡ true) cut (s .items-lent)))
+      all-mono (λ e. mayBeListed v (rowOf (st .rows) e)) (λ e. member e (numbers (st .rows)))
+      (λ e h. first-there (λ r. r .number) noRow (mayBeListed v) (no-row-listed v) (st .rows) e h) (nonzero (v .items))
+      (all-cut lent new v old (subst (λ (l : List Request). all lent l ≡ true) cut (s .items-lent)))
+    where
+      lent : Request → Bool
+      lent w = all (λ e. mayBeListed w (rowOf (st .rows) e)) (nonzero (w .items))
 
   pub requests-rise : rises (λ v. v .number) (v ∷ old) ≡ true
   unfolding requestsRise
@@ -91,7 +101,8 @@ oldest-some f n (v ∷ vs) up = pick (oldest-some f n vs (rises-rest (λ v. v .n
     or-true true b e = refl
     or-true false b e = e
 
-    pick : some (w .number) ≡ listedIn f vs n → (a : Bool) → some (w .number) ≡ a → (c : Bool) → some (cond a w (cond c v w) .number) ≡ c || any (λ u. f u && lists n u) vs
+    pick : some (w .number) ≡ listedIn f vs n → (a : Bool) → some (w .number) ≡ a → (c : Bool)
+        → some (cond a w (cond c v w) .number) ≡ c || any (λ u. f u && lists n u) vs
     pick ih true q c = q ∙ sym (or-true c (any (λ u. f u && lists n u) vs) (sym ih ∙ q))
     pick ih false q true = let h = rises-first (λ v. v .number) v vs up in pos-some (v .number) (omega arith)
     pick ih false q false = ih
@@ -119,11 +130,12 @@ module _ (f : Request → Bool) (v : Request) (old : List Request) where
   unfolding listedIn any lists among
   closed-listed h n = rw h (or-swap (some n && member n (v .items)) (any (λ w. f w && (some n && member n (w .items))) old))
 
-  closed-returned : f v ≡ true → rises (λ v. v .number) (v ∷ old) ≡ true → (r : Row) → backRow (listedIn f old) (v .asker) (v .items) (returned f old r) ≡ returned f (v ∷ old) r
+  closed-returned : f v ≡ true → rises (λ v. v .number) (v ∷ old) ≡ true → (r : Row)
+      → backRow (listedIn f old) (v .asker) (v .items) (returned f old r) ≡ returned f (v ∷ old) r
   unfolding backRow returned oldestListing
   closed-returned h up r =
-      ap (λ (m : ℕ). cond (not (listedIn f old m) && among (v .items) m) (withPlace (inClist (v .asker)) (returned f old r)) (returned f old r)) (returned-number f old r)
-      ∙ ap (λ (b : Bool). cond (not b && among (v .items) n) (withPlace (inClist (v .asker)) (returned f old r)) (returned f old r)) (sym (oldest-some f n old (rises-rest (λ v. v .number) v old up)))
+      ap (λ (m : ℕ). back (not (listedIn f old m) && among (v .items) m)) (returned-number f old r)
+      ∙ ap (λ (b : Bool). back (not b && among (v .items) n)) (sym (oldest-some f n old (rises-rest (λ v. v .number) v old up)))
       ∙ pick (some (w .number)) refl (among (v .items) n)
       ∙ ap (λ (b : Bool). cond (some (latest b .number)) (withPlace (inClist (latest b .asker)) r) r) (sym (lists-it h))
     where
@@ -132,6 +144,9 @@ module _ (f : Request → Bool) (v : Request) (old : List Request) where
 
       w : Request
       w = oldestListing f n old
+
+      back : Bool → Row
+      back b = cond b (withPlace (inClist (v .asker)) (returned f old r)) (returned f old r)
 
       latest : Bool → Request
       latest b = cond (some (w .number)) w (cond b v w)
@@ -166,7 +181,7 @@ module _ (g : List ℕ) (f : Request → Bool) (new : List Request) (v : Request
   pub before-slot : (j : ℕ) → length old ≡ j → length (trimmedAll f g old) ≡ j
   before-slot j e = length-trimmed f g old ∙ e
 
-  pub before-count : (n : ℕ) → n ≡ length (st .rows) → n ≡ length (before .rows)
+  pub before-count : (n : ℕ) → RowCount n st → RowCount n before
   unfolding partlySettled
   before-count n e = e ∙ sym (length-map (st .rows) (returned f old))
 
@@ -181,9 +196,11 @@ module _ (g : List ℕ) (f : Request → Bool) (new : List Request) (v : Request
       ap (λ (i : ℕ). requestAt t i) (sym (before-slot j e))
       ∙ request-of-words t (length (trimmedAll f g old)) v (request-words-at rep new v (trimmedAll f g old) before-cut)
 
-  pub before-stand : all (λ e. member e (numbers (st .rows))) (nonzero (v .items)) ≡ true → all (λ e. member e (numbers (before .rows))) (nonzero (v .items)) ≡ true
+  pub before-stand : ItemsStand st (v .items) → ItemsStand before (v .items)
   unfolding partlySettled numbers
-  before-stand h = subst (λ (l : List ℕ). all (λ e. member e l) (nonzero (v .items)) ≡ true) (sym (keys-map (λ r. r .number) (returned f old) (returned-number f old) (st .rows))) h
+  before-stand h =
+      subst (λ (l : List ℕ). all (λ e. member e l) (nonzero (v .items)) ≡ true)
+      (sym (keys-map (λ r. r .number) (returned f old) (returned-number f old) (st .rows))) h
 
   -- it stays open: its list is trimmed
   open-after : f v ≡ false → withRequests (new ++ (itemsOut (λ n. member n g || listedIn f old n) v ∷ trimmedAll f g old)) before ≡ after
@@ -198,7 +215,8 @@ module _ (g : List ℕ) (f : Request → Bool) (new : List Request) (v : Request
       }
 
   pub open-settled : f v ≡ false → (t t′ : List ℕ) (back : List Bool) → SettledTo g f (new ++ (v ∷ [])) old st t back
-      → Represents t′ (withRequests (new ++ (itemsOut (λ n. member n g || listedIn f old n) v ∷ trimmedAll f g old)) before) → SettledTo g f new (v ∷ old) st t′ back
+      → Represents t′ (withRequests (new ++ (itemsOut (λ n. member n g || listedIn f old n) v ∷ trimmedAll f g old)) before)
+      → SettledTo g f new (v ∷ old) st t′ back
   open-settled h t t′ back s rep =
       record {
         represents = subst (λ (x : State). Represents t′ x) (open-after h) rep;
@@ -209,59 +227,64 @@ module _ (g : List ℕ) (f : Request → Bool) (new : List Request) (v : Request
   closed-after : f v ≡ true → rises (λ v. v .number) (v ∷ old) ≡ true → itemsBack (listedIn f old) (v .asker) (v .items) before ≡ after
   unfolding partlySettled itemsBack trimmedAll
   closed-after h up =
-      let rows = map-map (backRow (listedIn f old) (v .asker) (v .items)) (returned f old) (st .rows) ∙ (λ i. map (λ r. closed-returned f v old h up r i) (st .rows)) in
+      let rows = map-map (backRow (listedIn f old) (v .asker) (v .items)) (returned f old) (st .rows)
+      ∙ (λ i. map (λ r. closed-returned f v old h up r i) (st .rows)) in
       let requests = append-snoc new v (trimmedAll f g old) ∙ (λ i. new ++ (cond (sym h i) v (trimmed f g old v) ∷ trimmedAll f g old)) in
       λ i. record { rows = rows i; requests = requests i; processes = st .processes; next = st .next }
 
-  pub closed-settled : f v ≡ true → rises (λ v. v .number) (v ∷ old) ≡ true → (t : List ℕ) (back : List Bool) → WentBack (listedIn f old) (v .asker) (v .items) before t back
-      → SettledTo g f new (v ∷ old) st t back
+  pub closed-settled : f v ≡ true → rises (λ v. v .number) (v ∷ old) ≡ true → (t : List ℕ) (back : List Bool)
+      → WentBack (listedIn f old) (v .asker) (v .items) before t back → SettledTo g f new (v ∷ old) st t back
   closed-settled h up t back w =
       record {
         represents = subst (λ (x : State). Represents t x) (closed-after h up) (w .represents);
-        marks = w .marks ∙ before-marks (λ n. listedIn f old n || among (v .items) n) ∙ (λ i. slotMarks (λ n. sym (closed-listed f v old h n) i) (st .rows));
+        marks = w .marks
+            ∙ before-marks (λ n. listedIn f old n || among (v .items) n)
+            ∙ (λ i. slotMarks (λ n. sym (closed-listed f v old h n) i) (st .rows));
       }
 
 -- ---- one request done, by what the two functions over its items ensure
-module _ (st : State) (sd : sound st ≡ true) (g : List ℕ) (f : Request → Bool) (new : List Request) (v : Request) (old : List Request) (cut : st .requests ≡ new ++ (v ∷ old)) (n j : ℕ)
-    (count : n ≡ length (st .rows)) (slot : length old ≡ j) (t : List ℕ) (back : List Bool) (done : SettledTo g f (new ++ (v ∷ [])) old st t back) (x : Request) (is : x ≡ requestAt t j) where
+module _ (st : State) (sd : sound st ≡ true) (g : List ℕ) (f : Request → Bool) (new : List Request) (v : Request) (old : List Request)
+    (n j : ℕ) (count : RowCount n st) (here : InSlot j new v old st) (t : List ℕ) (back : List Bool) (done : SettledTo g f (new ++ (v ∷ [])) old st t back)
+    (x : Request) (is : x ≡ requestAt t j) where
   was : State
   was = partlySettled g f (new ++ (v ∷ [])) old st
 
   read : x ≡ v
   unfolding was
-  read = is ∙ before-read g f new v old st t (done .represents) j slot
+  read = is ∙ before-read g f new v old st t (done .represents) j (here .1)
 
-  marked-back : back ≡ slotMarks (listedIn f old) (was .rows)
+  marked-back : SlotsMarked back (listedIn f old) was
   unfolding was
   marked-back = done .marks ∙ sym (before-marks g f new v old st (listedIn f old))
 
   pub closed-done : f v ≡ true → (t′ : List ℕ) (back′ : List Bool)
-      → ((s : State) (b : ℕ → Bool) → Represents t s → n ≡ length (s .rows) → x .asker ≤ 64 → back ≡ slotMarks b (s .rows) → WentBack b (x .asker) (x .items) s t′ back′)
-      → SettledTo g f new (v ∷ old) st t′ back′
+      → SendsBack n (x .asker) (x .items) t back t′ back′ → SettledTo g f new (v ∷ old) st t′ back′
   unfolding was
   closed-done h t′ back′ called =
-      let low : x .asker ≤ 64 = subst (λ (y : Request). y .asker ≤ 64) (sym read) (asker-low st (sound-open st sd) new v old cut) in
-      let went : WentBack (listedIn f old) (x .asker) (x .items) was t′ back′ = called was (listedIn f old) (done .represents) (before-count g f new v old st n count) low marked-back in
-      closed-settled g f new v old st h (requests-rise st (sound-open st sd) new v old cut) t′ back′
+      let low : x .asker ≤ PROCESSES = subst (λ (y : Request). y .asker ≤ PROCESSES) (sym read) (asker-low st (sound-open st sd) new v old (here .0)) in
+      let went : WentBack (listedIn f old) (x .asker) (x .items) was t′ back′
+      = called was (listedIn f old) (done .represents) (before-count g f new v old st n count) low marked-back in
+      closed-settled g f new v old st h (requests-rise st (sound-open st sd) new v old (here .0)) t′ back′
       (subst (λ (y : Request). WentBack (listedIn f old) (y .asker) (y .items) was t′ back′) read went)
 
-  pub open-done : f v ≡ false → (removed : List Bool) → removed ≡ pad false 1024 (marksOf g (st .rows)) → (t′ : List ℕ)
-      → ((s : State) (r b : ℕ → Bool) (new′ old′ : List Request) → Represents t s → n ≡ length (s .rows) → s .requests ≡ new′ ++ (x ∷ old′) → length old′ ≡ j
-      → all (λ e. member e (numbers (s .rows))) (nonzero (x .items)) ≡ true → removed ≡ slotMarks r (s .rows) → back ≡ slotMarks b (s .rows)
-      → Represents t′ (withRequests (new′ ++ (itemsOut (λ n. r n || b n) x ∷ old′)) s))
-      → SettledTo g f new (v ∷ old) st t′ back
+  pub open-done : f v ≡ false → (removed : List Bool) → RowsMarked removed g st → (t′ : List ℕ)
+      → ItemsLeave n j x removed back t t′ → SettledTo g f new (v ∷ old) st t′ back
   unfolding was
   open-done h removed gone t′ called =
-      let stand : all (λ e. member e (numbers (was .rows))) (nonzero (x .items)) ≡ true =
-      subst (λ (y : Request). all (λ e. member e (numbers (was .rows))) (nonzero (y .items)) ≡ true) (sym read) (before-stand g f new v old st (items-stand st (sound-open st sd) new v old cut)) in
-      let here : was .requests ≡ new ++ (x ∷ trimmedAll f g old) = before-cut g f new v old st ∙ ap (λ (y : Request). new ++ (y ∷ trimmedAll f g old)) (sym read) in
-      let represents : Represents t′ (withRequests (new ++ (itemsOut (λ n. member n g || listedIn f old n) x ∷ trimmedAll f g old)) was) =
-      called was (λ n. member n g) (listedIn f old) new (trimmedAll f g old) (done .represents) (before-count g f new v old st n count) here (before-slot g f new v old st j slot) stand
-      (gone ∙ marks-of ∙ sym (before-marks g f new v old st (λ n. member n g))) marked-back in
-      open-settled g f new v old st h t t′ back done
-      (subst (λ (y : Request). Represents t′ (withRequests (new ++ (itemsOut (λ n. member n g || listedIn f old n) y ∷ trimmedAll f g old)) was)) read represents)
+      let stand : ItemsStand was (x .items)
+      = subst (λ (y : Request). ItemsStand was (y .items)) (sym read) (before-stand g f new v old st (items-stand st (sound-open st sd) new v old (here .0))) in
+      let cut : was .requests ≡ new ++ (x ∷ trimmedAll f g old)
+      = before-cut g f new v old st ∙ ap (λ (y : Request). new ++ (y ∷ trimmedAll f g old)) (sym read) in
+      let represents : Represents t′ (outHere x)
+      = called was (λ n. member n g) (listedIn f old) new (trimmedAll f g old) (done .represents) (before-count g f new v old st n count)
+      (cut, before-slot g f new v old st j (here .1)) stand (gone ∙ marks-of ∙ sym (before-marks g f new v old st (λ n. member n g))) marked-back in
+      open-settled g f new v old st h t t′ back done (subst (λ (y : Request). Represents t′ (outHere y)) read represents)
     where
-      marks-of : pad false 1024 (marksOf g (st .rows)) ≡ slotMarks (λ n. member n g) (st .rows)
+      -- the state with the items of y that leave out of its list
+      outHere : Request → State
+      outHere y = withRequests (new ++ (itemsOut (λ n. member n g || listedIn f old n) y ∷ trimmedAll f g old)) was
+
+      marks-of : pad false ROWS (marksOf g (st .rows)) ≡ slotMarks (λ n. member n g) (st .rows)
       marks-of = unfold slotMarks marksOf in refl
 
 -- ---- the loop
@@ -289,33 +312,39 @@ module _ (g : List ℕ) (f : Request → Bool) (st : State) where
       let rows : map (returned f []) (st .rows) ≡ st .rows = (λ i. map (λ r. returned-same f [] r refl i) (st .rows)) ∙ map-id (st .rows) in
       λ i. record { rows = rows i; requests = sym cut i; processes = st .processes; next = st .next }
 
-  none-marked : (k : ℕ) → k ≡ 1024 → length (st .rows) ≤ k → replicate k false ≡ slotMarks (listedIn f []) (st .rows)
+  none-marked : (k : ℕ) → k ≡ ROWS → length (st .rows) ≤ k → SlotsMarked (replicate k false) (listedIn f []) st
   unfolding slotMarks listedIn any
-  none-marked k e few = pad-none k (tested (λ r. false) (st .rows)) (omega (arith, length-tested (λ r. false) (st .rows))) (tested-none (st .rows)) ∙ ap (λ (m : ℕ). pad false m (tested (λ r. false) (st .rows))) e
+  none-marked k e few =
+      let unmarked = tested (λ r. false) (st .rows) in
+      pad-none k unmarked (omega (arith, length-tested (λ r. false) (st .rows))) (tested-none (st .rows)) ∙ ap (λ (m : ℕ). pad false m unmarked) e
 
-  pub done-start : (t : List ℕ) → Represents t st → (k : ℕ) → k ≡ 1024 → Done 0 t (replicate k false)
+  pub done-start : (t : List ℕ) → Represents t st → (k : ℕ) → k ≡ ROWS → Done 0 t (replicate k false)
   done-start t rep k e new [] cut long =
-      record { represents = subst (λ (x : State). Represents t x) (sym (none-done new cut)) rep; marks = none-marked k e (omega (arith, represented-well rep .rows-fit)) }
+      record {
+        represents = subst (λ (x : State). Represents t x) (sym (none-done new cut)) rep;
+        marks = none-marked k e (omega (arith, represented-well rep .rows-fit));
+      }
   done-start t rep k e new (v ∷ old) cut long = absurd (omega arith)
 
   -- one more, by what the function over it ensures
   pub done-turn : (j : ℕ) (t t′ : List ℕ) (back back′ : List Bool) → Done j t back
-      → ((new : List Request) (v : Request) (old : List Request) → st .requests ≡ new ++ (v ∷ old) → length old ≡ j → SettledTo g f (new ++ (v ∷ [])) old st t back → SettledTo g f new (v ∷ old) st t′ back′)
+      → ((new : List Request) (v : Request) (old : List Request) → InSlot j new v old st
+      → SettledTo g f (new ++ (v ∷ [])) old st t back → SettledTo g f new (v ∷ old) st t′ back′)
       → Done (j + 1) t′ back′
   done-turn j t t′ back back′ ih called new [] cut long = absurd (omega arith)
   done-turn j t t′ back back′ ih called new (v ∷ old) cut long =
-      called new v old cut (omega arith) (ih (new ++ (v ∷ [])) old (cut ∙ sym (append-snoc new v old)) (omega arith))
+      called new v old (cut, omega arith) (ih (new ++ (v ∷ [])) old (cut ∙ sym (append-snoc new v old)) (omega arith))
 
   pub done-end : (j : ℕ) (t : List ℕ) (back : List Bool) → length (st .requests) ≡ j → Done j t back → Represents t (listsSettled g f st)
   unfolding listsSettled
   done-end j t back e d = d [] (st .requests) refl e .represents
 
   -- the mark of the request in a slot
-  pub closes-at : (closed : List Bool) → closed ≡ pad false 128 (tested f (st .requests)) → (new : List Request) (v : Request) (old : List Request) → st .requests ≡ new ++ (v ∷ old)
-      → (j : ℕ) → length old ≡ j → getD closed j false ≡ f v
-  closes-at closed e new v old cut j long =
+  pub closes-at : (closed : List Bool) → RequestsMarked closed f st → (new : List Request) (v : Request) (old : List Request) (j : ℕ) → InSlot j new v old st
+      → getD closed j false ≡ f v
+  closes-at closed e new v old j here =
       ap (λ (l : List Bool). getD l j false) e
-      ∙ getD-pad false 128 (tested f (st .requests)) j
-      ∙ ap (λ (l : List Request). getD (tested f l) j false) cut
-      ∙ ap (λ (i : ℕ). getD (tested f (new ++ (v ∷ old))) i false) (sym long)
+      ∙ getD-pad false REQUESTS (tested f (st .requests)) j
+      ∙ ap (λ (l : List Request). getD (tested f l) j false) (here .0)
+      ∙ ap (λ (i : ℕ). getD (tested f (new ++ (v ∷ old))) i false) (sym (here .1))
       ∙ tested-at f new v old

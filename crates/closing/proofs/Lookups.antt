@@ -11,15 +11,15 @@ use Rattle.rows.specs.declared.Request.{Request}
 use Rattle.rows.specs.Lists.{any, all, each, filter, member, rises, some}
 use Rattle.rows.specs.Codes.{inClist}
 use Rattle.rows.specs.Tables.{State, noRow, noRequest, rowOf, requestOf, lists, numbers}
+use Rattle.rows.specs.Setters.{withPlace, withItems}
 use Rattle.rows.specs.Sound.{rowsRise}
 use Rattle.rows.proofs.Bools.{clash, and-l, and-r, and-i, not-t, or-fl, or-fr, any-none, member-cases, and-rf}
 use Rattle.rows.proofs.Keyed.{first-map, first-filter, keys-map, keys-filter, all-first, each-first, rises-map, rises-rest, older-first, olderOf}
 use Rattle.tables.proofs.Picked.{all-found}
 use Rattle.rows.proofs.Lists.{picked-sub}
 use Rattle.closing.specs.Closing.{oldestListing, returned, listedIn, leaves, trimmed, remaining, settled}
-use Rattle.rows.specs.Setters.{withPlace, withItems}
+use Rattle.closing.specs.contracts.Marks.{Stands}
 use Rattle.closing.proofs.TrimmedLists.{each-of-first, rises-filter, rises-keys, trim, member-trim}
-use Rattle.closing.proofs.Facts.{Stands}
 
 -- ---- an item of a trimmed list
 pub trimmed-lists : (f : Request → Bool) (g : List ℕ) (vs : List Request) (v : Request) (e : ℕ) → lists e (trimmed f g vs v) ≡ lists e v && not (leaves f g vs e)
@@ -36,7 +36,8 @@ trimmed-lists f g vs v e = pick (some e) refl
 
 -- ---- the requests that stay open
 module _ (f : Request → Bool) (g : List ℕ) where
-  pub remaining-keys : {B : Type 0} (key : Request → B) → ((is : List ℕ) (v : Request) → key (withItems is v) ≡ key v) → (vs : List Request) → map key (remaining f g vs) ≡ map key (filter (λ v. not (f v)) vs)
+  pub remaining-keys : {B : Type 0} (key : Request → B) → ((is : List ℕ) (v : Request) → key (withItems is v) ≡ key v) → (vs : List Request)
+      → map key (remaining f g vs) ≡ map key (filter (λ v. not (f v)) vs)
   unfolding remaining filter trimmed
   remaining-keys key k [] = refl
   remaining-keys key k (v ∷ vs) = pick (remaining-keys key k vs) (f v)
@@ -47,7 +48,8 @@ module _ (f : Request → Bool) (g : List ℕ) where
       pick ih false = rw (k _ v, ih) refl
 
   -- what holds of all requests holds, changed by the trimming, of those that stay
-  pub all-remaining : (P Q : Request → Bool) → ((vs : List Request) (v : Request) → f v ≡ false → P v ≡ true → Q (trimmed f g vs v) ≡ true) → (vs : List Request) → all P vs ≡ true → all Q (remaining f g vs) ≡ true
+  pub all-remaining : (P Q : Request → Bool) → ((vs : List Request) (v : Request) → f v ≡ false → P v ≡ true → Q (trimmed f g vs v) ≡ true)
+      → (vs : List Request) → all P vs ≡ true → all Q (remaining f g vs) ≡ true
   unfolding remaining all
   all-remaining P Q h [] e = refl
   all-remaining P Q h (v ∷ vs) e = pick (all-remaining P Q h vs (and-r (P v) (all P vs) e)) (f v) refl
@@ -70,12 +72,15 @@ module _ (f : Request → Bool) (g : List ℕ) where
       → requestOf (remaining f g vs) q ≡ trimmed f g (olderOf (λ v. v .number) vs q) (requestOf vs q)
   unfolding requestOf remaining olderOf trimmed Rattle.rows.specs.Lists.firstWith
   request-after [] e q t h = clash t (unfold member in refl)
-  request-after (v ∷ vs) e q t h = pick (request-after vs (rises-rest (λ v. v .number) v vs e) q) (f v) refl (eqb (v .number) q) refl h (member-cases q (v .number) (map (λ v. v .number) vs) t)
+  request-after (v ∷ vs) e q t h =
+      pick (request-after vs (rises-rest (λ v. v .number) v vs e) q) (f v) refl (eqb (v .number) q) refl h
+      (member-cases q (v .number) (map (λ v. v .number) vs) t)
     where
       Here : Bool → Request
       Here c = cond c v (requestOf vs q)
 
-      pick : (member q (map (λ v. v .number) vs) ≡ true → f (requestOf vs q) ≡ false → requestOf (remaining f g vs) q ≡ trimmed f g (olderOf (λ v. v .number) vs q) (requestOf vs q))
+      pick : (member q (map (λ v. v .number) vs) ≡ true → f (requestOf vs q) ≡ false
+          → requestOf (remaining f g vs) q ≡ trimmed f g (olderOf (λ v. v .number) vs q) (requestOf vs q))
           → (b : Bool) → f v ≡ b → (c : Bool) → eqb (v .number) q ≡ c → f (Here c) ≡ false → (q ≡ v .number) ⊎ (member q (map (λ v. v .number) vs) ≡ true)
           → requestOf (cond b (remaining f g vs) (trimmed f g vs v ∷ remaining f g vs)) q ≡ trimmed f g (cond c vs (olderOf (λ v. v .number) vs q)) (Here c)
       pick ih true p true n h m = clash p h
@@ -84,7 +89,8 @@ module _ (f : Request → Bool) (g : List ℕ) where
       pick ih false p false n h m = rw n (⊎-elim (λ z. absurd (eqb-false (v .number) q n (sym z))) (λ u. ih u h) m)
 
 -- ---- where a returned row goes
-pub returned-keeps : {B : Type 0} (F : Row → B) → ((p : ℕ) (r : Row) → F (withPlace p r) ≡ F r) → (f : Request → Bool) (vs : List Request) (r : Row) → F (returned f vs r) ≡ F r
+pub returned-keeps : {B : Type 0} (F : Row → B) → ((p : ℕ) (r : Row) → F (withPlace p r) ≡ F r)
+    → (f : Request → Bool) (vs : List Request) (r : Row) → F (returned f vs r) ≡ F r
 unfolding returned
 returned-keeps F h f vs r = pick (some (oldestListing f (r .number) vs .number))
   where
@@ -96,26 +102,30 @@ oldest-none : (f : Request → Bool) (e : ℕ) (vs : List Request) → listedIn 
 unfolding oldestListing listedIn any
 oldest-none f e [] h = refl
 oldest-none f e (v ∷ vs) h =
-    rw (or-fl (f v && lists e v) (any (λ w. f w && lists e w) vs) h, oldest-none f e vs (or-fr (f v && lists e v) (any (λ w. f w && lists e w) vs) h)) (unfold noRequest some in refl)
+    let older = any (λ w. f w && lists e w) vs in
+    rw (or-fl (f v && lists e v) older h, oldest-none f e vs (or-fr (f v && lists e v) older h)) (unfold noRequest some in refl)
 
 pub returned-same : (f : Request → Bool) (vs : List Request) (r : Row) → listedIn f vs (r .number) ≡ false → returned f vs r ≡ r
 unfolding returned noRequest some
 returned-same f vs r h = rw (oldest-none f (r .number) vs h) refl
 
 -- the oldest is one of them
-pub oldest-all : (f : Request → Bool) (e : ℕ) (P : Request → Bool) (vs : List Request) → all (λ v. some (v .number)) vs ≡ true → all P vs ≡ true → listedIn f vs e ≡ true
-    → P (oldestListing f e vs) ≡ true
+pub oldest-all : (f : Request → Bool) (e : ℕ) (P : Request → Bool) (vs : List Request)
+    → all (λ v. some (v .number)) vs ≡ true → all P vs ≡ true → listedIn f vs e ≡ true → P (oldestListing f e vs) ≡ true
 unfolding oldestListing listedIn any all
 oldest-all f e P [] s a h = clash h refl
 oldest-all f e P (v ∷ vs) s a h =
-    pick (oldest-all f e P vs (and-r (some (v .number)) (all (λ v. some (v .number)) vs) s) (and-r (P v) (all P vs) a))
-    (oldest-all f e (λ v. some (v .number)) vs (and-r (some (v .number)) (all (λ v. some (v .number)) vs) s) (and-r (some (v .number)) (all (λ v. some (v .number)) vs) s))
+    pick (oldest-all f e P vs numbered (and-r (P v) (all P vs) a)) (oldest-all f e (λ v. some (v .number)) vs numbered numbered)
     (oldest-none f e vs) (listedIn f vs e) refl (f v && lists e v) h
   where
+    numbered : all (λ v. some (v .number)) vs ≡ true
+    numbered = and-r (some (v .number)) (all (λ v. some (v .number)) vs) s
+
     w : Request
     w = oldestListing f e vs
 
-    pick : (listedIn f vs e ≡ true → P w ≡ true) → (listedIn f vs e ≡ true → some (w .number) ≡ true) → (listedIn f vs e ≡ false → w ≡ noRequest)
+    pick : (listedIn f vs e ≡ true → P w ≡ true) → (listedIn f vs e ≡ true → some (w .number) ≡ true)
+        → (listedIn f vs e ≡ false → w ≡ noRequest)
         → (b : Bool) → listedIn f vs e ≡ b → (c : Bool) → c || b ≡ true → P (cond (some (w .number)) w (cond c v w)) ≡ true
     pick ih sm nn true q c h = rw (sm q) (ih q)
     pick ih sm nn false q true h = rw (nn q) (unfold noRequest some in and-l (P v) (all P vs) a)
@@ -151,7 +161,8 @@ module _ (g : List ℕ) (f : Request → Bool) (st : State) where
   pub row-after : (n : ℕ) → member n g ≡ false → rowOf (settled g f st .rows) n ≡ returned f (st .requests) (rowOf (st .rows) n)
   unfolding settled rowOf
   row-after n h =
-      first-map (λ r. r .number) noRow (returned f (st .requests)) number-kept (nothing-returned f (st .requests)) (filter (λ r. not (member (r .number) g)) (st .rows)) n
+      first-map (λ r. r .number) noRow (returned f (st .requests)) number-kept (nothing-returned f (st .requests))
+      (filter (λ r. not (member (r .number) g)) (st .rows)) n
       ∙ ap (returned f (st .requests)) (first-filter (λ r. r .number) noRow (λ m. not (member m g)) (st .rows) n (ap not h))
 
   pub rows-rise-kept : rowsRise st ≡ true → rowsRise (settled g f st) ≡ true
@@ -169,7 +180,8 @@ module _ (g : List ℕ) (f : Request → Bool) (st : State) where
     where
       at-row : (n : ℕ) → Stands (settled g f st) n → Q (rowOf (settled g f st .rows) n) ≡ true
       at-row n t =
-          ap Q (row-after n (left-not-gone n t)) ∙ h n (left-stood n t) (left-not-gone n t) (all-first (λ r. r .number) noRow P (st .rows) n a (left-stood n t))
+          ap Q (row-after n (left-not-gone n t))
+          ∙ h n (left-stood n t) (left-not-gone n t) (all-first (λ r. r .number) noRow P (st .rows) n a (left-stood n t))
 
   -- of each row with the older ones
   pub each-left : (F H : Row → List Row → Bool) → rowsRise st ≡ true

@@ -13,6 +13,7 @@ use Rattle.rows.specs.Limits.{rowSlots}
 use Rattle.rows.specs.Codes.{isEnd}
 use Rattle.rows.specs.Tables.{State, noRow, rowOf, numbers, sources, marked, bears}
 use Rattle.rows.specs.Layout.{sourceSlot, rowField, rowSlot, rawRow}
+use Rattle.rows.specs.contracts.Sizes.{ROWS, SOURCE, VIA, REQUEST}
 use Rattle.rows.specs.contracts.Represents.{Represents, sourcesOlder}
 use Rattle.rows.specs.Setters.{withSources}
 use Rattle.rows.specs.contracts.Slots.{slotted}
@@ -25,8 +26,9 @@ use Rattle.changes.specs.contracts.Marks.{marksOf}
 use Rattle.closing.specs.declared.Seed.{Seed}
 use Rattle.closing.specs.declared.Seed.the-variants.{Bearing, EndsOf, Only}
 use Rattle.closing.specs.Closing.{isEndOf, isRow}
-use Rattle.closing.specs.contracts.Lists.{slotMarks}
 use Rattle.closing.specs.contracts.Seeds.{seedOf, markAt}
+use Rattle.closing.specs.contracts.Marks.{RowsMarked}
+use Rattle.closing.specs.contracts.Lists.{slotMarks}
 use Rattle.closing.proofs.RemovedRows.{any-source}
 use Rattle.closing.proofs.ListsMarks.{mark-read}
 use Rattle.closing.proofs.MarksPass.{member-cut, first-cut, MarkedTo, marked-turn, marked-end}
@@ -43,12 +45,19 @@ mark-within ms zero h = absurd (h refl)
 mark-within ms (suc i) h = let same : suc i - 1 ≡ i = omega arith in ap (λ (j : ℕ). getD ms j false) same
 
 -- ---- seeds, by the words of a slot
+-- where the kinds and the objects start
+abbrev KIND : ℕ
+KIND = ROWS
+
+abbrev pub OBJECT : ℕ
+OBJECT = KIND + ROWS
+
 module _ (t : List ℕ) (i : ℕ) (s : Seed) where
-  pub seed-bearing : (q : ℕ) → s ≡ Bearing q → eqb (getD t (9216 + i) 0) q ≡ seedOf s (rawRow t i)
+  pub seed-bearing : (q : ℕ) → s ≡ Bearing q → eqb (getD t (REQUEST + i) 0) q ≡ seedOf s (rawRow t i)
   unfolding seedOf rawRow rowField rowSlots bears
   seed-bearing q e = rw e refl
 
-  pub seed-end : (c : ℕ) → s ≡ EndsOf c → isEnd (getD t (1024 + i) 0) && eqb (getD t (2048 + i) 0) c ≡ seedOf s (rawRow t i)
+  pub seed-end : (c : ℕ) → s ≡ EndsOf c → isEnd (getD t (KIND + i) 0) && eqb (getD t (OBJECT + i) 0) c ≡ seedOf s (rawRow t i)
   unfolding seedOf rawRow rowField rowSlots isEndOf
   seed-end c e = rw e refl
 
@@ -72,7 +81,9 @@ module _ {st : State} {t : List ℕ} (rep : Represents t st) (s : Seed) where
   unfolding numbers
   none-gone =
       false-of (member 0 gone)
-      (λ m. let (lo, hi) = rises-range (λ r. r .number) (st .rows) (represented-well rep .rows-rise) 0 (marked-stands (seedOf s) (st .rows) 0 m) in omega arith)
+      (λ m.
+      let (lo, hi) = rises-range (λ r. r .number) (st .rows) (represented-well rep .rows-rise) 0 (marked-stands (seedOf s) (st .rows) 0 m) in
+      omega arith)
 
   module _ (new : List Row) (r : Row) (old : List Row) (cut : st .rows ≡ new ++ (r ∷ old)) where
     up : rises (λ r. r .number) (new ++ (r ∷ old)) ≡ true
@@ -82,13 +93,15 @@ module _ {st : State} {t : List ℕ} (rep : Represents t st) (s : Seed) where
     row-gone : member (r .number) gone ≡ seedOf s r || (member (r .source) gone || member (r .via) gone)
     unfolding numbers rowOf
     row-gone =
-        let there : member (r .number) (numbers (st .rows)) ≡ true = subst (λ (l : List Row). member (r .number) (numbers l) ≡ true) (sym cut) (member-cut (λ r. r .number) new r old up) in
-        let found : rowOf (st .rows) (r .number) ≡ r = ap (λ (l : List Row). rowOf l (r .number)) cut ∙ first-cut (λ r. r .number) noRow new r old up in
+        let there : member (r .number) (numbers (st .rows)) ≡ true
+        = subst (λ (l : List Row). member (r .number) (numbers l) ≡ true) (sym cut) (member-cut (λ r. r .number) new r old up) in
+        let found : rowOf (st .rows) (r .number) ≡ r
+        = ap (λ (l : List Row). rowOf l (r .number)) cut ∙ first-cut (λ r. r .number) noRow new r old up in
         marked-closed (seedOf s) (st .rows) (represented-well rep .rows-rise) (represented-well rep .sources-old) (r .number) there
         ∙ ap (λ (x : Row). seedOf s x || any (λ n. member n gone) (sources x)) found
         ∙ ap (λ (b : Bool). seedOf s r || b) (any-source gone none-gone r)
 
-    module _ (ms : List Bool) (so-far : ms ≡ pad false 1024 (marksOf gone old)) where
+    module _ (ms : List Bool) (so-far : ms ≡ pad false ROWS (marksOf gone old)) where
       source-mark : (n : ℕ) → Among old n → markAt ms (sourceSlot old n) ≡ member n gone
       unfolding markAt slotMarks marksOf rowSlot numbers
       source-mark n (inl z) = rw (z, source-zero old) (sym none-gone)
@@ -98,27 +111,31 @@ module _ {st : State} {t : List ℕ} (rep : Represents t st) (s : Seed) where
           let rise : rises (λ r. r .number) old ≡ true = rises-rest (λ r. r .number) r old (rises-old (λ r. r .number) new (r ∷ old) up) in
           ap (markAt ms) (source-rises old rise n ∙ slot) ∙ mark-read (λ n. member n gone) old n i slot ms so-far
 
-      row-marked : (i : ℕ) → length old ≡ i → (a b c : Bool) → a ≡ seedOf s (rawRow t i) → b ≡ markAt ms (getD t (6144 + i) 0) → c ≡ markAt ms (getD t (7168 + i) 0)
+      row-marked : (i : ℕ) → length old ≡ i → (a b c : Bool)
+          → a ≡ seedOf s (rawRow t i) → b ≡ markAt ms (getD t (SOURCE + i) 0) → c ≡ markAt ms (getD t (VIA + i) 0)
           → (a || b) || c ≡ member (r .number) gone
       row-marked i long a b c p q w =
           let words = row-words-at rep new r old cut in
           let among = sources-among new r old up (subst (λ (l : List Row). sourcesOlder l ≡ true) cut (represented-well rep .sources-old)) in
-          let seed : a ≡ seedOf s r = p ∙ ap (λ (j : ℕ). seedOf s (rawRow t j)) (sym long) ∙ ap (seedOf s) (raw-row-at rep new r old cut) ∙ seed-slotted s r old in
-          let source : b ≡ member (r .source) gone = q ∙ ap (λ (j : ℕ). markAt ms (getD t (6144 + j) 0)) (sym long) ∙ ap (markAt ms) (words .source) ∙ source-mark (r .source) (among .0) in
-          let via : c ≡ member (r .via) gone = w ∙ ap (λ (j : ℕ). markAt ms (getD t (7168 + j) 0)) (sym long) ∙ ap (markAt ms) (words .via) ∙ source-mark (r .via) (among .1) in
+          let seed : a ≡ seedOf s r
+          = p ∙ ap (λ (j : ℕ). seedOf s (rawRow t j)) (sym long) ∙ ap (seedOf s) (raw-row-at rep new r old cut) ∙ seed-slotted s r old in
+          let source : b ≡ member (r .source) gone
+          = q ∙ ap (λ (j : ℕ). markAt ms (getD t (SOURCE + j) 0)) (sym long) ∙ ap (markAt ms) (words .source) ∙ source-mark (r .source) (among .0) in
+          let via : c ≡ member (r .via) gone
+          = w ∙ ap (λ (j : ℕ). markAt ms (getD t (VIA + j) 0)) (sym long) ∙ ap (markAt ms) (words .via) ∙ source-mark (r .via) (among .1) in
           or-assoc a b c ∙ (λ i. seed i || (source i || via i)) ∙ sym row-gone
 
   -- ---- the pass over the rows
   abbrev pub Gone : Row → Bool
   Gone r = member (r .number) gone
 
-  pub rows-turn : (i : ℕ) (ms : List Bool) (a b c : Bool) → i < 1024 → MarkedTo Gone 1024 (st .rows) i ms
-      → a ≡ seedOf s (rawRow t i) → b ≡ markAt ms (getD t (6144 + i) 0) → c ≡ markAt ms (getD t (7168 + i) 0)
-      → MarkedTo Gone 1024 (st .rows) (i + 1) (set ms i ((a || b) || c))
+  pub rows-turn : (i : ℕ) (ms : List Bool) (a b c : Bool) → i < ROWS → MarkedTo Gone ROWS (st .rows) i ms
+      → a ≡ seedOf s (rawRow t i) → b ≡ markAt ms (getD t (SOURCE + i) 0) → c ≡ markAt ms (getD t (VIA + i) 0)
+      → MarkedTo Gone ROWS (st .rows) (i + 1) (set ms i ((a || b) || c))
   unfolding marksOf
   rows-turn i ms a b c h so-far p q w =
-      marked-turn Gone 1024 (st .rows) i ms ((a || b) || c) h so-far (λ new r old cut long m. row-marked new r old cut ms m i long a b c p q w)
+      marked-turn Gone ROWS (st .rows) i ms ((a || b) || c) h so-far (λ new r old cut long m. row-marked new r old cut ms m i long a b c p q w)
 
-  pub rows-end : (i : ℕ) (ms : List Bool) → length (st .rows) ≡ i → MarkedTo Gone 1024 (st .rows) i ms → ms ≡ pad false 1024 (marksOf gone (st .rows))
+  pub rows-end : (i : ℕ) (ms : List Bool) → length (st .rows) ≡ i → MarkedTo Gone ROWS (st .rows) i ms → RowsMarked ms gone st
   unfolding marksOf
-  rows-end i ms e d = marked-end Gone 1024 (st .rows) i ms e d
+  rows-end i ms e d = marked-end Gone ROWS (st .rows) i ms e d

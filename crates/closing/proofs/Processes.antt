@@ -46,23 +46,29 @@ module _ (g : List ℕ) (f : Request → Bool) (st : State) where
 
   pub records-in-range-kept : recordsInRange st ≡ true → recordsInRange (settled g f st) ≡ true
   unfolding recordsInRange settled homed
-  records-in-range-kept e = all-map recordInRange (homed g) (st .processes) ∙ all-mono recordInRange (λ x. recordInRange (homed g x)) (λ x h. pick x h (some (x .through) && member (x .through) g) refl) (st .processes) e
+  records-in-range-kept e =
+      all-map recordInRange (homed g) (st .processes)
+      ∙ all-mono recordInRange (λ x. recordInRange (homed g x)) (λ x h. pick x h (some (x .through) && member (x .through) g) refl) (st .processes) e
     where
       used : (x : Process) → some (x .through) && member (x .through) g ≡ true → recordUnused x ≡ true → ⊥
       used x q u =
-          let z : x .through ≡ 0 = eqb-true (x .through) 0 (unfold recordUnused in and-r (eqb (x .active) 0) (eqb (x .through) 0) (and-r (eqb (x .prime) 0) (eqb (x .active) 0 && eqb (x .through) 0) u)) in
+          let rest : eqb (x .active) 0 && eqb (x .through) 0 ≡ true = unfold recordUnused in and-r (eqb (x .prime) 0) (eqb (x .active) 0 && eqb (x .through) 0) u in
+          let z : x .through ≡ 0 = eqb-true (x .through) 0 (and-r (eqb (x .active) 0) (eqb (x .through) 0) rest) in
           clash (ap some (sym z) ∙ and-l (some (x .through)) (member (x .through) g) q) (unfold some in refl)
 
       pick : (x : Process) → recordInRange x ≡ true → (b : Bool) → some (x .through) && member (x .through) g ≡ b
           → recordInRange (cond b (record { prime = x .prime; active = x .prime; through = 0 }) x) ≡ true
       pick x h true q =
           unfold recordInRange in ⊎-elim (λ u. absurd (used x q u))
-          (λ w. let m : between 1 nodes (x .prime) ≡ true = and-l (between 1 nodes (x .prime)) (between 1 nodes (x .active)) w in or-r (recordUnused (record { prime = x .prime; active = x .prime; through = 0 })) _ (and-i _ _ m m))
+          (λ w.
+          let m : between 1 nodes (x .prime) ≡ true = and-l (between 1 nodes (x .prime)) (between 1 nodes (x .active)) w in
+          or-r (recordUnused (record { prime = x .prime; active = x .prime; through = 0 })) _ (and-i _ _ m m))
           (or-cases (recordUnused x) (between 1 nodes (x .prime) && between 1 nodes (x .active)) h)
       pick x h false q = h
 
 -- ---- where each process is: the subdirectory rows that are left are as they were
-module _ (g : List ℕ) (rs ss : List Row) (same : (n : ℕ) → member n g ≡ false → isSubdirectory (rowOf rs n .kind) ≡ true → rowOf ss n ≡ rowOf rs n) where
+module _ (g : List ℕ) (rs ss : List Row)
+    (same : (n : ℕ) → member n g ≡ false → isSubdirectory (rowOf rs n .kind) ≡ true → rowOf ss n ≡ rowOf rs n) where
   at-process : (p : ℕ) (x : Process) → processPlaced rs p x ≡ true → processPlaced ss p (homed g x) ≡ true
   unfolding homed processPlaced
   at-process p x e = pick (some (x .through) && member (x .through) g) refl
@@ -73,15 +79,18 @@ module _ (g : List ℕ) (rs ss : List Row) (same : (n : ℕ) → member n g ≡ 
       inside : Row → Bool
       inside r = isSubdirectory (r .kind) && (eqb (r .place) (inClist p) && eqb (r .object) (x .active))
 
-      through : some (x .through) && inside r ≡ true → some (x .through) && member (x .through) g ≡ false → some (x .through) && inside (rowOf ss (x .through)) ≡ true
+      through : some (x .through) && inside r ≡ true → some (x .through) && member (x .through) g ≡ false
+          → some (x .through) && inside (rowOf ss (x .through)) ≡ true
       through w q =
           let sm : some (x .through) ≡ true = and-l (some (x .through)) (inside r) w in
           let in-r : inside r ≡ true = and-r (some (x .through)) (inside r) w in
           let left : member (x .through) g ≡ false = ap (λ b. b && member (x .through) g) (sym sm) ∙ q in
-          let sub : isSubdirectory (r .kind) ≡ true = and-l (isSubdirectory (r .kind)) (eqb (r .place) (inClist p) && eqb (r .object) (x .active)) in-r in
+          let sub : isSubdirectory (r .kind) ≡ true
+          = and-l (isSubdirectory (r .kind)) (eqb (r .place) (inClist p) && eqb (r .object) (x .active)) in-r in
           and-i _ _ sm (ap inside (same (x .through) left sub) ∙ in-r)
 
-      pick : (b : Bool) → some (x .through) && member (x .through) g ≡ b → processPlaced ss p (cond b (record { prime = x .prime; active = x .prime; through = 0 }) x) ≡ true
+      pick : (b : Bool) → some (x .through) && member (x .through) g ≡ b
+          → processPlaced ss p (cond b (record { prime = x .prime; active = x .prime; through = 0 }) x) ≡ true
       pick true q = or-l (eqb (x .prime) (x .prime)) _ (eqb-self (x .prime))
       pick false q =
           ⊎-elim (λ u. or-l (eqb (x .through) 0 && eqb (x .active) (x .prime)) (some (x .through) && inside (rowOf ss (x .through))) u)
@@ -92,4 +101,5 @@ module _ (g : List ℕ) (rs ss : List Row) (same : (n : ℕ) → member n g ≡ 
   unfolding placedFrom
   placed-kept p [] e = refl
   placed-kept p (x ∷ ps) e =
-      and-i _ _ (at-process p x (and-l (processPlaced rs p x) (placedFrom rs (suc p) ps) e)) (placed-kept (suc p) ps (and-r (processPlaced rs p x) (placedFrom rs (suc p) ps) e))
+      and-i _ _ (at-process p x (and-l (processPlaced rs p x) (placedFrom rs (suc p) ps) e))
+      (placed-kept (suc p) ps (and-r (processPlaced rs p x) (placedFrom rs (suc p) ps) e))

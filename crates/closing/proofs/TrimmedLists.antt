@@ -22,7 +22,10 @@ module _ {A : Type 0} (key : A → ℕ) where
     unfolding each
     each-of-first F [] e h = refl
     each-of-first F (x ∷ xs) e h =
-        and-i (F x xs) (each F xs) (ap (λ y. F y xs) (sym (first-here key none x xs)) ∙ ap (F (firstWith key none (x ∷ xs) (key x))) (sym here) ∙ h (key x) (member-here (key x) (map key xs)))
+        and-i (F x xs) (each F xs)
+        (ap (λ y. F y xs) (sym (first-here key none x xs))
+        ∙ ap (F (firstWith key none (x ∷ xs) (key x))) (sym here)
+        ∙ h (key x) (member-here (key x) (map key xs)))
         (each-of-first F xs (rises-rest key x xs e) rest)
       where
         here : olderOf key (x ∷ xs) (key x) ≡ xs
@@ -32,18 +35,25 @@ module _ {A : Type 0} (key : A → ℕ) where
         there n t = let lt : n < key x = rises-older key x xs e n t in unfold olderOf in rw (ne-eqb (key x) n (λ p. omega arith)) refl
 
         rest : (n : ℕ) → member n (map key xs) ≡ true → F (firstWith key none xs n) (olderOf key xs n) ≡ true
-        rest n t = subst (λ ys. F (firstWith key none xs n) ys ≡ true) (there n t) (subst (λ y. F y (olderOf key (x ∷ xs) n) ≡ true) (first-older key none x xs n (rises-older key x xs e n t)) (h n (member-there n (key x) (map key xs) t)))
+        rest n t =
+            subst (λ ys. F (firstWith key none xs n) ys ≡ true) (there n t)
+            (subst (λ y. F y (olderOf key (x ∷ xs) n) ≡ true) (first-older key none x xs n (rises-older key x xs e n t))
+            (h n (member-there n (key x) (map key xs) t)))
 
     -- one that passes is found
-    pub any-first : (P : A → Bool) (xs : List A) → rises key xs ≡ true → any P xs ≡ true → (n : ℕ) × (member n (map key xs) ≡ true) × (P (firstWith key none xs n) ≡ true)
+    pub any-first : (P : A → Bool) (xs : List A) → rises key xs ≡ true → any P xs ≡ true
+        → (n : ℕ) × (member n (map key xs) ≡ true) × (P (firstWith key none xs n) ≡ true)
     unfolding any
     any-first P [] e t = clash t refl
     any-first P (x ∷ xs) e t = pick (any-first P xs (rises-rest key x xs e)) (P x) refl t
       where
-        pick : (any P xs ≡ true → (n : ℕ) × (member n (map key xs) ≡ true) × (P (firstWith key none xs n) ≡ true)) → (b : Bool) → P x ≡ b → b || any P xs ≡ true
+        pick : (any P xs ≡ true → (n : ℕ) × (member n (map key xs) ≡ true) × (P (firstWith key none xs n) ≡ true))
+            → (b : Bool) → P x ≡ b → b || any P xs ≡ true
             → (n : ℕ) × (member n (map key (x ∷ xs)) ≡ true) × (P (firstWith key none (x ∷ xs) n) ≡ true)
         pick ih true q t = (key x, member-here (key x) (map key xs), ap P (first-here key none x xs) ∙ q)
-        pick ih false q t = let (n, m, p) = ih t in (n, member-there n (key x) (map key xs) m, ap P (first-older key none x xs n (rises-older key x xs e n m)) ∙ p)
+        pick ih false q t =
+            let (n, m, p) = ih t in
+            (n, member-there n (key x) (map key xs) m, ap P (first-older key none x xs n (rises-older key x xs e n m)) ∙ p)
 
   -- ---- older elements are elements
   pub any-older : (P : A → Bool) (xs : List A) (n : ℕ) → any P (olderOf key xs n) ≡ true → any P xs ≡ true
@@ -61,7 +71,8 @@ module _ {A : Type 0} (key : A → ℕ) where
   top-member [] = inl refl
   top-member (x ∷ xs) = inr (member-here (key x) (map key xs))
 
-  pub rises-filter : (p : A → Bool) (xs : List A) → rises key xs ≡ true → (rises key (filter p xs) ≡ true) × (topOf key (filter p xs) ≤ topOf key xs)
+  pub rises-filter : (p : A → Bool) (xs : List A) → rises key xs ≡ true
+      → (rises key (filter p xs) ≡ true) × (topOf key (filter p xs) ≤ topOf key xs)
   unfolding filter topOf
   rises-filter p [] e = (e, omega arith)
   rises-filter p (x ∷ xs) e = pick (rises-filter p xs (rises-rest key x xs e)) (rises-first key x xs e) (p x)
@@ -112,7 +123,8 @@ module _ (t : ℕ → Bool) where
       none true q = rw q refl
       none false q = refl
 
-      pick : member n (trim is) ≡ member n is && not (t n) → (b : Bool) → t x ≡ b → (c : Bool) → eqb n x ≡ c → eqb n (cond b 0 x) || member n (trim is) ≡ (c || member n is) && not (t n)
+      pick : member n (trim is) ≡ member n is && not (t n) → (b : Bool) → t x ≡ b → (c : Bool) → eqb n x ≡ c
+          → eqb n (cond b 0 x) || member n (trim is) ≡ (c || member n is) && not (t n)
       pick ih true p true q = let tn : t n ≡ true = ap t (eqb-true n x q) ∙ p in rw (zero-other, ih, none (member n is) tn, tn) refl
       pick ih true p false q = rw zero-other ih
       pick ih false p true q = rw (q, ap t (eqb-true n x q) ∙ p) refl
@@ -140,7 +152,8 @@ distinct-trim t (x ∷ is) e = pick (distinct-trim t is) (some x) refl e (t x)
         let w : member x is && not (t x) ≡ true = sym (member-trim t is x sx) ∙ and-r (some x) (member x (trim t is)) v in
         clash (member-nonzero is x ∙ and-i (some x) (member x is) sx (and-l (member x is) (not (t x)) w)) h)
 
-    pick : (distinct (nonzero is) ≡ true → distinct (nonzero (trim t is)) ≡ true) → (a : Bool) → some x ≡ a → distinct (cond a (x ∷ nonzero is) (nonzero is)) ≡ true → (b : Bool)
+    pick : (distinct (nonzero is) ≡ true → distinct (nonzero (trim t is)) ≡ true)
+        → (a : Bool) → some x ≡ a → distinct (cond a (x ∷ nonzero is) (nonzero is)) ≡ true → (b : Bool)
         → distinct (nonzero (cond b 0 x ∷ trim t is)) ≡ true
     pick ih true p e true = ih (and-r (not (member x (nonzero is))) (distinct (nonzero is)) e)
     pick ih true p e false =

@@ -1,4 +1,5 @@
--- Closing step by step, "until nothing more is removed", as document 01 states it; proofs/Steps shows that the one pass is this on sound tables.
+-- Closing step by step, "until nothing more is removed", as document 01 states it.
+-- On sound tables the one pass of Closing.antt is this: kept/proofs/Steps.antt proves it.
 use Prim.Native.Nat.{ℕ, zero, suc}
 use mathlib.Core.Bool.{Bool, _&&_, _||_}
 use mathlib.Core.List.{List, [], _∷_, map}

@@ -1,4 +1,4 @@
-// Closing in place: of a request, of a port, and the drop of one row.
+// The three closings over the lent words: of a request, of a port, and the drop of one row.
 use crate::Seed;
 use crate::homes::home_all;
 use crate::lists::settle_lists;
@@ -9,24 +9,16 @@ use rows::Process;
 use rows::find;
 use rows::layout::RowMarks;
 use rows::records::Records;
-ghost use mathlib.Core.Path.{_≡_};
-ghost use mathlib.Core.Bool.{true, false};
-ghost use mathlib.Core.List.{List};
-ghost use Prim.Native.Nat.{ℕ, _≤_};
-ghost use lib.ListN.{length};
-ghost use Rattle.rows.specs.Lists.{pad};
-ghost use Rattle.rows.specs.Tables.{State};
-ghost use Rattle.rows.specs.Sound.{sound};
-ghost use Rattle.rows.specs.contracts.Represents.{Represents};
-ghost use Rattle.changes.specs.contracts.Marks.{marksOf, closedUnder};
-ghost use Rattle.closing.specs.Closing.{closes, settled, closeRequest, closePort, dropRow};
-ghost use Rattle.closing.specs.contracts.Seeds.{closesOf, closingFrom};
+ghost use Prim.Native.Nat.{_≤_};
 ghost use Rattle.rows.specs.contracts.Sizes.{ROWS, IsTables};
+ghost use Rattle.closing.specs.Closing.{closeRequest, closePort, dropRow};
+ghost use Rattle.closing.specs.contracts.Seeds.{closingFrom};
+ghost use Rattle.closing.specs.contracts.Takes.{Takes, TakesOut};
 
 // The marked rows are removed and the requests close: lists and places first, while slots are as the marks have them.
 fn take_out(t: &mut [u32], n: usize, s: Seed, removed: &RowMarks)
     requires { ⌜ IsTables (now t) × (n ≤ ROWS) ⌝ }
-    ensures out { λ _. ⌜ ((st : State) (g : List ℕ) → sound st ≡ true → Represents (now (t .entry)) st → n ≡ length (st .rows) → now (removed .entry) ≡ pad false ROWS (marksOf g (st .rows)) → closedUnder g (st .rows) ≡ true → Represents (now (t .exit)) (settled g (closes (closesOf s) g) st)) ⌝ }
+    ensures out { λ _. ⌜ TakesOut s n (now (removed .entry)) (now (t .entry)) (now (t .exit)) ⌝ }
     ensures long { λ _. ⌜ IsTables (now (t .exit)) ⌝ }
 {
     let m = find::requests_in(t);
@@ -39,7 +31,7 @@ fn take_out(t: &mut [u32], n: usize, s: Seed, removed: &RowMarks)
 // The closing from its seeds.
 fn close(t: &mut [u32], ps: Records, s: Seed) -> Records
     requires { ⌜ IsTables (now t) ⌝ }
-    ensures closed { λ r. ⌜ ((st : State) → sound st ≡ true → Represents (now (t .entry)) st → st .processes ≡ ps → (Represents (now (t .exit)) (closingFrom s st) × (r ≡ closingFrom s st .processes))) ⌝ }
+    ensures closed { λ r. ⌜ Takes (closingFrom s) (now (t .entry)) ps (now (t .exit)) r ⌝ }
     ensures long { λ _. ⌜ IsTables (now (t .exit)) ⌝ }
 {
     let n = find::rows_in(t);
@@ -50,10 +42,11 @@ fn close(t: &mut [u32], ps: Records, s: Seed) -> Records
 }
 
 // Closes request q.
-// Ruled out: an end left in a newer list; the newest instead of the oldest asker; a cascade that stops after one port; a process left in a removed directory.
+// Ruled out: an end left in a newer list; the newest instead of the oldest asker;
+// a cascade that stops after one port; a process left in a removed directory.
 pub fn close_request(t: &mut [u32], ps: Records, q: u32) -> Records
     requires { ⌜ IsTables (now t) ⌝ }
-    ensures closed { λ r. ⌜ ((st : State) → sound st ≡ true → Represents (now (t .entry)) st → st .processes ≡ ps → (Represents (now (t .exit)) (closeRequest q st) × (r ≡ closeRequest q st .processes))) ⌝ }
+    ensures closed { λ r. ⌜ Takes (closeRequest q) (now (t .entry)) ps (now (t .exit)) r ⌝ }
     ensures long { λ _. ⌜ IsTables (now (t .exit)) ⌝ }
 {
     close(t, ps, Seed::Bearing(q))
@@ -63,7 +56,7 @@ pub fn close_request(t: &mut [u32], ps: Records, q: u32) -> Records
 // Ruled out: one end stays; the request open on the port stays.
 pub fn close_port(t: &mut [u32], ps: Records, c: u32) -> Records
     requires { ⌜ IsTables (now t) ⌝ }
-    ensures closed { λ r. ⌜ ((st : State) → sound st ≡ true → Represents (now (t .entry)) st → st .processes ≡ ps → (Represents (now (t .exit)) (closePort c st) × (r ≡ closePort c st .processes))) ⌝ }
+    ensures closed { λ r. ⌜ Takes (closePort c) (now (t .entry)) ps (now (t .exit)) r ⌝ }
     ensures long { λ _. ⌜ IsTables (now (t .exit)) ⌝ }
 {
     close(t, ps, Seed::EndsOf(c))
@@ -73,7 +66,7 @@ pub fn close_port(t: &mut [u32], ps: Records, c: u32) -> Records
 // Ruled out: a copy of the row stays; the row's source goes.
 pub fn drop_row(t: &mut [u32], ps: Records, e: u32) -> Records
     requires { ⌜ IsTables (now t) ⌝ }
-    ensures dropped { λ r. ⌜ ((st : State) → sound st ≡ true → Represents (now (t .entry)) st → st .processes ≡ ps → (Represents (now (t .exit)) (dropRow e st) × (r ≡ dropRow e st .processes))) ⌝ }
+    ensures dropped { λ r. ⌜ Takes (dropRow e) (now (t .entry)) ps (now (t .exit)) r ⌝ }
     ensures long { λ _. ⌜ IsTables (now (t .exit)) ⌝ }
 {
     close(t, ps, Seed::Only(e))

@@ -1,6 +1,6 @@
-// Closing of a request and of a port: the definitions stand in specs/Closing.antt.
+// Closing of a request and of a port, and the drop of a row. The definitions stand in specs/Closing.antt.
 
-// The rows that a closing starts from: those that bear a request, the two ends of a port (its client end's number), one row.
+// The rows that a closing starts from: those that bear a request, the two ends of a port (by its client end), one row.
 pub enum Seed {
     Bearing(u32),
     EndsOf(u32),

@@ -1,4 +1,4 @@
-// What closing does to lists and places: ends go back, and leave lists. Rows and requests that go are removed after it.
+// What a closing does to lists and places: ends go back, and leave lists. What is marked is removed after it.
 use changes::change;
 use rows::Found;
 use rows::Request;
@@ -9,25 +9,16 @@ use rows::layout::ROWS;
 use rows::layout::RequestMarks;
 use rows::layout::RowMarks;
 use rows::read;
-ghost use mathlib.Core.Path.{_≡_};
-ghost use mathlib.Core.Bool.{Bool, true, false, _||_};
-ghost use mathlib.Core.List.{List, [], _∷_, _++_};
-ghost use Prim.Native.Nat.{ℕ, _≤_, _<_};
-ghost use lib.ListN.{length};
-ghost use Rattle.rows.specs.declared.Request.{Request};
-ghost use Rattle.rows.specs.Lists.{all, member, pad, some, nonzero};
-ghost use Rattle.rows.specs.Tables.{State, numbers};
-ghost use Rattle.rows.specs.Sound.{sound};
-ghost use Rattle.rows.specs.contracts.Represents.{Represents};
-ghost use Rattle.rows.specs.Setters.{withRequests};
-ghost use Rattle.changes.specs.contracts.Marks.{tested, marksOf};
-ghost use Rattle.closing.specs.contracts.Lists.{slotMarks, WentBack, itemOut, itemsOut, SettledTo, listsSettled};
-ghost use Rattle.rows.specs.contracts.Sizes.{ROWS, REQUESTS, PROCESSES, ITEMS, IsTables};
+ghost use mathlib.Core.List.{[], _∷_};
+ghost use Prim.Native.Nat.{_≤_, _<_};
+ghost use Rattle.rows.specs.contracts.Sizes.{ROWS, REQUESTS, ITEMS, IsTables};
+ghost use Rattle.closing.specs.contracts.Lists.{SendsBack, ItemLeaves, ItemsLeave, SettlesNext, SettlesLists};
 
 // One item of a closed request: its row goes to a c-list, unless an older closed request sent it back.
 fn item_back(t: &mut [u32], n: usize, e: u32, asker: u32, back: &mut RowMarks)
     requires { ⌜ IsTables (now t) × (n ≤ ROWS) ⌝ }
-    ensures back { λ _. ⌜ ((st : State) (b : ℕ → Bool) → Represents (now (t .entry)) st → n ≡ length (st .rows) → asker ≤ PROCESSES → now (back .entry) ≡ slotMarks b (st .rows) → WentBack b asker (e ∷ []) st (now (t .exit)) (now (back .exit))) ⌝ }
+    ensures back { λ _. ⌜ SendsBack n asker (e ∷ []) (now (t .entry)) (now (back .entry))
+        (now (t .exit)) (now (back .exit)) ⌝ }
     ensures long { λ _. ⌜ IsTables (now (t .exit)) ⌝ }
 {
     if e == 0 {
@@ -47,7 +38,8 @@ fn item_back(t: &mut [u32], n: usize, e: u32, asker: u32, back: &mut RowMarks)
 // All items of a closed request.
 fn items_back(t: &mut [u32], n: usize, v: Request, back: &mut RowMarks)
     requires { ⌜ IsTables (now t) × (n ≤ ROWS) ⌝ }
-    ensures back { λ _. ⌜ ((st : State) (b : ℕ → Bool) → Represents (now (t .entry)) st → n ≡ length (st .rows) → v .asker ≤ PROCESSES → now (back .entry) ≡ slotMarks b (st .rows) → WentBack b (v .asker) (v .items) st (now (t .exit)) (now (back .exit))) ⌝ }
+    ensures back { λ _. ⌜ SendsBack n (v .asker) (v .items) (now (t .entry)) (now (back .entry))
+        (now (t .exit)) (now (back .exit)) ⌝ }
     ensures long { λ _. ⌜ IsTables (now (t .exit)) ⌝ }
 {
     let items = v.items;
@@ -60,7 +52,7 @@ fn items_back(t: &mut [u32], n: usize, v: Request, back: &mut RowMarks)
     }
 }
 
-// The item e, at place k of the open request in slot j, leaves the list if its row is removed or went back.
+// The item e, at position k of the open request in slot j, leaves the list if its row is removed or went back.
 fn item_out(
     t: &mut [u32],
     n: usize,
@@ -71,7 +63,8 @@ fn item_out(
     back: &RowMarks,
 )
     requires { ⌜ IsTables (now t) × (n ≤ ROWS) × (j < REQUESTS) × (k < ITEMS) ⌝ }
-    ensures out { λ _. ⌜ ((st : State) (g b : ℕ → Bool) (new : List Request) (w : Request) (old : List Request) → Represents (now (t .entry)) st → n ≡ length (st .rows) → st .requests ≡ new ++ (w ∷ old) → length old ≡ j → (some e ≡ true → member e (numbers (st .rows)) ≡ true) → now (removed .entry) ≡ slotMarks g (st .rows) → now (back .entry) ≡ slotMarks b (st .rows) → Represents (now (t .exit)) (withRequests (new ++ (itemOut (λ n. g n || b n) k e w ∷ old)) st)) ⌝ }
+    ensures out { λ _. ⌜ ItemLeaves n j k e (now (removed .entry)) (now (back .entry)) (now (t .entry))
+        (now (t .exit)) ⌝ }
     ensures long { λ _. ⌜ IsTables (now (t .exit)) ⌝ }
 {
     if e == 0 {
@@ -88,7 +81,8 @@ fn item_out(
 // All items of an open request, which is v.
 fn items_out(t: &mut [u32], n: usize, j: usize, v: Request, removed: &RowMarks, back: &RowMarks)
     requires { ⌜ IsTables (now t) × (n ≤ ROWS) × (j < REQUESTS) ⌝ }
-    ensures out { λ _. ⌜ ((st : State) (g b : ℕ → Bool) (new old : List Request) → Represents (now (t .entry)) st → n ≡ length (st .rows) → st .requests ≡ new ++ (v ∷ old) → length old ≡ j → all (λ e. member e (numbers (st .rows))) (nonzero (v .items)) ≡ true → now (removed .entry) ≡ slotMarks g (st .rows) → now (back .entry) ≡ slotMarks b (st .rows) → Represents (now (t .exit)) (withRequests (new ++ (itemsOut (λ n. g n || b n) v ∷ old)) st)) ⌝ }
+    ensures out { λ _. ⌜ ItemsLeave n j v (now (removed .entry)) (now (back .entry)) (now (t .entry))
+        (now (t .exit)) ⌝ }
     ensures long { λ _. ⌜ IsTables (now (t .exit)) ⌝ }
 {
     let items = v.items;
@@ -110,7 +104,8 @@ fn settle_request(
     back: &mut RowMarks,
 )
     requires { ⌜ IsTables (now t) × (n ≤ ROWS) × (j < REQUESTS) ⌝ }
-    ensures settled { λ _. ⌜ ((st : State) (g : List ℕ) (f : Request → Bool) (new : List Request) (v : Request) (old : List Request) → sound st ≡ true → n ≡ length (st .rows) → st .requests ≡ new ++ (v ∷ old) → length old ≡ j → closes ≡ f v → now (removed .entry) ≡ pad false ROWS (marksOf g (st .rows)) → SettledTo g f (new ++ (v ∷ [])) old st (now (t .entry)) (now (back .entry)) → SettledTo g f new (v ∷ old) st (now (t .exit)) (now (back .exit))) ⌝ }
+    ensures settled { λ _. ⌜ SettlesNext n j closes (now (removed .entry)) (now (t .entry)) (now (back .entry))
+        (now (t .exit)) (now (back .exit)) ⌝ }
     ensures long { λ _. ⌜ IsTables (now (t .exit)) ⌝ }
 {
     let v = read::request_at(t, j);
@@ -125,7 +120,8 @@ fn settle_request(
 // Ruled out: an end goes to the asker of a newer closed request, or stays in a newer open request's list.
 pub fn settle_lists(t: &mut [u32], n: usize, m: usize, removed: &RowMarks, closed: &RequestMarks)
     requires { ⌜ IsTables (now t) × (n ≤ ROWS) × (m ≤ REQUESTS) ⌝ }
-    ensures settled { λ _. ⌜ ((st : State) (g : List ℕ) (f : Request → Bool) → sound st ≡ true → Represents (now (t .entry)) st → n ≡ length (st .rows) → m ≡ length (st .requests) → now (removed .entry) ≡ pad false ROWS (marksOf g (st .rows)) → now (closed .entry) ≡ pad false REQUESTS (tested f (st .requests)) → Represents (now (t .exit)) (listsSettled g f st)) ⌝ }
+    ensures settled { λ _. ⌜ SettlesLists n m (now (removed .entry)) (now (closed .entry)) (now (t .entry))
+        (now (t .exit)) ⌝ }
     ensures long { λ _. ⌜ IsTables (now (t .exit)) ⌝ }
 {
     let mut back = [false; ROWS];

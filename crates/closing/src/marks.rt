@@ -16,19 +16,12 @@ use rows::layout::RowMarks;
 use rows::layout::SOURCE;
 use rows::layout::VIA;
 ghost use mathlib.Core.Path.{_≡_};
-ghost use mathlib.Core.Bool.{true, false};
-ghost use mathlib.Core.List.{List};
-ghost use Prim.Native.Nat.{ℕ, _≤_, _<_};
-ghost use lib.ListN.{length};
-ghost use Rattle.rows.specs.Lists.{pad, member};
-ghost use Rattle.rows.specs.Tables.{State, numbers, marked};
-ghost use Rattle.rows.specs.Sound.{sound};
-ghost use Rattle.rows.specs.contracts.Represents.{Represents};
+ghost use Prim.Native.Nat.{_≤_, _<_};
+ghost use Rattle.rows.specs.Lists.{member};
 ghost use Rattle.rows.specs.Layout.{rawRow};
-ghost use Rattle.changes.specs.contracts.Marks.{tested, marksOf};
-ghost use Rattle.closing.specs.Closing.{closes};
-ghost use Rattle.closing.specs.contracts.Seeds.{seedOf, closesOf, markAt};
 ghost use Rattle.rows.specs.contracts.Sizes.{ROWS, REQUESTS, IsTables};
+ghost use Rattle.closing.specs.contracts.Seeds.{seedOf, closesOf, markAt};
+ghost use Rattle.closing.specs.contracts.Marks.{MarksRows, TellsMark, MarksRequests};
 
 // Whether the row in slot i is a seed.
 // Ruled out: an operation row whose manager's number is the port's; a row that bears the number of another request.
@@ -61,7 +54,7 @@ fn mark_at(marks: &[bool], s: u32) -> bool
 // Ruled out: a copy whose second source alone is removed stays; a row of which nothing is removed goes.
 pub fn mark_rows(t: &[u32], n: usize, s: Seed) -> RowMarks
     requires { ⌜ IsTables (now t) × (n ≤ ROWS) ⌝ }
-    ensures { λ r. ⌜ ((st : State) → Represents (now (t .entry)) st → n ≡ length (st .rows) → r ≡ pad false ROWS (marksOf (marked (seedOf s) (st .rows)) (st .rows))) ⌝ }
+    ensures { λ r. ⌜ MarksRows (now (t .entry)) n s r ⌝ }
 {
     let mut removed = [false; ROWS];
     let mut i = 0;
@@ -89,7 +82,7 @@ fn closes_first(s: Seed, number: u32) -> bool
 // Whether the row numbered e is marked; a number that no row has is not.
 pub fn is_marked(t: &[u32], n: usize, e: u32, marks: &RowMarks) -> bool
     requires { ⌜ IsTables (now t) × (n ≤ ROWS) ⌝ }
-    ensures { λ r. ⌜ ((st : State) (g : List ℕ) → Represents (now (t .entry)) st → n ≡ length (st .rows) → now (marks .entry) ≡ pad false ROWS (marksOf g (st .rows)) → member e (numbers (st .rows)) ≡ true → r ≡ member e g) ⌝ }
+    ensures { λ r. ⌜ TellsMark (now (t .entry)) n e (now (marks .entry)) r ⌝ }
 {
     let Found::At(i) = find::row_among(t, n, e) else {
         return false;
@@ -101,7 +94,7 @@ pub fn is_marked(t: &[u32], n: usize, e: u32, marks: &RowMarks) -> bool
 // Ruled out: a request whose port went stays open; one closes because an item of its list is removed.
 pub fn mark_requests(t: &[u32], n: usize, m: usize, removed: &RowMarks, s: Seed) -> RequestMarks
     requires { ⌜ IsTables (now t) × (n ≤ ROWS) × (m ≤ REQUESTS) ⌝ }
-    ensures { λ r. ⌜ ((st : State) (g : List ℕ) → sound st ≡ true → Represents (now (t .entry)) st → n ≡ length (st .rows) → m ≡ length (st .requests) → now (removed .entry) ≡ pad false ROWS (marksOf g (st .rows)) → r ≡ pad false REQUESTS (tested (closes (closesOf s) g) (st .requests))) ⌝ }
+    ensures { λ r. ⌜ MarksRequests (now (t .entry)) n m (now (removed .entry)) s r ⌝ }
 {
     let mut closed = [false; REQUESTS];
     let mut j = 0;

@@ -18,7 +18,8 @@ use Rattle.tables.proofs.Sound.{Sound}
 use Rattle.tables.proofs.SoundFacts.{row-number, paired-at}
 use Rattle.rows.proofs.RowSources.{end-there}
 use Rattle.closing.specs.Closing.{closes, settled, closing, closeRequest, isEndOf, closePort, isRow, dropRow}
-use Rattle.closing.proofs.Facts.{Stands, end-at}
+use Rattle.closing.specs.contracts.Marks.{Stands}
+use Rattle.closing.proofs.Facts.{end-at}
 use Rattle.closing.proofs.RemovedRows.{Closed, Closable, closable-closed}
 use Rattle.closing.proofs.Lookups.{rows-rise-kept}
 use Rattle.closing.proofs.Processes.{records-fit-kept, records-in-range-kept}

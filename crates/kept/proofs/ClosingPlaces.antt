@@ -24,7 +24,8 @@ use Rattle.tables.proofs.Awaits.{older-listers, awaits-none}
 use Rattle.closing.specs.Closing.{oldestListing, returned, listedIn, leaves, homed, trimmed, remaining, settled}
 use Rattle.rows.specs.Setters.{withPlace, withItems}
 use Rattle.closing.proofs.TrimmedLists.{any-first}
-use Rattle.closing.proofs.Facts.{Stands, IsOpen, end-at, request-number, listed-right}
+use Rattle.closing.specs.contracts.Marks.{Stands}
+use Rattle.closing.proofs.Facts.{IsOpen, end-at, request-number, listed-right}
 use Rattle.closing.proofs.RemovedRows.{Closed}
 use Rattle.closing.proofs.Lookups.{trimmed-lists, all-remaining, returned-keeps, returned-same, oldest-all, returned-place, nothing-returned, row-after, all-left}
 use Rattle.closing.proofs.Processes.{listed-kept, placed-kept}

@@ -23,7 +23,8 @@ use Rattle.tables.proofs.Standing.{source-lower, via-lower}
 use Rattle.rows.specs.Setters.{withPlace, withItems}
 use Rattle.closing.specs.Closing.{returned, listedIn, leaves, homed, trimmed, remaining, settled}
 use Rattle.closing.proofs.TrimmedLists.{any-older, top-member, length-filter}
-use Rattle.closing.proofs.Facts.{Stands, IsOpen, end-right, copy-at, copy-listed, lists-open}
+use Rattle.closing.specs.contracts.Marks.{Stands}
+use Rattle.closing.proofs.Facts.{IsOpen, end-right, copy-at, copy-listed, lists-open}
 use Rattle.closing.proofs.RemovedRows.{Closed}
 use Rattle.closing.proofs.Lookups.{trimmed-lists, remaining-known, remaining-rises, request-after, returned-keeps, row-after, left-stood, all-left, each-left, older-before, older-after}
 use Rattle.closing.proofs.Processes.{listed-kept}

@@ -1,5 +1,6 @@
 // The questions that go back along the sources: does a row come from a request, is it lent; and is an end on loan.
-// "A copy goes when the port under it goes, and a port goes when its operation row goes": row question and port question call each other, and the depth falls.
+// "A copy goes when the port under it goes, and a port goes when its operation row goes":
+// row question and port question call each other, and the depth falls.
 use rows::codes::GREATEST_DEPTH;
 use rows::codes::is_end;
 use rows::find::requests_in;
@@ -12,20 +13,15 @@ use rows::layout::ROWS;
 use rows::layout::SOURCE;
 use rows::layout::VIA;
 ghost use mathlib.Core.Path.{_≡_};
-ghost use mathlib.Core.Bool.{true, _&&_};
-ghost use Prim.Native.Nat.{ℕ, suc, _+_, _<_};
-ghost use lib.Dec.{eqb};
-ghost use lib.ListN.{length, getD};
-ghost use Rattle.rows.specs.Lists.{member, some};
-ghost use Rattle.rows.specs.Tables.{State, onLoan, comesFrom, isLent};
-ghost use Rattle.rows.specs.Sound.{sound};
-ghost use Rattle.rows.specs.Layout.{requestAt, rowSlot};
-ghost use Rattle.rows.specs.contracts.Represents.{Represents};
+ghost use Prim.Native.Nat.{_<_};
+ghost use Rattle.rows.specs.Lists.{member};
+ghost use Rattle.rows.specs.Layout.{requestAt};
+ghost use Rattle.rows.specs.contracts.Sizes.{ROWS, REQUESTS, IsTables};
+ghost use Rattle.questions.specs.contracts.Questions.{OnLoan, Comes, Lent, sourceless};
 ghost use Rattle.questions.specs.contracts.Questions.{Touched, Reaches, ViaReaches, PortReaches};
-ghost use Rattle.rows.specs.contracts.Sizes.{ROWS, REQUESTS, SOURCE, VIA, IsTables};
 
 // the greatest source word: the last slot plus 1
-const LAST_WORD: u32 = 1024;
+const LAST_WORD: u32 = ROWS as u32;
 
 // Whether the request in slot j lists e.
 fn lists_item(t: &[u32], j: usize, e: u32) -> bool
@@ -34,15 +30,16 @@ fn lists_item(t: &[u32], j: usize, e: u32) -> bool
 {
     (e == t[Q_ITEMS + j])
         | (e == t[Q_ITEMS + REQUESTS + j])
-        | (e == t[Q_ITEMS + 256 + j])
-        | (e == t[Q_ITEMS + 384 + j])
+        | (e == t[Q_ITEMS + 2 * REQUESTS + j])
+        | (e == t[Q_ITEMS + 3 * REQUESTS + j])
 }
 
-// Whether an open request lists e. Every list is looked at, with no way out early, so that the loop runs over many words at once.
+// Whether an open request lists e.
+// Every list is looked at, with no way out early, so that the loop runs over many words at once.
 // Ruled out: no, where the last item of the newest request is e; yes, where e is only a request's port.
 pub fn on_loan(t: &[u32], e: u32) -> bool
     requires { ⌜ IsTables (now t) ⌝ }
-    ensures { λ r. ⌜ ((st : State) → Represents (now (t .entry)) st → some e ≡ true → r ≡ onLoan (st .requests) e) ⌝ }
+    ensures { λ r. ⌜ OnLoan (now (t .entry)) e r ⌝ }
 {
     let count = requests_in(t);
     let mut found = false;
@@ -54,7 +51,8 @@ pub fn on_loan(t: &[u32], e: u32) -> bool
     found
 }
 
-// What a question asks of the row in slot i itself: for a request q whether it bears q, for 0 whether it is lent itself.
+// What a question asks of the row in slot i itself:
+// for a request q whether it bears q, for 0 whether it is lent itself.
 fn touched(t: &[u32], i: usize, q: u32) -> bool
     requires { ⌜ IsTables (now t) × (i < ROWS) ⌝ }
     ensures { λ r. ⌜ Touched (now (t .entry)) i q r ⌝ }
@@ -72,8 +70,8 @@ fn touched(t: &[u32], i: usize, q: u32) -> bool
     false
 }
 
-// Whether the row at source word s (its slot plus 1, 0 for none) or a row that it comes from is touched, d steps back at most.
-// It goes along the first sources, and asks of a second source where there is one.
+// Whether the row at source word s (its slot plus 1, 0 for none) or a row that it comes from is touched,
+// d steps back at most. It goes along the first sources, and asks of a second source where there is one.
 // Ruled out: no, where the second source alone is touched; yes for a word 0, where there is no row.
 fn row_question(t: &[u32], s: u32, q: u32, d: u32) -> bool
     requires { ⌜ IsTables (now t) ⌝ }
@@ -101,7 +99,8 @@ fn row_question(t: &[u32], s: u32, q: u32, d: u32) -> bool
     false
 }
 
-// The same of the second source of the row in slot i, d - 1 steps back at most: of a copy it is the port that it was lent over.
+// The same of the second source of the row in slot i, d - 1 steps back at most.
+// Of a copy it is the port that it was lent over.
 // Ruled out: yes, where there is no second source; no, where a copy's port has gone.
 fn via_question(t: &[u32], i: usize, q: u32, d: u32) -> bool
     requires { ⌜ IsTables (now t) × (i < ROWS) × (0 < d) ⌝ }
@@ -143,7 +142,7 @@ fn port_question(t: &[u32], c: u32, q: u32, d: u32) -> bool
 // Ruled out: yes for a row that has one source.
 fn has_no_source(t: &[u32], e: usize) -> bool
     requires { ⌜ IsTables (now t) × (e < ROWS) ⌝ }
-    ensures { λ r. ⌜ r ≡ (eqb (getD (now (t .entry)) (SOURCE + e) 0) 0 && eqb (getD (now (t .entry)) (VIA + e) 0) 0) ⌝ }
+    ensures { λ r. ⌜ r ≡ sourceless (now (t .entry)) e ⌝ }
 {
     (t[SOURCE + e] == 0) & (t[VIA + e] == 0)
 }
@@ -152,7 +151,7 @@ fn has_no_source(t: &[u32], e: usize) -> bool
 // Ruled out: no, where the port under a copy comes from q; the answer for the row in the next slot.
 pub fn comes(t: &[u32], e: usize, q: u32) -> bool
     requires { ⌜ IsTables (now t) × (e < ROWS) ⌝ }
-    ensures { λ r. ⌜ ((st : State) (n : ℕ) → sound st ≡ true → Represents (now (t .entry)) st → rowSlot (st .rows) n ≡ suc e → some q ≡ true → r ≡ comesFrom (st .rows) q n) ⌝ }
+    ensures { λ r. ⌜ Comes (now (t .entry)) e q r ⌝ }
 {
     if t[REQUEST + e] == q {
         return true;
@@ -164,10 +163,11 @@ pub fn comes(t: &[u32], e: usize, q: u32) -> bool
 }
 
 // Whether the row in slot e is lent. A row that has no source says it itself.
-// Ruled out: no, where the oldest of twelve rows in a line is lent; yes, where a row bears no request and no end is on loan.
+// Ruled out: no, where the oldest of twelve rows in a line is lent;
+// yes, where a row bears no request and no end is on loan.
 pub fn lent(t: &[u32], e: usize) -> bool
     requires { ⌜ IsTables (now t) × (e < ROWS) ⌝ }
-    ensures { λ r. ⌜ ((st : State) (n : ℕ) → sound st ≡ true → Represents (now (t .entry)) st → rowSlot (st .rows) n ≡ suc e → r ≡ isLent st n) ⌝ }
+    ensures { λ r. ⌜ Lent (now (t .entry)) e r ⌝ }
 {
     if has_no_source(t, e) {
         return touched(t, e, 0);

@@ -1,22 +1,26 @@
--- Lists and places as the pass over the requests, from the oldest on, leaves them: before the marked rows and requests are removed.
-use Prim.Native.Nat.{ℕ}
-use mathlib.Core.Bool.{Bool, false, not, _&&_, _||_}
+-- Lists and places as the pass over the requests, from the oldest on, leaves them, before what is marked is removed; and what the functions of the pass say.
+use Prim.Native.Nat.{ℕ, _≤_}
+use mathlib.Core.Bool.{Bool, true, false, not, _&&_, _||_}
 use mathlib.Core.List.{List, [], _∷_, _++_, map}
 use mathlib.Core.Path.{_≡_}
+use lib.ListN.{length}
 use Rattle.rows.specs.declared.Row.{Row}
 use Rattle.rows.specs.declared.Request.{Request}
-use Rattle.rows.specs.Lists.{if_then_else_, pad, member, some}
+use Rattle.rows.specs.Lists.{if_then_else_, all, pad, member, some, nonzero}
 use Rattle.rows.specs.Codes.{inClist}
-use Rattle.rows.specs.Tables.{State}
+use Rattle.rows.specs.Tables.{State, numbers}
+use Rattle.rows.specs.Sound.{sound}
+use Rattle.rows.specs.contracts.Sizes.{ROWS, PROCESSES}
 use Rattle.rows.specs.contracts.Represents.{Represents}
 use Rattle.rows.specs.Setters.{withRows, withRequests, withPlace, withItems}
 use Rattle.changes.specs.contracts.Changes.{itemCleared}
 use Rattle.changes.specs.contracts.Marks.{tested}
 use Rattle.closing.specs.Closing.{returned, listedIn, trimmed}
+use Rattle.closing.specs.contracts.Marks.{RowCount, RequestCount, Stands, RowsMarked, RequestsMarked}
 
 -- a mark for each slot, of the row's number
 unfoldable pub slotMarks : (ℕ → Bool) → List Row → List Bool
-slotMarks b rows = pad false 1024 (tested (λ r. b (r .number)) rows)
+slotMarks b rows = pad false ROWS (tested (λ r. b (r .number)) rows)
 
 -- ---- the whole pass
 -- each request that stays open is trimmed, one that closes is as it was
@@ -55,10 +59,57 @@ pub record WentBack (b : ℕ → Bool) (p : ℕ) (is : List ℕ) (st : State) (t
   pub represents : Represents t (itemsBack b p is st)
   pub marks : back ≡ slotMarks (λ n. b n || among is n) (st .rows)
 
--- an item e at place k leaves the list if it passes the test
+-- the item e, at position k, leaves the list if it passes the test
 unfoldable pub itemOut : (ℕ → Bool) → ℕ → ℕ → Request → Request
 itemOut c k e v = if some e && c e then itemCleared k v else v
 
 -- the items that pass the test leave the list
 unfoldable pub itemsOut : (ℕ → Bool) → Request → Request
 itemsOut c v = withItems (map (λ e. if c e then 0 else e) (v .items)) v
+
+-- ---- what the functions say
+-- the marks are at the slots of the rows whose numbers pass the test
+abbrev pub SlotsMarked : List Bool → (ℕ → Bool) → State → Type 0
+SlotsMarked marks b st = marks ≡ slotMarks b (st .rows)
+
+-- the request v is in slot j: the requests new are newer, and old, j of them, are older
+abbrev pub InSlot : ℕ → List Request → Request → List Request → State → Type 0
+InSlot j new v old st = (st .requests ≡ new ++ (v ∷ old)) × (length old ≡ j)
+
+-- every item of the request is the number of a row
+abbrev pub ItemsStand : State → List ℕ → Type 0
+ItemsStand st is = all (λ e. member e (numbers (st .rows))) (nonzero is) ≡ true
+
+-- the rows of the items go to the c-list of p, in words and marks, except those marked, which went back before
+abbrev pub SendsBack : ℕ → ℕ → List ℕ → List ℕ → List Bool → List ℕ → List Bool → Type 0
+SendsBack n p is t back u back′ =
+    (st : State) (b : ℕ → Bool) → Represents t st → RowCount n st → p ≤ PROCESSES → SlotsMarked back b st
+    → WentBack b p is st u back′
+
+-- of the request in slot j the item e, at position k, leaves the list if its row is marked as removed or as gone back
+abbrev pub ItemLeaves : ℕ → ℕ → ℕ → ℕ → List Bool → List Bool → List ℕ → List ℕ → Type 0
+ItemLeaves n j k e removed back t u =
+    (st : State) (g b : ℕ → Bool) (new : List Request) (v : Request) (old : List Request)
+    → Represents t st → RowCount n st → InSlot j new v old st → (some e ≡ true → Stands st e) → SlotsMarked removed g st → SlotsMarked back b st
+    → Represents u (withRequests (new ++ (itemOut (λ n. g n || b n) k e v ∷ old)) st)
+
+-- the same of all items of v, which is in slot j
+abbrev pub ItemsLeave : ℕ → ℕ → Request → List Bool → List Bool → List ℕ → List ℕ → Type 0
+ItemsLeave n j v removed back t u =
+    (st : State) (g b : ℕ → Bool) (new old : List Request)
+    → Represents t st → RowCount n st → InSlot j new v old st → ItemsStand st (v .items) → SlotsMarked removed g st → SlotsMarked back b st
+    → Represents u (withRequests (new ++ (itemsOut (λ n. g n || b n) v ∷ old)) st)
+
+-- once the requests older than the one in slot j are settled, it is too
+abbrev pub SettlesNext : ℕ → ℕ → Bool → List Bool → List ℕ → List Bool → List ℕ → List Bool → Type 0
+SettlesNext n j closes removed t back u back′ =
+    (st : State) (g : List ℕ) (f : Request → Bool) (new : List Request) (v : Request) (old : List Request)
+    → sound st ≡ true → RowCount n st → InSlot j new v old st → closes ≡ f v → RowsMarked removed g st
+    → SettledTo g f (new ++ (v ∷ [])) old st t back → SettledTo g f new (v ∷ old) st u back′
+
+-- if the rows g and the requests that close are marked, the words u are those of the state with its lists settled
+abbrev pub SettlesLists : ℕ → ℕ → List Bool → List Bool → List ℕ → List ℕ → Type 0
+SettlesLists n m removed closed t u =
+    (st : State) (g : List ℕ) (f : Request → Bool)
+    → sound st ≡ true → Represents t st → RowCount n st → RequestCount m st → RowsMarked removed g st → RequestsMarked closed f st
+    → Represents u (listsSettled g f st)

@@ -9,6 +9,7 @@ use Rattle.closing.specs.declared.Seed.{Seed}
 use Rattle.closing.specs.declared.Seed.the-variants.{Bearing, EndsOf, Only}
 use Rattle.closing.specs.Closing.{closing, isEndOf, isRow}
 
+-- the row is a seed
 unfoldable pub seedOf : Seed → Row → Bool
 seedOf (Bearing q) = bears q
 seedOf (EndsOf c) = isEndOf c
@@ -20,6 +21,7 @@ closesOf (Bearing q) = q ∷ []
 closesOf (EndsOf c) = []
 closesOf (Only e) = []
 
+-- the closing from its seeds
 unfoldable pub closingFrom : Seed → State → State
 closingFrom s st = closing (seedOf s) (closesOf s) st
 

@@ -29,19 +29,19 @@ same-length c = search needs
 returns : tie.Need-returns
 unfolding closingFrom closing settled
 returns c =
-    let s = c .before .before .before .before .before .before .before .before .before .before .before .before .before in
-    let counted = c .before .before .before .before .before .before .before .before .before .before .rows-in in
-    let marks = c .before .before .before .before .before .before .before .before .mark-rows in
-    let home = c .before .before .before .before .before .home-all in
-    let out = c .before .before .take-out in (
+    let taken = c .before .before in
+    let homes = taken .before .before .before in
+    let marks = homes .before .before .before in
+    let counted = marks .before .before in
+    let a = counted .before .before .before .args in (
       (λ st sd rep same.
-          let g = marked (seedOf (s .args .s)) (st .rows) in
-          let count = counted .ensures .0 ∙ represented-rows rep in
-          let gone = marks .ensures st rep count in (
-            out .ensures .0 st g sd rep count gone (represented-closed (seedOf (s .args .s)) st (now (s .args .t)) rep),
-            home .ensures st g sd rep count gone same ∙ ap (map (homed g)) (sym same),
+          let g = marked (seedOf (a .s)) (st .rows) in
+          let count = counted .rows-in .ensures .0 ∙ represented-rows rep in
+          let gone = marks .mark-rows .ensures st rep count in (
+            taken .take-out .ensures .0 st g sd rep count gone (represented-closed (seedOf (a .s)) st (now (a .t)) rep),
+            homes .home-all .ensures st g sd rep count gone same ∙ ap (map (homed g)) (sym same),
           )),
-      out .ensures .1,
+      taken .take-out .ensures .1,
     )
 
 pub close-spec : {M : Type 1} → statement M

@@ -30,18 +30,23 @@ same-length c = search needs
 
 returns : tie.Need-returns
 returns c =
-    let s = c .before .before .before .before .before .before .before .before .before .before .before .before .before .before .before .before .before .before .before in
-    let counted = c .before .before .before .before .before .before .before .before .before .before .before .before .before .before .before .before .requests-in in
-    let marks = c .before .before .before .before .before .before .before .before .before .before .before .before .before .before .mark-requests in
-    let lists = c .before .before .before .before .before .before .before .before .before .before .before .settle-lists in
-    let rows = c .before .before .before .before .before .before .before .remove-rows in
-    let requests = c .before .before .remove-requests in (
+    let requests-out = c .before .before in
+    let rows-done = requests-out .before .before .before .before in
+    let rows-out = rows-done .before in
+    let settled = rows-out .before .before .before .before in
+    let marked = settled .before .before .before in
+    let counted = marked .before .before in
+    let a = counted .before .before .before .args in
+    let marks = marked .mark-requests in
+    let lists = settled .settle-lists in
+    let rows = rows-out .remove-rows in
+    let requests = requests-out .remove-requests in (
       (λ st g sd rep count gone under.
-          let f = closes (closesOf (s .args .s)) g in
-          let long = counted .ensures .0 ∙ represented-requests rep in
+          let f = closes (closesOf (a .s)) g in
+          let long = counted .requests-in .ensures .0 ∙ represented-requests rep in
           let ended = marks .ensures st g sd rep count long gone in
-          taken-out (s .args .n) (now (s .args .removed)) (marks .result) (lists .last .0) (rows .last .0) (requests .last .0) (rows .ensures) (requests .ensures) g f (closes-blind (closesOf (s .args .s)) g) st
-          count gone ended under (lists .ensures .0 st g f sd rep count long gone ended)),
+          taken-out (a .n) (now (a .removed)) (marks .result) (lists .last .0) (rows .last .0) (requests .last .0) (rows .ensures) (requests .ensures)
+          g f (closes-blind (closesOf (a .s)) g) st count gone ended under (lists .ensures .0 st g f sd rep count long gone ended)),
       requests .kept .0 ∙ rows .kept .0 ∙ lists .ensures .1,
     )
 

@@ -16,15 +16,19 @@ is-marked-requires c κs = search needs
 
 returns-2 : tie.Need-returns-2
 returns-2 c =
-    let x = c .before .before .before .before .before .args .x in
-    let sm = not-zero (x .through) (ne-eqb (x .through) 0 (c .before .before .if1 .left)) in
-    λ st g rep count gone there. homed-told g x true sm (sym (c .before .is-marked .ensures st g rep count gone (there sm)) ∙ c .if2 .taken)
+    let told = c .before in
+    let inside = told .before in
+    let x = inside .before .before .before .args .x in
+    let sm = not-zero (x .through) (ne-eqb (x .through) 0 (inside .if1 .left)) in
+    λ st g rep count gone there. homed-told g x true sm (sym (told .is-marked .ensures st g rep count gone (there sm)) ∙ c .if2 .taken)
 
 returns-3 : tie.Need-returns-3
 returns-3 c =
-    let x = c .before .before .before .before .before .args .x in
-    let sm = not-zero (x .through) (ne-eqb (x .through) 0 (c .before .before .if1 .left)) in
-    λ st g rep count gone there. homed-told g x false sm (sym (c .before .is-marked .ensures st g rep count gone (there sm)) ∙ c .if2 .left)
+    let told = c .before in
+    let inside = told .before in
+    let x = inside .before .before .before .args .x in
+    let sm = not-zero (x .through) (ne-eqb (x .through) 0 (inside .if1 .left)) in
+    λ st g rep count gone there. homed-told g x false sm (sym (told .is-marked .ensures st g rep count gone (there sm)) ∙ c .if2 .left)
 
 pub home-spec : {M : Type 1} → statement M
 home-spec = tie.close (tie.spec returns is-marked-requires returns-2 returns-3)

@@ -16,8 +16,12 @@ use Rattle.closing.proofs.lists.item_out.Tie as tie
 
 returns : tie.Need-returns
 returns c =
-    let s = c .before .before in
-    ((λ st g b new w old rep count cut slot stands gone back. out-same rep new w old cut (λ n. g n || b n) (s .args .k) (s .args .e) (none-zero (s .args .e) (c .if1 .taken) (g (s .args .e) || b (s .args .e)))), s .pre .0)
+    let start = c .before .before in
+    let a = start .args in (
+      (λ st g b new w old rep count here stands gone back.
+          out-same rep new w old (here .0) (λ n. g n || b n) (a .k) (a .e) (none-zero (a .e) (c .if1 .taken) (g (a .e) || b (a .e)))),
+      start .pre .0,
+    )
 
 row-among-requires : tie.Need-row-among-requires
 row-among-requires c κs = search needs
@@ -33,22 +37,29 @@ same-length c = search needs
 
 returns-2 : tie.Need-returns-2
 returns-2 c =
-    let s = c .before .before .before .before .before .before in
-    let found = c .before .before .row-among in (
-      (λ st g b new w old rep count cut slot stands gone back.
-          let e = s .args .e in
-          let h : some e ≡ true = pos-some e (omega (arith, c .before .before .before .before .if1 .left)) in
-          clash (stands h) (row-none (st .rows) e (found-nothing (rowSlot (st .rows) e) (found .ensures .1 st rep count) (c .enum-told .given .1)))),
-      s .pre .0,
+    let sought = c .before .before in
+    let item = sought .before .before in
+    let start = item .before .before in
+    let e = start .args .e in (
+      (λ st g b new w old rep count here stands gone back.
+          let h : some e ≡ true = pos-some e (omega (arith, item .if1 .left)) in
+          clash (stands h) (row-none (st .rows) e (found-nothing (rowSlot (st .rows) e) (sought .row-among .ensures .1 st rep count) (c .enum-told .given .1)))),
+      start .pre .0,
     )
 
 element-copy-out-if2 : tie.Need-element-copy-out-if2
 element-copy-out-if2 c =
-    omega (arith, at-below (c .before .before .before .before .before .before .before .args .n) (c .before .before .before .row-among .result) (c .before .i .given .0 .0) (c .before .before .before .row-among .ensures .0) (c .before .i .given .1))
+    let found = c .before in
+    let sought = found .before .before in
+    let start = sought .before .before .before .before in
+    omega (arith, at-below (start .args .n) (sought .row-among .result) (found .i .given .0 .0) (sought .row-among .ensures .0) (found .i .given .1))
 
 element-copy-out-if2-2 : tie.Need-element-copy-out-if2-2
 element-copy-out-if2-2 c =
-    omega (arith, at-below (c .before .before .before .before .before .before .before .before .args .n) (c .before .before .before .before .row-among .result) (c .before .before .i .given .0 .0) (c .before .before .before .before .row-among .ensures .0) (c .before .before .i .given .1))
+    let found = c .before .before in
+    let sought = found .before .before in
+    let start = sought .before .before .before .before in
+    omega (arith, at-below (start .args .n) (sought .row-among .result) (found .i .given .0 .0) (sought .row-among .ensures .0) (found .i .given .1))
 
 clear-item-requires : tie.Need-clear-item-requires
 clear-item-requires c κs = search needs
@@ -58,16 +69,19 @@ same-length-2 c = search needs
 
 returns-3 : tie.Need-returns-3
 returns-3 c =
-    let s = c .before .before .before .before .before .before .before .before .before .before .before .before .before .before in
-    let found = c .before .before .before .before .before .before .before .before .before .before .row-among in
     let cleared = c .before .before .clear-item in
-    let i = c .before .before .before .before .before .before .before .before .i .given .0 .0 in (
-      (λ st g b new w old rep count cut slot stands gone back.
-          let e = s .args .e in
-          let at-i : rowSlot (st .rows) e ≡ suc i = found-at (rowSlot (st .rows) e) i (found .ensures .1 st rep count) (c .before .before .before .before .before .before .before .before .i .given .1) in
-          let goes : g e || b e ≡ true = sym (marks-read g b (st .rows) e i at-i (now (s .args .removed)) (now (s .args .back)) gone back) ∙ c .before .before .before .before .if2 .taken in
-          out-now rep new w old cut (λ n. g n || b n) (s .args .k) (s .args .e) (and-i (some e) (g e || b e) (pos-some e (omega (arith, c .before .before .before .before .before .before .before .before .before .before .before .before .if1 .left))) goes) (cleared .last .0)
-          (cleared .ensures .0 st (w .number) rep (slot-here rep new w old cut (s .args .j) slot))),
+    let leaves = c .before .before .before .before in
+    let found = leaves .before .before .before .before in
+    let sought = found .before .before in
+    let item = sought .before .before in
+    let a = item .before .before .args in
+    let e = a .e in
+    let i = found .i .given .0 .0 in (
+      (λ st g b new w old rep count here stands gone back.
+          let at-i : rowSlot (st .rows) e ≡ suc i = found-at (rowSlot (st .rows) e) i (sought .row-among .ensures .1 st rep count) (found .i .given .1) in
+          let goes : g e || b e ≡ true = sym (marks-read g b (st .rows) e i at-i (now (a .removed)) (now (a .back)) gone back) ∙ leaves .if2 .taken in
+          out-now rep new w old (here .0) (λ n. g n || b n) (a .k) e (and-i (some e) (g e || b e) (pos-some e (omega (arith, item .if1 .left))) goes) (cleared .last .0)
+          (cleared .ensures .0 st (w .number) rep (slot-here rep new w old (here .0) (a .j) (here .1)))),
       cleared .ensures .1,
     )
 
@@ -76,15 +90,17 @@ same-length-3 c = search needs
 
 returns-4 : tie.Need-returns-4
 returns-4 c =
-    let s = c .before .before .before .before .before .before .before .before .before .before in
-    let found = c .before .before .before .before .before .before .row-among in
-    let i = c .before .before .before .before .i .given .0 .0 in (
-      (λ st g b new w old rep count cut slot stands gone back.
-          let e = s .args .e in
-          let at-i : rowSlot (st .rows) e ≡ suc i = found-at (rowSlot (st .rows) e) i (found .ensures .1 st rep count) (c .before .before .before .before .i .given .1) in
-          let stays : g e || b e ≡ false = sym (marks-read g b (st .rows) e i at-i (now (s .args .removed)) (now (s .args .back)) gone back) ∙ c .if2 .left in
-          out-same rep new w old cut (λ n. g n || b n) (s .args .k) (s .args .e) (none-passes (some e) (g e || b e) stays)),
-      s .pre .0,
+    let found = c .before .before .before .before in
+    let sought = found .before .before in
+    let start = sought .before .before .before .before in
+    let a = start .args in
+    let e = a .e in
+    let i = found .i .given .0 .0 in (
+      (λ st g b new w old rep count here stands gone back.
+          let at-i : rowSlot (st .rows) e ≡ suc i = found-at (rowSlot (st .rows) e) i (sought .row-among .ensures .1 st rep count) (found .i .given .1) in
+          let stays : g e || b e ≡ false = sym (marks-read g b (st .rows) e i at-i (now (a .removed)) (now (a .back)) gone back) ∙ c .if2 .left in
+          out-same rep new w old (here .0) (λ n. g n || b n) (a .k) e (none-passes (some e) (g e || b e) stays)),
+      start .pre .0,
     )
 
 pub item-out-spec : {M : Type 1} → statement M

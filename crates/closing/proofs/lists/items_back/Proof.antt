@@ -1,30 +1,29 @@
 -- `lists::items_back`: the invariant is that the first k items went back.
 use borrow.Author.Needs.{needs}
-use Prim.Native.Nat.{ℕ, _≤_, _-_}
+use Prim.Native.Nat.{_≤_, _-_}
 use native.Mathlib.Omega.{arith}
-use mathlib.Core.Bool.{Bool, _||_}
+use mathlib.Core.Bool.{_||_}
 use mathlib.Core.Path.{_≡_, sym, _∙_}
 use denote.Ref.{now}
 use lib.ListN.{length, take, length-map}
-use Rattle.rows.specs.Tables.{State}
-use Rattle.rows.specs.contracts.Represents.{Represents}
-use Rattle.closing.specs.contracts.Lists.{slotMarks, among, itemsBack, WentBack}
+use Rattle.rows.specs.contracts.Sizes.{ITEMS, IsTables}
+use Rattle.closing.specs.contracts.Lists.{among, itemsBack, SendsBack}
 use Rattle.closing.proofs.ListsBack.{back-start, back-count, back-marks, back-turn, back-end}
 use Rattle.closing.proofs.lists.items_back.Statement.{statement}
 use Rattle.closing.proofs.lists.items_back.Tie as tie
 
 abbrev Inv-loop : tie.InvT-loop
 Inv-loop t₀ n back₀ items asker k₀ t back k =
-    (k ≤ 4) × (length t ≡ 11265)
-    × ((st : State) (b : ℕ → Bool) → Represents t₀ st → n ≡ length (st .rows) → asker ≤ 64 → back₀ ≡ slotMarks b (st .rows) → WentBack b asker (take k items) st t back)
+    (k ≤ ITEMS) × IsTables t × SendsBack n asker (take k items) t₀ back₀ t back
 
 abbrev μ-loop : tie.MeasureT-loop
-μ-loop t₀ n back₀ items asker k₀ t back k = 4 - k
+μ-loop t₀ n back₀ items asker k₀ t back k = ITEMS - k
 
 loop-holds : tie.Need-loop-holds Inv-loop μ-loop
 loop-holds c =
-    let s = c .before .before in
-    (search needs, s .pre .0, (λ st b rep count few m. back-start b (s .args .v .asker) st (now (s .args .t)) (now (s .args .back)) rep m))
+    let start = c .before .before in
+    let a = start .args in
+    (search needs, start .pre .0, (λ st b rep count few m. back-start b (a .v .asker) st (now (a .t)) (now (a .back)) rep m))
 
 mul-e : tie.Need-mul-e Inv-loop μ-loop
 mul-e c = search needs
@@ -43,18 +42,22 @@ loop-less c = search needs
 
 loop-again : tie.Need-loop-again Inv-loop μ-loop
 loop-again c =
-    let s = c .before .before .before .before .before .before .before .before .before in
-    let l = c .before .before .before .before .before .before .loop in
-    let called = c .before .before .item-back in
-    let v = s .args .v in
-    let four : length (v .items) ≡ 4 = sym (length-map (v .items) (λ x. x)) ∙ s .good .1 .1 .0 .1 .1 .1 .1 .1 .1 .0 .1 .0 .1 in (
+    let sent = c .before .before in
+    let turn = sent .before .before .before in
+    let looped = turn .before in
+    let start = looped .before .before .before in
+    let called = sent .item-back in
+    let l = looped .loop in
+    let v = start .args .v in
+    let done = take (l .k) (v .items) in
+    let four : length (v .items) ≡ ITEMS = sym (length-map (v .items) (λ x. x)) ∙ start .good .1 .1 .0 .1 .1 .1 .1 .1 .1 .0 .1 .0 .1 in (
       search needs,
       called .ensures .1,
       (λ st b rep count few m.
           let w = l .inv .2 st b rep count few m in
-          back-turn b (v .asker) st (v .items) (l .k) (omega (arith, c .before .before .before .before .before .loop-test .taken)) (called .last .0) (called .last .1 .1 .1 .1 .0)
-          (called .ensures .0 (itemsBack b (v .asker) (take (l .k) (v .items)) st) (λ n. b n || among (take (l .k) (v .items)) n) (w .represents)
-          (back-count b (v .asker) st (take (l .k) (v .items)) (s .args .n) count) few (back-marks b (v .asker) st (take (l .k) (v .items)) (l .t) (l .back) w))),
+          back-turn b (v .asker) st (v .items) (l .k) (omega (arith, turn .loop-test .taken)) (called .last .0) (called .last .1 .1 .1 .1 .0)
+          (called .ensures .0 (itemsBack b (v .asker) done st) (λ n. b n || among done n) (w .represents)
+          (back-count b (v .asker) st done (start .args .n) count) few (back-marks b (v .asker) st done (l .t) (l .back) w))),
     )
 
 same-length : tie.Need-same-length Inv-loop μ-loop
@@ -62,11 +65,15 @@ same-length c = search needs
 
 returns : tie.Need-returns Inv-loop μ-loop
 returns c =
-    let s = c .before .before .before .before in
-    let l = c .before .loop in
-    let v = s .args .v in
-    let four : length (v .items) ≡ 4 = sym (length-map (v .items) (λ x. x)) ∙ s .good .1 .1 .0 .1 .1 .1 .1 .1 .1 .0 .1 .0 .1 in
-    ((λ st b rep count few m. back-end b (v .asker) st (v .items) (l .k) (omega (arith, c .loop-test .left)) (l .t) (l .back) (l .inv .2 st b rep count few m)), l .inv .1)
+    let looped = c .before in
+    let start = looped .before .before .before in
+    let l = looped .loop in
+    let v = start .args .v in
+    let four : length (v .items) ≡ ITEMS = sym (length-map (v .items) (λ x. x)) ∙ start .good .1 .1 .0 .1 .1 .1 .1 .1 .1 .0 .1 .0 .1 in (
+      (λ st b rep count few m.
+          back-end b (v .asker) st (v .items) (l .k) (omega (arith, c .loop-test .left)) (l .t) (l .back) (l .inv .2 st b rep count few m)),
+      l .inv .1,
+    )
 
 pub items-back-spec : {M : Type 1} → statement M
 items-back-spec =

@@ -2,34 +2,38 @@
 use borrow.Author.Needs.{needs}
 use Prim.Native.Nat.{ℕ, _≤_, _-_}
 use native.Mathlib.Omega.{arith}
-use mathlib.Core.Bool.{Bool, true, _||_}
-use mathlib.Core.List.{List, _∷_, _++_}
+use mathlib.Core.Bool.{Bool, _||_}
+use mathlib.Core.List.{List}
 use mathlib.Core.Path.{_≡_, refl, sym, _∙_}
 use denote.Ref.{now}
 use lib.ListN.{length, length-map}
 use Rattle.rows.specs.declared.Request.{Request}
-use Rattle.rows.specs.Lists.{all, member, nonzero}
-use Rattle.rows.specs.Tables.{State, numbers}
+use Rattle.rows.specs.Tables.{State}
+use Rattle.rows.specs.contracts.Sizes.{ITEMS, IsTables}
 use Rattle.rows.specs.contracts.Represents.{Represents}
-use Rattle.rows.specs.Setters.{withRequests}
-use Rattle.closing.specs.contracts.Lists.{slotMarks}
+use Rattle.closing.specs.contracts.Marks.{RowCount}
+use Rattle.closing.specs.contracts.Lists.{SlotsMarked, InSlot, ItemsStand}
 use Rattle.closing.proofs.ListsOut.{outTo, outState, item-stands, loop-start, loop-turn, loop-end}
 use Rattle.closing.proofs.lists.items_out.Statement.{statement}
 use Rattle.closing.proofs.lists.items_out.Tie as tie
 
 abbrev Inv-loop : tie.InvT-loop
 Inv-loop t₀ n j removed back items k₀ t k =
-    (k ≤ 4) × (length t ≡ 11265)
-    × ((st : State) (g b : ℕ → Bool) (new : List Request) (v : Request) (old : List Request) → v .items ≡ items → Represents t₀ st → n ≡ length (st .rows) → st .requests ≡ new ++ (v ∷ old) → length old ≡ j
-    → all (λ e. member e (numbers (st .rows))) (nonzero items) ≡ true → removed ≡ slotMarks g (st .rows) → back ≡ slotMarks b (st .rows) → Represents t (outState st new old (λ n. g n || b n) k v))
+    (k ≤ ITEMS) × IsTables t
+    × ((st : State) (g b : ℕ → Bool) (new : List Request) (v : Request) (old : List Request) → v .items ≡ items
+    → Represents t₀ st → RowCount n st → InSlot j new v old st → ItemsStand st items → SlotsMarked removed g st → SlotsMarked back b st
+    → Represents t (outState st new old (λ n. g n || b n) k v))
 
 abbrev μ-loop : tie.MeasureT-loop
-μ-loop t₀ n j removed back items k₀ t k = 4 - k
+μ-loop t₀ n j removed back items k₀ t k = ITEMS - k
 
 loop-holds : tie.Need-loop-holds Inv-loop μ-loop
 loop-holds c =
-    let s = c .before .before in
-    (search needs, s .pre .0, (λ st g b new v old e rep count cut slot stand gone back. loop-start st new old (λ n. g n || b n) v (now (s .args .t)) rep cut))
+    let start = c .before .before in (
+      search needs,
+      start .pre .0,
+      (λ st g b new v old e rep count here stand gone back. loop-start st new old (λ n. g n || b n) v (now (start .args .t)) rep (here .0)),
+    )
 
 mul-e : tie.Need-mul-e Inv-loop μ-loop
 mul-e c = search needs
@@ -48,16 +52,21 @@ loop-less c = search needs
 
 loop-again : tie.Need-loop-again Inv-loop μ-loop
 loop-again c =
-    let s = c .before .before .before .before .before .before .before .before in
-    let l = c .before .before .before .before .before .loop in
-    let called = c .before .before .item-out in
-    let four : length (s .args .v .items) ≡ 4 = sym (length-map (s .args .v .items) (λ x. x)) ∙ s .good .1 .1 .1 .0 .1 .1 .1 .1 .1 .1 .0 .1 .0 .1 in (
+    let out = c .before .before in
+    let turn = out .before .before in
+    let looped = turn .before in
+    let start = looped .before .before .before in
+    let called = out .item-out in
+    let l = looped .loop in
+    let items = start .args .v .items in
+    let four : length items ≡ ITEMS = sym (length-map items (λ x. x)) ∙ start .good .1 .1 .1 .0 .1 .1 .1 .1 .1 .1 .0 .1 .0 .1 in (
       search needs,
       called .ensures .1,
-      (λ st g b new v old e rep count cut slot stand gone back.
-          loop-turn st new old (λ n. g n || b n) (l .k) v (s .args .v .items) e (called .last .0)
-          (called .ensures .0 (outState st new old (λ n. g n || b n) (l .k) v) g b new (outTo (λ n. g n || b n) (l .k) v) old (l .inv .2 st g b new v old e rep count cut slot stand gone back) count refl slot
-          (item-stands (st .rows) (s .args .v .items) (l .k) (omega (arith, c .before .before .before .before .loop-test .taken)) stand) gone back)),
+      (λ st g b new v old e rep count here stand gone back.
+          loop-turn st new old (λ n. g n || b n) (l .k) v items e (called .last .0)
+          (called .ensures .0 (outState st new old (λ n. g n || b n) (l .k) v) g b new (outTo (λ n. g n || b n) (l .k) v) old
+          (l .inv .2 st g b new v old e rep count here stand gone back) count (refl, here .1)
+          (item-stands st items (l .k) (omega (arith, turn .loop-test .taken)) stand) gone back)),
     )
 
 same-length : tie.Need-same-length Inv-loop μ-loop
@@ -65,11 +74,14 @@ same-length c = search needs
 
 returns : tie.Need-returns Inv-loop μ-loop
 returns c =
-    let s = c .before .before .before .before in
-    let l = c .before .loop in
-    let four : length (s .args .v .items) ≡ 4 = sym (length-map (s .args .v .items) (λ x. x)) ∙ s .good .1 .1 .1 .0 .1 .1 .1 .1 .1 .1 .0 .1 .0 .1 in (
-      (λ st g b new old rep count cut slot stand gone back.
-          loop-end st new old (λ n. g n || b n) (l .k) (s .args .v) (omega (arith, c .loop-test .left)) (l .t) (l .inv .2 st g b new (s .args .v) old refl rep count cut slot stand gone back)),
+    let looped = c .before in
+    let start = looped .before .before .before in
+    let l = looped .loop in
+    let v = start .args .v in
+    let four : length (v .items) ≡ ITEMS = sym (length-map (v .items) (λ x. x)) ∙ start .good .1 .1 .1 .0 .1 .1 .1 .1 .1 .1 .0 .1 .0 .1 in (
+      (λ st g b new old rep count here stand gone back.
+          loop-end st new old (λ n. g n || b n) (l .k) v (omega (arith, c .loop-test .left)) (l .t)
+          (l .inv .2 st g b new v old refl rep count here stand gone back)),
       l .inv .1,
     )
 

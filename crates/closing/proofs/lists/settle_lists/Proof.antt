@@ -2,32 +2,31 @@
 use borrow.Author.Needs.{needs}
 use Prim.Native.Nat.{ℕ, _≤_, _-_}
 use native.Mathlib.Omega.{arith}
-use mathlib.Core.Bool.{Bool, true, false}
+use mathlib.Core.Bool.{Bool, true}
 use mathlib.Core.List.{List}
 use mathlib.Core.Path.{_≡_, refl}
 use denote.Ref.{now}
-use lib.ListN.{length}
 use Rattle.rows.specs.declared.Request.{Request}
-use Rattle.rows.specs.Lists.{pad}
 use Rattle.rows.specs.Tables.{State}
 use Rattle.rows.specs.Sound.{sound}
+use Rattle.rows.specs.contracts.Sizes.{ROWS, IsTables}
 use Rattle.rows.specs.contracts.Represents.{Represents}
-use Rattle.changes.specs.contracts.Marks.{tested, marksOf}
+use Rattle.closing.specs.contracts.Marks.{RowCount, RequestCount, RowsMarked, RequestsMarked}
 use Rattle.closing.proofs.ListsPass.{Done, done-start, done-turn, done-end, closes-at}
 use Rattle.closing.proofs.lists.settle_lists.Statement.{statement}
 use Rattle.closing.proofs.lists.settle_lists.Tie as tie
 
 abbrev Inv-loop : tie.InvT-loop
 Inv-loop t₀ n m removed closed back₀ j₀ t back j =
-    (j ≤ m) × (length t ≡ 11265)
-    × ((st : State) (g : List ℕ) (f : Request → Bool) → sound st ≡ true → Represents t₀ st → n ≡ length (st .rows) → m ≡ length (st .requests) → removed ≡ pad false 1024 (marksOf g (st .rows))
-    → closed ≡ pad false 128 (tested f (st .requests)) → Done g f st j t back)
+    (j ≤ m) × IsTables t
+    × ((st : State) (g : List ℕ) (f : Request → Bool) → sound st ≡ true → Represents t₀ st → RowCount n st → RequestCount m st
+    → RowsMarked removed g st → RequestsMarked closed f st → Done g f st j t back)
 
 abbrev μ-loop : tie.MeasureT-loop
 μ-loop t₀ n m removed closed back₀ j₀ t back j = m - j
 
 loop-holds : tie.Need-loop-holds Inv-loop μ-loop
-loop-holds c = (search needs, search needs, (λ st g f sd rep count long gone closes. done-start g f st (now (c .before .args .t)) rep 1024 refl))
+loop-holds c = (search needs, search needs, (λ st g f sd rep count long gone closes. done-start g f st (now (c .before .args .t)) rep ROWS refl))
 
 element-copy-out-closes : tie.Need-element-copy-out-closes Inv-loop μ-loop
 element-copy-out-closes c = search needs
@@ -43,14 +42,17 @@ loop-less c = search needs
 
 loop-again : tie.Need-loop-again Inv-loop μ-loop
 loop-again c =
-    let s = c .before .before .before .before .before .before .before .before .before in
-    let l = c .before .before .before .before .before .before .before .loop in
-    let called = c .before .before .settle-request in (
+    let settled = c .before .before in
+    let turn = settled .before .before .before .before in
+    let looped = turn .before in
+    let a = looped .before .before .args in
+    let called = settled .settle-request in
+    let l = looped .loop in (
       search needs,
       called .ensures .1,
       (λ st g f sd rep count long gone closes.
           done-turn g f st (l .j) (l .t) (called .last .0) (l .back) (called .last .1 .1 .1 .1 .1 .0) (l .inv .2 st g f sd rep count long gone closes)
-          (λ new v old cut slot. called .ensures .0 st g f new v old sd count cut slot (closes-at g f st (now (s .args .closed)) closes new v old cut (l .j) slot) gone)),
+          (λ new v old here. called .ensures .0 st g f new v old sd count here (closes-at g f st (now (a .closed)) closes new v old (l .j) here) gone)),
     )
 
 same-length : tie.Need-same-length Inv-loop μ-loop
@@ -59,7 +61,8 @@ same-length c = search needs
 returns : tie.Need-returns Inv-loop μ-loop
 returns c =
     let l = c .before .loop in (
-      (λ st g f sd rep count long gone closes. done-end g f st (l .j) (l .t) (l .back) (omega (arith, c .loop-test .left, l .inv .0)) (l .inv .2 st g f sd rep count long gone closes)),
+      (λ st g f sd rep count long gone closes.
+          done-end g f st (l .j) (l .t) (l .back) (omega (arith, c .loop-test .left, l .inv .0)) (l .inv .2 st g f sd rep count long gone closes)),
       l .inv .1,
     )
 

@@ -20,11 +20,13 @@ same-length c = search needs
 
 returns : tie.Need-returns
 returns c =
-    let s = c .before .before .before .before .before .before .before .before .before in
-    let read = c .before .before .before .before .before .before .request-at in
-    let called = c .before .before .items-back in (
-      (λ st g f new v old sd count cut slot closes gone done.
-          closed-done st sd g f new v old cut (s .args .n) (s .args .j) count slot (now (s .args .t)) (now (s .args .back)) done (read .result) (read .ensures) (sym closes ∙ c .before .before .before .before .before .if1 .taken)
+    let back = c .before .before in
+    let called = back .items-back in
+    let closing = back .before .before .before in
+    let read = closing .before .request-at in
+    let a = closing .before .before .before .before .args in (
+      (λ st g f new v old sd count here closes gone done.
+          closed-done st sd g f new v old (a .n) (a .j) count here (now (a .t)) (now (a .back)) done (read .result) (read .ensures) (sym closes ∙ closing .if1 .taken)
           (called .last .0) (called .last .1 .1 .1 .0) (called .ensures .0)),
       called .ensures .1,
     )
@@ -34,12 +36,14 @@ same-length-2 c = search needs
 
 returns-2 : tie.Need-returns-2
 returns-2 c =
-    let s = c .before .before .before .before .before .before .before .before .before in
-    let read = c .before .before .before .before .before .before .request-at in
-    let called = c .before .before .items-out in (
-      (λ st g f new v old sd count cut slot closes gone done.
-          open-done st sd g f new v old cut (s .args .n) (s .args .j) count slot (now (s .args .t)) (now (s .args .back)) done (read .result) (read .ensures) (sym closes ∙ c .before .before .before .before .before .if1 .left)
-          (now (s .args .removed)) gone (called .last .0) (called .ensures .0)),
+    let out = c .before .before in
+    let called = out .items-out in
+    let stays = out .before .before .before in
+    let read = stays .before .request-at in
+    let a = stays .before .before .before .before .args in (
+      (λ st g f new v old sd count here closes gone done.
+          open-done st sd g f new v old (a .n) (a .j) count here (now (a .t)) (now (a .back)) done (read .result) (read .ensures) (sym closes ∙ stays .if1 .left)
+          (now (a .removed)) gone (called .last .0) (called .ensures .0)),
       called .ensures .1,
     )
 

@@ -14,7 +14,10 @@ enum-told-2 : tie.Need-enum-told-2
 enum-told-2 c = search needs
 
 returns : tie.Need-returns
-returns c = let a = c .before .before .before .args in first-bearing (a .s) (a .number) (c .before .s .given .0 .0) (c .before .s .given .1)
+returns c =
+    let bearing = c .before in
+    let a = bearing .before .before .args in
+    first-bearing (a .s) (a .number) (bearing .s .given .0 .0) (bearing .s .given .1)
 
 returns-2 : tie.Need-returns-2
 returns-2 c = let a = c .before .before .args in first-end (a .s) (a .number) (c .enum-told .given .0 .0) (c .enum-told .given .1)

@@ -21,18 +21,24 @@ returns : tie.Need-returns
 returns c =
     let a = c .before .before .before .before .args in
     let found = c .before .before .row-among in
-    λ st g rep count marked there. unmarked-absent st g (a .e) there (found-nothing (rowSlot (st .rows) (a .e)) (found .ensures .1 st rep count) (c .enum-told .given .1))
+    λ st g rep count marked there.
+    unmarked-absent st g (a .e) there (found-nothing (rowSlot (st .rows) (a .e)) (found .ensures .1 st rep count) (c .enum-told .given .1))
 
 element-copy-out-result : tie.Need-element-copy-out-result
 element-copy-out-result c =
-    omega (arith, at-below (c .before .before .before .before .before .args .n) (c .before .before .before .row-among .result) (c .before .i .given .0 .0) (c .before .before .before .row-among .ensures .0) (c .before .i .given .1))
+    let found = c .before in
+    let sought = found .before .before in
+    let start = sought .before .before in
+    omega (arith, at-below (start .args .n) (sought .row-among .result) (found .i .given .0 .0) (sought .row-among .ensures .0) (found .i .given .1))
 
 returns-2 : tie.Need-returns-2
 returns-2 c =
-    let a = c .before .before .before .before .before .before .args in
-    let found = c .before .before .before .before .row-among in
-    let i = c .before .before .i .given .0 .0 in
-    λ st g rep count marked there. marked-found st g (a .e) (now (a .marks)) marked i (found-at (rowSlot (st .rows) (a .e)) i (found .ensures .1 st rep count) (c .before .before .i .given .1))
+    let found = c .before .before in
+    let sought = found .before .before in
+    let a = sought .before .before .args in
+    let i = found .i .given .0 .0 in
+    λ st g rep count marked there.
+    marked-found st g (a .e) (now (a .marks)) marked i (found-at (rowSlot (st .rows) (a .e)) i (sought .row-among .ensures .1 st rep count) (found .i .given .1))
 
 pub is-marked-spec : {M : Type 1} → statement M
 is-marked-spec =

@@ -6,7 +6,7 @@ use Prim.Native.Nat.{_+_}
 use denote.Ref.{now}
 use lib.Dec.{eqb}
 use lib.ListN.{getD}
-use Rattle.closing.proofs.MarksRows.{seed-bearing, seed-end, seed-row}
+use Rattle.closing.proofs.MarksRows.{OBJECT, seed-bearing, seed-end, seed-row}
 use Rattle.closing.proofs.marks.is_seed.Statement.{statement}
 use Rattle.closing.proofs.marks.is_seed.Tie as tie
 
@@ -60,20 +60,23 @@ shared-slice-read-result-3 c = search needs
 
 returns : tie.Need-returns
 returns c =
-    let a = c .before .before .before .before .before .args in
-    seed-bearing (now (a .t)) (a .i) (a .s) (c .before .before .s .given .0 .0) (c .before .before .s .given .1)
+    let bearing = c .before .before in
+    let a = bearing .before .before .before .args in
+    seed-bearing (now (a .t)) (a .i) (a .s) (bearing .s .given .0 .0) (bearing .s .given .1)
 
 returns-2 : tie.Need-returns-2
 returns-2 c =
-    let a = c .before .before .before .before .before .before .before .args in
-    let port = c .before .before .before .before .s2 .given .0 .0 in
-    ap (λ (b : Bool). b && eqb (getD (now (a .t)) (2048 + a .i) 0) port) (c .before .is-end .ensures)
-    ∙ seed-end (now (a .t)) (a .i) (a .s) port (c .before .before .before .before .s2 .given .1)
+    let ends = c .before .before .before .before in
+    let a = ends .before .before .before .args in
+    let port = ends .s2 .given .0 .0 in
+    ap (λ (b : Bool). b && eqb (getD (now (a .t)) (OBJECT + a .i) 0) port) (c .before .is-end .ensures)
+    ∙ seed-end (now (a .t)) (a .i) (a .s) port (ends .s2 .given .1)
 
 returns-3 : tie.Need-returns-3
 returns-3 c =
-    let a = c .before .before .before .before .before .args in
-    seed-row (now (a .t)) (a .i) (a .s) (c .before .before .s3 .given .0 .0) (c .before .before .s3 .given .1)
+    let row = c .before .before in
+    let a = row .before .before .before .args in
+    seed-row (now (a .t)) (a .i) (a .s) (row .s3 .given .0 .0) (row .s3 .given .1)
 
 pub is-seed-spec : {M : Type 1} → statement M
 is-seed-spec =

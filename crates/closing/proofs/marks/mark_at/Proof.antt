@@ -20,7 +20,10 @@ shared-slice-read-result : tie.Need-shared-slice-read-result
 shared-slice-read-result c = search needs
 
 returns-3 : tie.Need-returns-3
-returns-3 c = let a = c .before .before .before .args in mark-within (now (a .marks)) (a .s) (c .before .before .if1 .left)
+returns-3 c =
+    let some-word = c .before .before in
+    let a = some-word .before .args in
+    mark-within (now (a .marks)) (a .s) (some-word .if1 .left)
 
 pub mark-at-spec : {M : Type 1} → statement M
 mark-at-spec = tie.close (tie.spec returns returns-2 sub-result shared-slice-read-result returns-3)

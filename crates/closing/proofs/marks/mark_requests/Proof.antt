@@ -2,17 +2,16 @@
 use borrow.Author.Needs.{needs}
 use Prim.Native.Nat.{ℕ, _≤_, _-_}
 use native.Mathlib.Omega.{arith}
-use mathlib.Core.Bool.{true, false, _||_}
+use mathlib.Core.Bool.{true, _||_}
 use mathlib.Core.List.{List}
 use mathlib.Core.Path.{_≡_}
-use lib.ListN.{length}
-use Rattle.rows.specs.Lists.{pad}
 use Rattle.rows.specs.Tables.{State}
 use Rattle.rows.specs.Sound.{sound}
+use Rattle.rows.specs.contracts.Sizes.{REQUESTS}
 use Rattle.rows.specs.contracts.Represents.{Represents}
-use Rattle.changes.specs.contracts.Marks.{marksOf}
 use Rattle.closing.specs.Closing.{closes}
 use Rattle.closing.specs.contracts.Seeds.{closesOf}
+use Rattle.closing.specs.contracts.Marks.{RowCount, RequestCount, RowsMarked}
 use Rattle.closing.proofs.MarksPass.{MarkedTo, marked-start, marked-turn, marked-end}
 use Rattle.closing.proofs.MarksRequests.{request-marked}
 use Rattle.closing.proofs.marks.mark_requests.Statement.{statement}
@@ -21,14 +20,14 @@ use Rattle.closing.proofs.marks.mark_requests.Tie as tie
 abbrev Inv-loop : tie.InvT-loop
 Inv-loop t n m removed s closed₀ j₀ closed j =
     (j ≤ m)
-    × ((st : State) (g : List ℕ) → sound st ≡ true → Represents t st → n ≡ length (st .rows) → m ≡ length (st .requests) → removed ≡ pad false 1024 (marksOf g (st .rows))
-    → MarkedTo (closes (closesOf s) g) 128 (st .requests) j closed)
+    × ((st : State) (g : List ℕ) → sound st ≡ true → Represents t st → RowCount n st → RequestCount m st → RowsMarked removed g st
+    → MarkedTo (closes (closesOf s) g) REQUESTS (st .requests) j closed)
 
 abbrev μ-loop : tie.MeasureT-loop
 μ-loop t n m removed s closed₀ j₀ closed j = m - j
 
 loop-holds : tie.Need-loop-holds Inv-loop μ-loop
-loop-holds c = (search needs, (λ st g sd rep count long gone. marked-start (closes (closesOf (c .before .args .s)) g) 128 (st .requests)))
+loop-holds c = (search needs, (λ st g sd rep count long gone. marked-start (closes (closesOf (c .before .args .s)) g) REQUESTS (st .requests)))
 
 add-closes-first : tie.Need-add-closes-first Inv-loop μ-loop
 add-closes-first c = search needs
@@ -65,15 +64,20 @@ loop-less c = search needs
 
 loop-again : tie.Need-loop-again Inv-loop μ-loop
 loop-again c =
-    let s = c .before .before .before .before .before .before .before in
-    let l = c .before .before .before .before .before .loop in
-    let first = c .before .before .closes-first in
+    let asked = c .before .before in
+    let turn = asked .before .before in
+    let looped = turn .before in
+    let start = looped .before .before in
+    let l = looped .loop in
+    let qs = closesOf (start .args .s) in
+    let first = asked .closes-first in
     let port = c .is-marked in (
       search needs,
       (λ st g sd rep count long gone.
-          marked-turn (closes (closesOf (s .args .s)) g) 128 (st .requests) (l .j) (l .closed) (first .result || port .result) (omega (arith, c .before .before .before .before .loop-test .taken, s .pre .2))
+          marked-turn (closes qs g) REQUESTS (st .requests) (l .j) (l .closed) (first .result || port .result) (omega (arith, turn .loop-test .taken, start .pre .2))
           (l .inv .1 st g sd rep count long gone)
-          (λ new v old cut slot so-far. request-marked rep sd new v old cut (closesOf (s .args .s)) g (l .j) slot (first .result) (port .result) (first .ensures) (port .ensures st g rep count gone))),
+          (λ new v old cut slot so-far.
+          request-marked rep sd new v old (cut, slot) qs g (first .result) (port .result) (first .ensures) (port .ensures st g rep count gone))),
     )
 
 returns : tie.Need-returns Inv-loop μ-loop
@@ -81,7 +85,8 @@ returns c =
     let l = c .before .loop in
     let s = c .before .before .before in
     λ st g sd rep count long gone.
-    marked-end (closes (closesOf (s .args .s)) g) 128 (st .requests) (l .j) (l .closed) (omega (arith, c .loop-test .left, l .inv .0)) (l .inv .1 st g sd rep count long gone)
+    marked-end (closes (closesOf (s .args .s)) g) REQUESTS (st .requests) (l .j) (l .closed) (omega (arith, c .loop-test .left, l .inv .0))
+    (l .inv .1 st g sd rep count long gone)
 
 pub mark-requests-spec : {M : Type 1} → statement M
 mark-requests-spec =

@@ -5,7 +5,9 @@ use native.Mathlib.Omega.{arith}
 use mathlib.Core.Path.{_≡_}
 use lib.ListN.{length}
 use Rattle.rows.specs.Tables.{State}
+use Rattle.rows.specs.contracts.Sizes.{ROWS}
 use Rattle.rows.specs.contracts.Represents.{Represents}
+use Rattle.closing.specs.contracts.Marks.{RowCount}
 use Rattle.closing.proofs.MarksPass.{MarkedTo, marked-start}
 use Rattle.closing.proofs.MarksRows.{Gone, rows-turn, rows-end}
 use Rattle.closing.proofs.marks.mark_rows.Statement.{statement}
@@ -13,13 +15,13 @@ use Rattle.closing.proofs.marks.mark_rows.Tie as tie
 
 abbrev Inv-loop : tie.InvT-loop
 Inv-loop t n s removed₀ i₀ removed i =
-    (i ≤ n) × (length removed ≡ 1024) × ((st : State) (rep : Represents t st) → n ≡ length (st .rows) → MarkedTo (Gone rep s) 1024 (st .rows) i removed)
+    (i ≤ n) × (length removed ≡ ROWS) × ((st : State) (rep : Represents t st) → RowCount n st → MarkedTo (Gone rep s) ROWS (st .rows) i removed)
 
 abbrev μ-loop : tie.MeasureT-loop
 μ-loop t n s removed₀ i₀ removed i = n - i
 
 loop-holds : tie.Need-loop-holds Inv-loop μ-loop
-loop-holds c = (search needs, search needs, (λ st rep count. marked-start (Gone rep (c .before .args .s)) 1024 (st .rows)))
+loop-holds c = (search needs, search needs, (λ st rep count. marked-start (Gone rep (c .before .args .s)) ROWS (st .rows)))
 
 is-seed-requires : tie.Need-is-seed-requires Inv-loop μ-loop
 is-seed-requires c κs = search needs
@@ -65,22 +67,27 @@ loop-less c = search needs
 
 loop-again : tie.Need-loop-again Inv-loop μ-loop
 loop-again c =
-    let s = c .before .before .before .before .before .before .before .before .before .before in
-    let l = c .before .before .before .before .before .before .before .before .loop in
-    let seed = c .before .before .before .before .before .before .is-seed in
-    let source = c .before .before .before .mark-at in
+    let by-source = c .before .before .before in
+    let as-seed = by-source .before .before .before in
+    let turn = as-seed .before in
+    let looped = turn .before in
+    let start = looped .before .before in
+    let l = looped .loop in
+    let seed = as-seed .is-seed in
+    let source = by-source .mark-at in
     let via = c .mark-at2 in (
       search needs,
       search needs,
       (λ st rep count.
-          rows-turn rep (s .args .s) (l .i) (l .removed) (seed .result) (source .result) (via .result) (omega (arith, c .before .before .before .before .before .before .before .loop-test .taken, s .pre .1))
+          rows-turn rep (start .args .s) (l .i) (l .removed) (seed .result) (source .result) (via .result) (omega (arith, turn .loop-test .taken, start .pre .1))
           (l .inv .2 st rep count) (seed .ensures) (source .ensures) (via .ensures)),
     )
 
 returns : tie.Need-returns Inv-loop μ-loop
 returns c =
     let l = c .before .loop in
-    λ st rep count. rows-end rep (c .before .before .before .args .s) (l .i) (l .removed) (omega (arith, c .loop-test .left, l .inv .0)) (l .inv .2 st rep count)
+    λ st rep count.
+    rows-end rep (c .before .before .before .args .s) (l .i) (l .removed) (omega (arith, c .loop-test .left, l .inv .0)) (l .inv .2 st rep count)
 
 pub mark-rows-spec : {M : Type 1} → statement M
 mark-rows-spec =

@@ -1,4 +1,4 @@
--- `question::row_question`, `question::via_question` and `question::port_question` meet their contracts: one proof for the cycle, whose measure is twice the depth.
+-- `question::row_question`, `via_question` and `port_question` meet their contracts: one proof for the cycle, whose measure is twice the depth.
 use borrow.Author.Needs.{needs}
 use Prim.Native.Nat.{ℕ, _+_, _-_, _<_, _≤_}
 use native.Mathlib.Omega.{arith}
@@ -94,16 +94,23 @@ pub +port-question+row-question+via-question-spec : {M : Type 1} → statement M
     (λ c. search needs)
     (λ c κs. search needs)
     (λ c.
-    let a = c .before .before .before .before .before .before .args in
-    row-port (now (a .t)) (a .c) (a .q) (a .d) true (question-touched (now (a .t)) (a .c - 1) (a .q) (a .d) (a .c) (omega arith) (rw (c .if4 .taken) at (c .before .touched .ensures))))
+    let asked = c .before in
+    let steps-left = asked .before .before in
+    let a = steps-left .before .before .before .args in
+    let own = rw (c .if4 .taken) at (asked .touched .ensures) in
+    row-port (now (a .t)) (a .c) (a .q) (a .d) true (question-touched (now (a .t)) (a .c - 1) (a .q) (a .d) (a .c) (omega arith) own))
     (λ c. search needs)
     (λ c. search needs)
     (λ c. search needs)
     (λ c. search needs)
     (λ c κs. search needs)
     (λ c.
-    let a = c .before .before .before .before .before .before .before .before .args in
-    port-source (now (a .t)) (a .c - 1) (a .q) (a .d) (a .c) (omega arith) (rw (c .before .before .if4 .left) at (c .before .before .before .touched .ensures)) _ (c .row-question .ensures)))
+    let untouched = c .before .before in
+    let asked = untouched .before in
+    let steps-left = asked .before .before in
+    let a = steps-left .before .before .before .args in
+    let own = rw (untouched .if4 .left) at (asked .touched .ensures) in
+    port-source (now (a .t)) (a .c - 1) (a .q) (a .d) (a .c) (omega arith) own _ (c .row-question .ensures)))
     (λ t. row-question-lts.spec (
       touched-reads.Asked,
       touched-reads.Learnt,
@@ -127,28 +134,39 @@ pub +port-question+row-question+via-question-spec : {M : Type 1} → statement M
     (λ c. search needs)
     (λ c κs. search needs)
     (λ c.
-    let b = c .before .before .before .before .before in
-    let a = b .before .before .args in
-    let own = rw (c .if3 .taken) at (c .before .touched .ensures) in
-    b .loop .inv .1 true (question-touched (now (a .t)) (b .loop .word - 1) (a .q) (b .loop .left) (b .loop .word) (omega arith) own))
+    let asked = c .before in
+    let looped = asked .before .before .before .before in
+    let a = looped .before .before .args in
+    let l = looped .loop in
+    let own = rw (c .if3 .taken) at (asked .touched .ensures) in
+    l .inv .1 true (question-touched (now (a .t)) (l .word - 1) (a .q) (l .left) (l .word) (omega arith) own))
     (λ c κs. search needs)
     (λ c.
-    let b = c .before .before .before .before .before .before .before in
-    let a = b .before .before .args in
-    let own = rw (c .before .before .if3 .left) at (c .before .before .before .touched .ensures) in
-    let second = rw (c .if4 .taken) at (c .before .via-question .ensures) in
-    b .loop .inv .1 true (question-via (now (a .t)) (b .loop .word - 1) (a .q) (b .loop .left) (b .loop .word) (omega arith) own second))
+    let answered = c .before in
+    let untouched = answered .before in
+    let asked = untouched .before in
+    let looped = asked .before .before .before .before in
+    let a = looped .before .before .args in
+    let l = looped .loop in
+    let own = rw (untouched .if3 .left) at (asked .touched .ensures) in
+    let second = rw (c .if4 .taken) at (answered .via-question .ensures) in
+    l .inv .1 true (question-via (now (a .t)) (l .word - 1) (a .q) (l .left) (l .word) (omega arith) own second))
     (λ c. search needs)
     (λ c. search needs)
     (λ c. search needs)
     (λ c. search needs)
     (λ c. search needs)
     (λ c.
-    let b = c .before .before .before .before .before .before .before .before in
-    let a = b .before .before .args in
-    let own = rw (c .before .before .before .if3 .left) at (c .before .before .before .before .touched .ensures) in
-    let second = rw (c .before .if4 .left) at (c .before .before .via-question .ensures) in
-    (omega arith, λ r h. b .loop .inv .1 r (question-source (now (a .t)) (b .loop .word - 1) (a .q) (b .loop .left) (b .loop .word) (omega arith) own second r h)))
+    let no-via = c .before in
+    let answered = no-via .before in
+    let untouched = answered .before in
+    let asked = untouched .before in
+    let looped = asked .before .before .before .before in
+    let a = looped .before .before .args in
+    let l = looped .loop in
+    let own = rw (untouched .if3 .left) at (asked .touched .ensures) in
+    let second = rw (no-via .if4 .left) at (answered .via-question .ensures) in
+    (omega arith, λ r h. l .inv .1 r (question-source (now (a .t)) (l .word - 1) (a .q) (l .left) (l .word) (omega arith) own second r h)))
     (λ c.
     let b = c .before in
     let a = b .before .before .args in
@@ -169,10 +187,13 @@ pub +port-question+row-question+via-question-spec : {M : Type 1} → statement M
     (λ c. search needs)
     (λ c κs. search needs)
     (λ c.
-    let a = c .before .before .before .before .before .before .args in
+    let unborne = c .before .before in
+    let a = unborne .before .before .before .before .args in
     via-row (now (a .t)) (a .i) (a .q) (a .d) _ (c .row-question .ensures))
     (λ c. search needs)
     (λ c κs. search needs)
     (λ c.
-    let a = c .before .before .before .before .before .before .args in
-    via-port (now (a .t)) (a .i) (a .q) (a .d) (c .before .if2 .left) _ (c .port-question .ensures))
+    let borne = c .before in
+    let some-via = borne .before in
+    let a = some-via .before .before .before .before .args in
+    via-port (now (a .t)) (a .i) (a .q) (a .d) (borne .if2 .left) _ (c .port-question .ensures))

@@ -15,11 +15,13 @@ returns-2 : tie.Need-returns-2
 returns-2 c =
     let b = c .before .before in
     let a = b .before .before .before .args in
-    λ st n so rep at pos. comes-first (now (a .t)) (a .e) st n so rep at (a .q) pos (b .if1 .left) (sym (c .before .has-no-source .ensures) ∙ c .if2 .taken)
+    λ st n so rep at pos.
+    comes-first (now (a .t)) (a .e) st n so rep at (a .q) pos (b .if1 .left) (sym (c .before .has-no-source .ensures) ∙ c .if2 .taken)
 
 returns-3 : tie.Need-returns-3
 returns-3 c =
-    let a = c .before .before .before .before .before .before .args in
+    let has-source = c .before .before in
+    let a = has-source .before .before .before .before .args in
     λ st n so rep at pos. comes-answer (now (a .t)) (a .e) st n so rep at (a .q) pos (c .row-question .result) (c .row-question .ensures)
 
 pub comes-spec : {M : Type 1} → statement M

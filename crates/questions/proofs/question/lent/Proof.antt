@@ -1,4 +1,4 @@
--- `question::lent` meets its contract: a row that has no source says it itself, for others the row question is asked with 0, twelve steps back.
+-- `question::lent` meets its contract: a row that has no source says it itself; for others the row question is asked with 0, twelve steps back.
 use borrow.Author.Needs.{needs}
 use mathlib.Core.Path.{sym, _∙_}
 use denote.Ref.{now}
@@ -9,7 +9,8 @@ use Rattle.questions.proofs.question.lent.Tie as tie
 returns : tie.Need-returns
 returns c =
     let a = c .before .before .before .before .args in
-    λ st n so rep at. lent-first (now (a .t)) (a .e) st n so rep at (sym (c .before .before .has-no-source .ensures) ∙ c .before .if1 .taken) (c .touched .result) (c .touched .ensures)
+    let no-source = sym (c .before .before .has-no-source .ensures) ∙ c .before .if1 .taken in
+    λ st n so rep at. lent-first (now (a .t)) (a .e) st n so rep at no-source (c .touched .result) (c .touched .ensures)
 
 returns-2 : tie.Need-returns-2
 returns-2 c =

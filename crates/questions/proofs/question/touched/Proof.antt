@@ -19,7 +19,10 @@ returns : tie.Need-returns
 returns c = let a = c .before .before .before .args in touched-bears (now (a .t)) (a .i) (a .q) (c .if1 .taken)
 
 returns-2 : tie.Need-returns-2
-returns-2 c = let a = c .before .before .before .before .args in touched-bearing (now (a .t)) (a .i) (a .q) (c .before .if1 .left) (c .if2 .taken)
+returns-2 c =
+    let of-lent = c .before in
+    let a = of-lent .before .before .before .args in
+    touched-bearing (now (a .t)) (a .i) (a .q) (of-lent .if1 .left) (c .if2 .taken)
 
 add-is-end : tie.Need-add-is-end
 add-is-end c = search needs
@@ -47,15 +50,20 @@ on-loan-requires c κs = search needs
 
 returns-3 : tie.Need-returns-3
 returns-3 c =
-    let b = c .before .before .before .before .before in
-    let a = b .before .before .before .before .args in
-    touched-loan (now (a .t)) (a .i) (a .q) _ (b .before .if1 .left) (b .if2 .left) (sym (c .before .before .before .is-end .ensures) ∙ c .before .before .if3 .taken) (c .on-loan .ensures)
+    let end = c .before .before in
+    let asked = end .before in
+    let unborne = asked .before .before in
+    let of-lent = unborne .before in
+    let a = of-lent .before .before .before .args in
+    touched-loan (now (a .t)) (a .i) (a .q) _ (of-lent .if1 .left) (unborne .if2 .left) (sym (asked .is-end .ensures) ∙ end .if3 .taken) (c .on-loan .ensures)
 
 returns-4 : tie.Need-returns-4
 returns-4 c =
-    let b = c .before .before .before in
-    let a = b .before .before .before .before .args in
-    touched-other (now (a .t)) (a .i) (a .q) (b .before .if1 .left) (b .if2 .left) (sym (c .before .is-end .ensures) ∙ c .if3 .left)
+    let asked = c .before in
+    let unborne = asked .before .before in
+    let of-lent = unborne .before in
+    let a = of-lent .before .before .before .args in
+    touched-other (now (a .t)) (a .i) (a .q) (of-lent .if1 .left) (unborne .if2 .left) (sym (asked .is-end .ensures) ∙ c .if3 .left)
 
 pub touched-spec : {M : Type 1} → statement M
 touched-spec =

@@ -1,0 +1,38 @@
+-- What a closing makes of words and records: the whole, and its parts (records go home, the marked rows and requests are taken out).
+use Prim.Native.Nat.{ℕ}
+use mathlib.Core.Bool.{Bool, true}
+use mathlib.Core.List.{List, map}
+use mathlib.Core.Path.{_≡_}
+use Rattle.rows.specs.declared.Process.{Process}
+use Rattle.rows.specs.Lists.{some}
+use Rattle.rows.specs.Tables.{State}
+use Rattle.rows.specs.Sound.{sound}
+use Rattle.rows.specs.contracts.Represents.{Represents}
+use Rattle.changes.specs.contracts.Marks.{closedUnder}
+use Rattle.closing.specs.declared.Seed.{Seed}
+use Rattle.closing.specs.Closing.{closes, homed, settled}
+use Rattle.closing.specs.contracts.Seeds.{closesOf}
+use Rattle.closing.specs.contracts.Marks.{RowCount, Stands, RowsMarked}
+
+-- every sound state that the words and records hold becomes its change by f, in words and records
+abbrev pub Takes : (State → State) → List ℕ → List Process → List ℕ → List Process → Type 0
+Takes f t ps u qs =
+    (st : State) → sound st ≡ true → Represents t st → st .processes ≡ ps → Represents u (f st) × (qs ≡ f st .processes)
+
+-- if the rows g are marked, and the row through which x stands in its node is there, r is x gone home
+abbrev pub Homes : List ℕ → ℕ → Process → List Bool → Process → Type 0
+Homes t n x removed r =
+    (st : State) (g : List ℕ) → Represents t st → RowCount n st → RowsMarked removed g st
+    → (some (x .through) ≡ true → Stands st (x .through)) → r ≡ homed g x
+
+-- if the rows g are marked, r are the records gone home
+abbrev pub HomesAll : List ℕ → ℕ → List Process → List Bool → List Process → Type 0
+HomesAll t n ps removed r =
+    (st : State) (g : List ℕ) → sound st ≡ true → Represents t st → RowCount n st → RowsMarked removed g st → st .processes ≡ ps
+    → r ≡ map (homed g) ps
+
+-- if the rows g are marked, and with a row all that comes from it, the words u are those of the state without them and what closes with them
+abbrev pub TakesOut : Seed → ℕ → List Bool → List ℕ → List ℕ → Type 0
+TakesOut s n removed t u =
+    (st : State) (g : List ℕ) → sound st ≡ true → Represents t st → RowCount n st → RowsMarked removed g st
+    → closedUnder g (st .rows) ≡ true → Represents u (settled g (closes (closesOf s) g) st)
