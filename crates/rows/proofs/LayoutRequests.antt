@@ -20,7 +20,7 @@ unfolding requestWords columns
 request-columns zero vs = refl
 request-columns (suc c) vs = ap (λ (l : List ℕ). l ++ pad 0 requestSlots (laid (requestWord c) vs)) (request-columns c vs)
 
--- a list of four, place by place
+-- a list of four, position by position
 pub four : (l : List ℕ) → length l ≡ 4 → getD l 0 0 ∷ getD l 1 0 ∷ getD l 2 0 ∷ getD l 3 0 ∷ [] ≡ l
 four [] e = absurd (omega arith)
 four (a ∷ []) e = absurd (omega arith)

@@ -204,7 +204,7 @@ module _ {st : State} {t : List ℕ} (rep : Represents t st) where
       ∙ ap (λ (l : List Row). getD (laid (rowWord c) l) (length old) 0) e
       ∙ laid-at (rowWord c) new r old
 
-  -- by the place in the list, and by the number
+  -- by the position in the list, and by the number
   pub row-words-at : (new : List Row) (r : Row) (old : List Row) → st .rows ≡ new ++ (r ∷ old) → RowWords t (length old) r old
   unfolding rowWord
   row-words-at new r old e =
