@@ -17,7 +17,7 @@ ghost use Rattle.rows.specs.Setters.{withPlace};
 ghost use Rattle.rows.specs.contracts.Sizes.{ROWS, REQUESTS, ITEMS, IsTables};
 ghost use Rattle.changes.specs.contracts.Changes.{ChangesRow, ChangesRequest, SetsNext, RemovesRows, RemovesRequests};
 ghost use Rattle.changes.specs.contracts.Changes.{itemCleared, asFetched};
-ghost use Rattle.test_exports.specs.contracts.Fields.{rowFrom, requestFrom};
+ghost use Rattle.test_exports.specs.contracts.Exports.{rowOfWords, requestOfWords};
 ghost use Rattle.test_exports.specs.contracts.Exports.{Unless, ItemFits, RowFits, AddsRowOf, AddsRequestOf};
 
 #[no_mangle]
@@ -78,7 +78,7 @@ pub extern "C" fn kernel_set_next(t: &mut [u32], n: u32)
 
 // The row of its words.
 fn row_of(w: &[u32; ROW_COLUMNS]) -> Row
-    ensures { λ r. ⌜ r ≡ rowFrom (now (w .entry)) ⌝ }
+    ensures { λ r. ⌜ r ≡ rowOfWords (now (w .entry)) ⌝ }
 {
     Row {
         number: w[0],
@@ -118,7 +118,7 @@ pub extern "C" fn kernel_append_row(t: &mut [u32], count: usize, w: &[u32; ROW_C
 
 // The request of its words.
 fn request_of(w: &[u32; REQUEST_COLUMNS]) -> Request
-    ensures { λ r. ⌜ r ≡ requestFrom (now (w .entry)) ⌝ }
+    ensures { λ r. ⌜ r ≡ requestOfWords (now (w .entry)) ⌝ }
 {
     let items = [w[4], w[5], w[6], w[7]];
     Request {
