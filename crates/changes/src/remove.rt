@@ -2,6 +2,7 @@
 use rows::find::requests_in;
 use rows::layout::DEPTH;
 use rows::layout::NEXT;
+use rows::layout::NUMBER;
 use rows::layout::Q_NUMBER;
 use rows::layout::REQUEST_COLUMNS;
 use rows::layout::REQUESTS;
@@ -12,23 +13,21 @@ use rows::layout::RowMarks;
 use rows::layout::SOURCE;
 use rows::layout::VIA;
 ghost use mathlib.Core.Path.{_≡_};
-ghost use mathlib.Core.Bool.{Bool, true, false, not};
-ghost use mathlib.Core.List.{List, _++_};
-ghost use Prim.Native.Nat.{ℕ, _≤_, _<_, _*_};
+ghost use Prim.Native.Nat.{_≤_, _<_, _*_};
 ghost use lib.ListN.{length, getD, take, drop};
-ghost use Rattle.rows.specs.declared.Request.{Request};
-ghost use Rattle.rows.specs.Lists.{filter, pad, member};
-ghost use Rattle.rows.specs.Tables.{State};
-ghost use Rattle.rows.specs.contracts.Represents.{Represents};
-ghost use Rattle.rows.specs.Setters.{withRows, withRequests};
-ghost use Rattle.changes.specs.contracts.Marks.{tested, keep, marksOf, closedUnder, compacted, compactedParts, movedTo, remapped};
-ghost use Rattle.rows.specs.contracts.Sizes.{ROWS, REQUESTS, IsTables};
+ghost use Rattle.rows.specs.contracts.Sizes.{ROWS, IsTables};
+ghost use Rattle.changes.specs.contracts.Marks.{NoneMarked, Ranks};
+ghost use Rattle.changes.specs.contracts.Marks.{unmarkedOf, cleared, compacted, compactedParts, remapped};
+ghost use Rattle.changes.specs.contracts.Changes.{RemovesRows, RemovesRequests};
+
+// a word for each slot plus 1, and for 0
+const RANKS: usize = ROWS + 1;
 
 // How many marks stand before the first that is set.
 fn unmarked(marks: &[bool], count: usize) -> usize
     requires { ⌜ count ≤ length (now marks) ⌝ }
     ensures few { λ r. ⌜ r ≤ count ⌝ }
-    ensures clear { λ r. ⌜ ((i : ℕ) → i < r → getD (now (marks .entry)) i false ≡ false) ⌝ }
+    ensures clear { λ r. ⌜ NoneMarked (now (marks .entry)) r ⌝ }
 {
     let mut i = 0;
     while i < count {
@@ -40,12 +39,13 @@ fn unmarked(marks: &[bool], count: usize) -> usize
     i
 }
 
-// Moves what is not marked of the first words to the front, and says how many that are. Nothing is marked before the place from.
+// Moves what is not marked of the first words to the front, and says how many that are.
+// Nothing is marked before the position from.
 fn gather(column: &mut [u32], marks: &[bool], from: usize, count: usize) -> usize
     requires sizes { ⌜ (from ≤ count) × (count ≤ length (now column)) × (count ≤ length (now marks)) ⌝ }
-    requires clear { ⌜ ((i : ℕ) → i < from → getD (now marks) i false ≡ false) ⌝ }
+    requires clear { ⌜ NoneMarked (now marks) from ⌝ }
     ensures few { λ r. ⌜ r ≤ count ⌝ }
-    ensures front { λ r. ⌜ take r (now (column .exit)) ≡ keep (now (marks .entry)) (take count (now (column .entry))) ⌝ }
+    ensures front { λ r. ⌜ take r (now (column .exit)) ≡ unmarkedOf (now (marks .entry)) count (now (column .entry)) ⌝ }
     ensures rest { λ _. ⌜ drop count (now (column .exit)) ≡ drop count (now (column .entry)) ⌝ }
 {
     let mut i = from;
@@ -60,10 +60,10 @@ fn gather(column: &mut [u32], marks: &[bool], from: usize, count: usize) -> usiz
     j
 }
 
-// Sets the words from one place up to another to 0.
+// Sets the words from one position up to another to 0.
 fn clear(column: &mut [u32], from: usize, to: usize)
     requires { ⌜ (from ≤ to) × (to ≤ length (now column)) ⌝ }
-    ensures { λ _. ⌜ now (column .exit) ≡ pad 0 to (take from (now (column .entry))) ++ drop to (now (column .entry)) ⌝ }
+    ensures { λ _. ⌜ now (column .exit) ≡ cleared from to (now (column .entry)) ⌝ }
 {
     let mut i = from;
     while i < to {
@@ -72,10 +72,10 @@ fn clear(column: &mut [u32], from: usize, to: usize)
     }
 }
 
-// Nothing is marked before the place from.
+// Compacts one column: what is not marked to the front, 0 after it. Nothing is marked before the position from.
 fn compact_column(column: &mut [u32], marks: &[bool], from: usize, count: usize)
     requires sizes { ⌜ (from ≤ count) × (count ≤ length (now column)) × (count ≤ length (now marks)) ⌝ }
-    requires clear { ⌜ ((i : ℕ) → i < from → getD (now marks) i false ≡ false) ⌝ }
+    requires clear { ⌜ NoneMarked (now marks) from ⌝ }
     ensures { λ _. ⌜ now (column .exit) ≡ compacted (now (marks .entry)) count (now (column .entry)) ⌝ }
 {
     let left = gather(column, marks, from, count);
@@ -100,7 +100,7 @@ fn compact_columns(part: &mut [u32], size: usize, columns: usize, marks: &[bool]
 // Writes what each slot plus 1 of the first slots becomes; 0 stays 0.
 fn ranks(to: &mut [u32], marks: &[bool], count: usize)
     requires { ⌜ (count ≤ ROWS) × (count < length (now to)) × (count ≤ length (now marks)) ⌝ }
-    ensures { λ _. ⌜ ((s : ℕ) → s ≤ count → getD (now (to .exit)) s 0 ≡ movedTo (now (marks .entry)) s) ⌝ }
+    ensures { λ _. ⌜ Ranks (now (marks .entry)) count (now (to .exit)) ⌝ }
 {
     to[0] = 0;
     let mut i = 0;
@@ -125,6 +125,7 @@ fn to_at(to: &[u32], s: u32) -> u32
     0
 }
 
+// Looks the first words up in a table.
 fn remap(column: &mut [u32], to: &[u32], count: usize)
     requires { ⌜ count ≤ length (now column) ⌝ }
     ensures { λ _. ⌜ now (column .exit) ≡ remapped (now (to .entry)) count (now (column .entry)) ⌝ }
@@ -138,23 +139,24 @@ fn remap(column: &mut [u32], to: &[u32], count: usize)
 }
 
 // Removes the marked rows; the marks are closed, and the sources of the rows that are left are renumbered.
-// Ruled out: a row that is left with the slot that its source had before; a column of which one word stays where a row went.
+// Ruled out: a row that is left with the slot that its source had before;
+// a column of which one word stays where a row went.
 pub fn remove_rows(t: &mut [u32], count: usize, marks: &RowMarks)
     requires { ⌜ IsTables (now t) × (count ≤ ROWS) ⌝ }
-    ensures { λ _. ⌜ ((st : State) (g : List ℕ) → Represents (now (t .entry)) st → count ≡ length (st .rows) → now (marks .entry) ≡ pad false ROWS (marksOf g (st .rows)) → closedUnder g (st .rows) ≡ true → Represents (now (t .exit)) (withRows (filter (λ r. not (member (r .number) g)) (st .rows)) st)) ⌝ }
+    ensures { λ _. ⌜ RemovesRows (now (t .entry)) (now (t .exit)) count (now (marks .entry)) ⌝ }
 {
-    let mut to = [0u32; 1025];
+    let mut to = [0u32; RANKS];
     ranks(&mut to, marks, count);
     remap(&mut t[SOURCE..VIA], &to, count);
     remap(&mut t[VIA..DEPTH], &to, count);
-    compact_columns(&mut t[0..Q_NUMBER], ROWS, ROW_COLUMNS, marks, count);
+    compact_columns(&mut t[NUMBER..Q_NUMBER], ROWS, ROW_COLUMNS, marks, count);
 }
 
 // Removes the marked requests.
 // Ruled out: a request that is left with another's port; a change of a row's word.
 pub fn remove_requests(t: &mut [u32], marks: &RequestMarks)
     requires { ⌜ IsTables (now t) ⌝ }
-    ensures { λ _. ⌜ ((st : State) (f : Request → Bool) → Represents (now (t .entry)) st → now (marks .entry) ≡ pad false REQUESTS (tested f (st .requests)) → Represents (now (t .exit)) (withRequests (filter (λ v. not (f v)) (st .requests)) st)) ⌝ }
+    ensures { λ _. ⌜ RemovesRequests (now (t .entry)) (now (t .exit)) (now (marks .entry)) ⌝ }
 {
     let count = requests_in(t);
     compact_columns(

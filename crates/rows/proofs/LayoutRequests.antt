@@ -11,7 +11,8 @@ use Rattle.rows.specs.declared.Request.{Request}
 use Rattle.rows.specs.declared.Process.{Process}
 use Rattle.rows.specs.Lists.{all, pad, laid}
 use Rattle.rows.specs.Limits.{requestSlots, mostItems}
-use Rattle.rows.specs.Layout.{requestColumns, requestsAt, requestWord, requestWords, requestField, requestAt, requestsTo, recordsOf, recordsIn}
+use Rattle.rows.specs.Setters.{withItems}
+use Rattle.rows.specs.Layout.{requestColumns, requestsAt, wordsOfRequest, requestFrom, requestWord, requestWords, requestField, requestAt, requestsTo, recordsOf, recordsIn}
 use Rattle.rows.proofs.Bools.{and-l, and-r}
 use Rattle.rows.proofs.LayoutColumns.{columns, laid-at}
 
@@ -20,7 +21,7 @@ unfolding requestWords columns
 request-columns zero vs = refl
 request-columns (suc c) vs = ap (λ (l : List ℕ). l ++ pad 0 requestSlots (laid (requestWord c) vs)) (request-columns c vs)
 
--- a list of four, place by place
+-- a list of four, position by position
 pub four : (l : List ℕ) → length l ≡ 4 → getD l 0 0 ∷ getD l 1 0 ∷ getD l 2 0 ∷ getD l 3 0 ∷ [] ≡ l
 four [] e = absurd (omega arith)
 four (a ∷ []) e = absurd (omega arith)
@@ -29,7 +30,34 @@ four (a ∷ b ∷ c ∷ []) e = absurd (omega arith)
 four (a ∷ b ∷ c ∷ d ∷ []) e = refl
 four (a ∷ b ∷ c ∷ d ∷ x ∷ l) e = absurd (omega arith)
 
--- words that hold the requests, column by column
+-- ---- the order of the columns, there and back
+pub request-from-words : (v : Request) → length (v .items) ≡ 4 → requestFrom (λ c. getD (wordsOfRequest v) c 0) ≡ v
+request-from-words v h = ap (λ (is : List ℕ). withItems is v) (four (v .items) h)
+
+pub request-word-from : (word : ℕ → ℕ) (c : ℕ) → c < 8 → getD (wordsOfRequest (requestFrom word)) c 0 ≡ word c
+request-word-from word zero h = refl
+request-word-from word (suc zero) h = refl
+request-word-from word (suc (suc zero)) h = refl
+request-word-from word (suc (suc (suc zero))) h = refl
+request-word-from word (suc (suc (suc (suc zero)))) h = refl
+request-word-from word (suc (suc (suc (suc (suc zero))))) h = refl
+request-word-from word (suc (suc (suc (suc (suc (suc zero)))))) h = refl
+request-word-from word (suc (suc (suc (suc (suc (suc (suc zero))))))) h = refl
+request-word-from word (suc (suc (suc (suc (suc (suc (suc (suc c)))))))) h = absurd (omega arith)
+
+-- requests from words that agree are the same
+pub request-from-same : (f g : ℕ → ℕ) → ((c : ℕ) → c < 8 → f c ≡ g c) → requestFrom f ≡ requestFrom g
+request-from-same f g same =
+    λ i.
+    record {
+      number = same 0 (omega arith) i;
+      port = same 1 (omega arith) i;
+      asker = same 2 (omega arith) i;
+      fetched = same 3 (omega arith) i;
+      items = same 4 (omega arith) i ∷ same 5 (omega arith) i ∷ same 6 (omega arith) i ∷ same 7 (omega arith) i ∷ [];
+    }
+
+-- ---- words that hold the requests, column by column
 module _ (t : List ℕ) (requests : List Request) (few : length requests ≤ requestSlots)
     (at : (c i : ℕ) → c < requestColumns → i < requestSlots → getD t (requestsAt + (c * requestSlots + i)) 0 ≡ getD (laid (requestWord c) requests) i 0) where
   field-at : (c : ℕ) (new : List Request) (v : Request) (old : List Request) → requests ≡ new ++ (v ∷ old) → c < requestColumns → requestField t c (length old) ≡ requestWord c v old
@@ -42,24 +70,7 @@ module _ (t : List ℕ) (requests : List Request) (few : length requests ≤ req
   request-back : (new : List Request) (v : Request) (old : List Request) → requests ≡ new ++ (v ∷ old) → length (v .items) ≡ 4 → requestAt t (length old) ≡ v
   unfolding requestAt requestWord requestColumns
   request-back new v old e h =
-      λ j.
-      record {
-        number = field-at 0 new v old e (omega arith) j;
-        port = field-at 1 new v old e (omega arith) j;
-        asker = field-at 2 new v old e (omega arith) j;
-        fetched = field-at 3 new v old e (omega arith) j;
-        items = (items ∙ four (v .items) h) j;
-      }
-    where
-      items : requestField t 4 (length old) ∷ requestField t 5 (length old) ∷ requestField t 6 (length old) ∷ requestField t 7 (length old) ∷ []
-          ≡ getD (v .items) 0 0 ∷ getD (v .items) 1 0 ∷ getD (v .items) 2 0 ∷ getD (v .items) 3 0 ∷ []
-      items =
-          λ j.
-          field-at 4 new v old e (omega arith) j
-          ∷ field-at 5 new v old e (omega arith) j
-          ∷ field-at 6 new v old e (omega arith) j
-          ∷ field-at 7 new v old e (omega arith) j
-          ∷ []
+      request-from-same (λ c. requestField t c (length old)) (λ c. requestWord c v old) (λ c h. field-at c new v old e h) ∙ request-from-words v h
 
   requests-to : (new old : List Request) → requests ≡ new ++ old → all (λ v. eqb (length (v .items)) mostItems) old ≡ true → requestsTo t (length old) ≡ old
   unfolding requestsTo all mostItems

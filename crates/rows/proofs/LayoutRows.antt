@@ -15,12 +15,47 @@ use Rattle.rows.specs.Limits.{rowSlots}
 use Rattle.rows.specs.Tables.{numbers}
 use Rattle.rows.specs.Sound.{sourceRight}
 use Rattle.rows.specs.Setters.{withSources}
-use Rattle.rows.specs.Layout.{rowColumns, rowSlot, sourceSlot, rowWord, rowWords, rowField, numberAt, rowAt, rowsTo, rawRow}
+use Rattle.rows.specs.Layout.{rowColumns, rowSlot, sourceSlot, wordsOfRow, rowFrom, slotted, rowWord, rowWords, rowField, numberAt, rowAt, rowsTo, rawRow}
 use Rattle.rows.proofs.Bools.{clash, and-l, and-r, pos-some, eqb-sym-f}
 use Rattle.rows.proofs.Keyed.{rises-rest, rises-range}
 use Rattle.rows.proofs.LayoutColumns.{columns, laid-at}
 use Rattle.rows.proofs.RowSources.{Among, shape, shape-sources}
 
+-- ---- the order of the columns, there and back
+pub row-from-words : (r : Row) → rowFrom (λ c. getD (wordsOfRow r) c 0) ≡ r
+row-from-words r = refl
+
+pub row-word-from : (word : ℕ → ℕ) (c : ℕ) → c < 10 → getD (wordsOfRow (rowFrom word)) c 0 ≡ word c
+row-word-from word zero h = refl
+row-word-from word (suc zero) h = refl
+row-word-from word (suc (suc zero)) h = refl
+row-word-from word (suc (suc (suc zero))) h = refl
+row-word-from word (suc (suc (suc (suc zero)))) h = refl
+row-word-from word (suc (suc (suc (suc (suc zero))))) h = refl
+row-word-from word (suc (suc (suc (suc (suc (suc zero)))))) h = refl
+row-word-from word (suc (suc (suc (suc (suc (suc (suc zero))))))) h = refl
+row-word-from word (suc (suc (suc (suc (suc (suc (suc (suc zero)))))))) h = refl
+row-word-from word (suc (suc (suc (suc (suc (suc (suc (suc (suc zero))))))))) h = refl
+row-word-from word (suc (suc (suc (suc (suc (suc (suc (suc (suc (suc c)))))))))) h = absurd (omega arith)
+
+-- rows from words that agree are the same
+pub row-from-same : (f g : ℕ → ℕ) → ((c : ℕ) → c < 10 → f c ≡ g c) → rowFrom f ≡ rowFrom g
+row-from-same f g same =
+    λ i.
+    record {
+      number = same 0 (omega arith) i;
+      kind = same 1 (omega arith) i;
+      object = same 2 (omega arith) i;
+      operation = same 3 (omega arith) i;
+      rights = same 4 (omega arith) i;
+      place = same 5 (omega arith) i;
+      source = same 6 (omega arith) i;
+      via = same 7 (omega arith) i;
+      depth = same 8 (omega arith) i;
+      request = same 9 (omega arith) i;
+    }
+
+-- ---- columns
 pub row-columns : (c : ℕ) (rs : List Row) → rowWords c rs ≡ columns rowSlots rowWord c rs
 unfolding rowWords columns
 row-columns zero rs = refl
@@ -42,7 +77,7 @@ module _ (t : List ℕ) (rows : List Row) (few : length rows ≤ rowSlots)
   further new r old e = e ∙ sym (append-assoc new (r ∷ []) old)
 
   slot-back : (new old : List Row) → rows ≡ new ++ old → (n : ℕ) → member n (numbers old) ≡ true → numberAt t (length rows) (rowSlot old n) ≡ n
-  unfolding rowSlot numbers member numberAt rowWord rowColumns slotWith
+  unfolding rowSlot numbers member numberAt rowWord slotted withSources rowColumns slotWith
   slot-back new [] e n m = clash m refl
   slot-back new (r ∷ old) e n m = pick (slot-back (new ++ (r ∷ [])) old (further new r old e) n) (eqb (r .number) n) refl m
     where
@@ -58,24 +93,16 @@ module _ (t : List ℕ) (rows : List Row) (few : length rows ≤ rowSlots)
   number-back new old e up n (inr m) = rw (pos-some n (rises-range (λ r. r .number) old up n m .0)) (slot-back new old e n m)
 
   module _ (vs : List Request) where
-    row-back : (new : List Row) (r : Row) (old : List Row) → rows ≡ new ++ (r ∷ old) → rises (λ r. r .number) old ≡ true → sourceRight vs r old ≡ true → rowAt t (length rows) (length old) ≡ r
-    unfolding rowAt rawRow withSources rowWord rowColumns
+    row-back : (new : List Row) (r : Row) (old : List Row) → rows ≡ new ++ (r ∷ old) → rises (λ r. r .number) old ≡ true → sourceRight vs r old ≡ true
+        → rowAt t (length rows) (length old) ≡ r
+    unfolding rowAt rawRow rowWord slotted withSources rowColumns
     row-back new r old e up s =
         let (a, b) = shape-sources vs r old (shape vs r old s) in
         let f = further new r old e in
-        λ j.
-        record {
-          number = field-at 0 new r old e (omega arith) j;
-          kind = field-at 1 new r old e (omega arith) j;
-          object = field-at 2 new r old e (omega arith) j;
-          operation = field-at 3 new r old e (omega arith) j;
-          rights = field-at 4 new r old e (omega arith) j;
-          place = field-at 5 new r old e (omega arith) j;
-          source = (ap (numberAt t (length rows)) (field-at 6 new r old e (omega arith)) ∙ number-back (new ++ (r ∷ [])) old f up (r .source) a) j;
-          via = (ap (numberAt t (length rows)) (field-at 7 new r old e (omega arith)) ∙ number-back (new ++ (r ∷ [])) old f up (r .via) b) j;
-          depth = field-at 8 new r old e (omega arith) j;
-          request = field-at 9 new r old e (omega arith) j;
-        }
+        let raw = row-from-same (λ c. rowField t c (length old)) (λ c. rowWord c r old) (λ c h. field-at c new r old e h) in
+        ap (λ (x : Row). withSources (numberAt t (length rows) (x .source)) (numberAt t (length rows) (x .via)) x) raw
+        ∙ (λ j.
+        withSources (number-back (new ++ (r ∷ [])) old f up (r .source) a j) (number-back (new ++ (r ∷ [])) old f up (r .via) b j) r)
 
     rows-to : (new old : List Row) → rows ≡ new ++ old → rises (λ r. r .number) old ≡ true → each (sourceRight vs) old ≡ true → rowsTo t (length rows) (length old) ≡ old
     unfolding rowsTo each

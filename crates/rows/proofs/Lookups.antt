@@ -14,7 +14,7 @@ use Rattle.rows.specs.contracts.Represents.{Represents}
 use Rattle.rows.specs.contracts.Slots.{foundSlot, requestSlot, openSlot}
 use Rattle.rows.specs.Layout.{rowSlot}
 use Rattle.rows.specs.contracts.Searches.{Ascending, LastAt}
-use Rattle.rows.proofs.Searches.{Keys, placed-slot, keys-rise, keys-part}
+use Rattle.rows.proofs.Searches.{Keys, last-slot, keys-rise, keys-part}
 use Rattle.rows.proofs.Slots.{represented-well, row-words-at, request-words-at}
 
 module _ {st : State} {t : List ℕ} (rep : Represents t st) where
@@ -35,7 +35,7 @@ module _ {st : State} {t : List ℕ} (rep : Represents t st) where
   halves : {A : Type 0} (key : A → ℕ) (l : List ℕ) (xs : List A) → Keys key l xs → rises key xs ≡ true → (k n : ℕ) (r : Found) → k ≡ length xs
       → (Ascending k l → LastAt l k n r) → r ≡ foundSlot (slotWith key xs n)
   halves key l xs ks up k n r e p =
-      placed-slot key l n xs r ks (subst (λ (m : ℕ). LastAt l m n r) e (p (subst (λ (m : ℕ). Ascending m l) (sym e) (keys-rise key l xs ks up))))
+      last-slot key l n xs r ks (subst (λ (m : ℕ). LastAt l m n r) e (p (subst (λ (m : ℕ). Ascending m l) (sym e) (keys-rise key l xs ks up))))
 
   pub row-search : (k n : ℕ) (r : Found) → k ≡ length (st .rows) → (Ascending k (take 1024 (drop 0 t)) → LastAt (take 1024 (drop 0 t)) k n r) → r ≡ foundSlot (rowSlot (st .rows) n)
   unfolding rowSlot
@@ -48,4 +48,4 @@ module _ {st : State} {t : List ℕ} (rep : Represents t st) where
   -- back from the newest
   pub open-search : (k c : ℕ) (r : Found) → k ≡ length (st .requests) → LastAt (take 128 (drop 10368 t)) k c r → r ≡ foundSlot (openSlot (st .requests) c)
   unfolding openSlot
-  open-search k c r e p = placed-slot (λ v. v .port) (take 128 (drop 10368 t)) c (st .requests) r port-keys (subst (λ (m : ℕ). LastAt (take 128 (drop 10368 t)) m c r) e p)
+  open-search k c r e p = last-slot (λ v. v .port) (take 128 (drop 10368 t)) c (st .requests) r port-keys (subst (λ (m : ℕ). LastAt (take 128 (drop 10368 t)) m c r) e p)

@@ -12,12 +12,13 @@ use Rattle.rows.specs.Lists.{rises, laid}
 use Rattle.rows.specs.Limits.{rowSlots, requestSlots}
 use Rattle.rows.specs.Tables.{State}
 use Rattle.rows.specs.Sound.{rowsRise, requestsRise, rowsFit, requestsFit, itemsFew}
-use Rattle.rows.specs.Layout.{rowColumns, requestColumns, requestsAt, nextAt, tablesLength, rowWord, requestWord, rowWords, requestWords, wordsOf, rowsIn, requestsIn}
+use Rattle.rows.specs.Layout.{rowColumns, requestColumns, requestsAt, nextAt, tablesLength, rowWord, requestWord, rowWords, requestWords, wordsOf, rowsIn, requestsIn, slotted}
 use Rattle.rows.specs.contracts.Represents.{sourcesOlder, laidWell, Represents}
 use Rattle.rows.proofs.Bools.{and-l, and-r}
 use Rattle.rows.proofs.LayoutColumns.{getD-after, length-columns, columns-at, slots-in-use}
 use Rattle.rows.proofs.LayoutRows.{row-columns}
 use Rattle.rows.proofs.LayoutRequests.{request-columns}
+use Rattle.rows.specs.Setters.{withSources}
 
 -- ---- the parts of `laidWell`
 pub record Well (st : State) : Type 0 where
@@ -78,7 +79,7 @@ module _ (st : State) (few-rows : length (st .rows) ≤ rowSlots) (few-requests 
       ∙ getD-at (requestWords requestColumns (st .requests)) (st .next) [] 0 (requestColumns * requestSlots) long-requests
 
   pub rows-in : rises (λ r. r .number) (st .rows) ≡ true → rowsIn (wordsOf st) ≡ length (st .rows)
-  unfolding rowsIn rowColumns rowWord tablesLength nextAt requestsAt
+  unfolding rowsIn rowColumns rowWord tablesLength nextAt requestsAt slotted withSources
   rows-in up =
       slots-in-use (λ r. r .number) (st .rows) 0 rowSlots (wordsOf st) up few-rows (omega (arith, long-words))
       (λ i h. ap (λ (n : ℕ). getD (wordsOf st) n 0) (omega arith) ∙ row-at 0 i (omega arith) h)

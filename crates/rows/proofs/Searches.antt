@@ -102,11 +102,11 @@ module _ {A : Type 0} (key : A → ℕ) where
   Keys l [] = Unit {0}
   Keys l (x ∷ xs) = (getD l (length xs) 0 ≡ key x) × Keys l xs
 
-  pub placed-slot : (l : List ℕ) (n : ℕ) (xs : List A) (r : Found) → Keys l xs → LastAt l (length xs) n r → r ≡ foundSlot (slotWith key xs n)
+  pub last-slot : (l : List ℕ) (n : ℕ) (xs : List A) (r : Found) → Keys l xs → LastAt l (length xs) n r → r ≡ foundSlot (slotWith key xs n)
   unfolding LastAt foundSlot slotWith
-  placed-slot l n [] (At i) ks p = absurd (omega (arith, p .0))
-  placed-slot l n [] Nothing ks p = refl
-  placed-slot l n (x ∷ xs) (At i) ks p = pick (placed-slot l n xs (At i) (ks .1)) (eqb (key x) n) refl
+  last-slot l n [] (At i) ks p = absurd (omega (arith, p .0))
+  last-slot l n [] Nothing ks p = refl
+  last-slot l n (x ∷ xs) (At i) ks p = pick (last-slot l n xs (At i) (ks .1)) (eqb (key x) n) refl
     where
       pick : (LastAt l (length xs) n (At i) → At i ≡ foundSlot (slotWith key xs n)) → (b : Bool) → eqb (key x) n ≡ b → At i ≡ foundSlot (cond b (suc (length xs)) (slotWith key xs n))
       pick ih true q =
@@ -114,7 +114,7 @@ module _ {A : Type 0} (key : A → ℕ) where
       pick ih false q =
           ⊎-elim (λ e. absurd (eqb-false (key x) n q (sym (ks .0) ∙ ap (λ (j : ℕ). getD l j 0) (sym e) ∙ p .1)))
           (λ lt. ih (lt, p .1, (λ j g h. p .2 j g (omega arith)))) (eq-or-lt-of-le (le-of-suc-le-suc (p .0)))
-  placed-slot l n (x ∷ xs) Nothing ks p = pick (placed-slot l n xs Nothing (ks .1)) (eqb (key x) n) refl
+  last-slot l n (x ∷ xs) Nothing ks p = pick (last-slot l n xs Nothing (ks .1)) (eqb (key x) n) refl
     where
       pick : (LastAt l (length xs) n Nothing → Nothing ≡ foundSlot (slotWith key xs n)) → (b : Bool) → eqb (key x) n ≡ b → Nothing ≡ foundSlot (cond b (suc (length xs)) (slotWith key xs n))
       pick ih true q = absurd (p (length xs) (omega arith) (ks .0 ∙ eqb-true (key x) n q))

@@ -204,9 +204,9 @@ module _ {st : State} {t : List ℕ} (rep : Represents t st) where
       ∙ ap (λ (l : List Row). getD (laid (rowWord c) l) (length old) 0) e
       ∙ laid-at (rowWord c) new r old
 
-  -- by the place in the list, and by the number
+  -- by the position in the list, and by the number
   pub row-words-at : (new : List Row) (r : Row) (old : List Row) → st .rows ≡ new ++ (r ∷ old) → RowWords t (length old) r old
-  unfolding rowWord
+  unfolding rowWord slotted withSources
   row-words-at new r old e =
       record {
         number = ap (λ (n : ℕ). getD t n 0) (omega arith) ∙ row-word 0 new r old e (omega arith);

@@ -33,6 +33,34 @@ tablesLength = suc nextAt
 unfoldable pub processesLength : ℕ
 processesLength = 3 * processes
 
+-- ---- the order of the columns
+-- the words of a row, and a row from its words by column: one undoes the other (proofs/LayoutRows.antt)
+abbrev pub wordsOfRow : Row → List ℕ
+wordsOfRow r = r .number ∷ r .kind ∷ r .object ∷ r .operation ∷ r .rights ∷ r .place ∷ r .source ∷ r .via ∷ r .depth ∷ r .request ∷ []
+
+abbrev pub rowFrom : (ℕ → ℕ) → Row
+rowFrom word =
+    record {
+      number = word 0;
+      kind = word 1;
+      object = word 2;
+      operation = word 3;
+      rights = word 4;
+      place = word 5;
+      source = word 6;
+      via = word 7;
+      depth = word 8;
+      request = word 9;
+    }
+
+-- the same of a request, which has four items
+abbrev pub wordsOfRequest : Request → List ℕ
+wordsOfRequest v = v .number ∷ v .port ∷ v .asker ∷ v .fetched ∷ v .items
+
+abbrev pub requestFrom : (ℕ → ℕ) → Request
+requestFrom word =
+    record { number = word 0; port = word 1; asker = word 2; fetched = word 3; items = word 4 ∷ word 5 ∷ word 6 ∷ word 7 ∷ [] }
+
 -- ---- state to words
 -- the slot, plus 1, of the row numbered n; 0 for none
 unfoldable pub rowSlot : List Row → ℕ → ℕ
@@ -42,25 +70,16 @@ rowSlot rs n = slotWith (λ r. r .number) rs n
 unfoldable pub sourceSlot : List Row → ℕ → ℕ
 sourceSlot rs n = if some n then rowSlot rs n else 0
 
--- the word of row r in column c, rs the older rows
+-- a row of the state as its words have it, rs the older rows: its sources are slots plus 1
+unfoldable pub slotted : Row → List Row → Row
+slotted r rs = withSources (sourceSlot rs (r .source)) (sourceSlot rs (r .via)) r
+
+-- the word in column c of row r, rs the older rows; of request v
 unfoldable pub rowWord : ℕ → Row → List Row → ℕ
-rowWord zero r rs = r .number
-rowWord (suc zero) r rs = r .kind
-rowWord (suc (suc zero)) r rs = r .object
-rowWord (suc (suc (suc zero))) r rs = r .operation
-rowWord (suc (suc (suc (suc zero)))) r rs = r .rights
-rowWord (suc (suc (suc (suc (suc zero))))) r rs = r .place
-rowWord (suc (suc (suc (suc (suc (suc zero)))))) r rs = sourceSlot rs (r .source)
-rowWord (suc (suc (suc (suc (suc (suc (suc zero))))))) r rs = sourceSlot rs (r .via)
-rowWord (suc (suc (suc (suc (suc (suc (suc (suc zero)))))))) r rs = r .depth
-rowWord (suc (suc (suc (suc (suc (suc (suc (suc (suc c))))))))) r rs = r .request
+rowWord c r rs = getD (wordsOfRow (slotted r rs)) c 0
 
 unfoldable pub requestWord : ℕ → Request → List Request → ℕ
-requestWord zero v vs = v .number
-requestWord (suc zero) v vs = v .port
-requestWord (suc (suc zero)) v vs = v .asker
-requestWord (suc (suc (suc zero))) v vs = v .fetched
-requestWord (suc (suc (suc (suc i)))) v vs = getD (v .items) i 0
+requestWord c v vs = getD (wordsOfRequest v) c 0
 
 unfoldable pub rowWords : ℕ → List Row → List ℕ
 rowWords zero rs = []
@@ -103,19 +122,7 @@ numberAt t n (suc i) = if ltb i n then rowField t 0 i else 0
 
 -- the words of a slot as a row: its sources are slots plus 1
 unfoldable pub rawRow : List ℕ → ℕ → Row
-rawRow t i =
-    record {
-      number = rowField t 0 i;
-      kind = rowField t 1 i;
-      object = rowField t 2 i;
-      operation = rowField t 3 i;
-      rights = rowField t 4 i;
-      place = rowField t 5 i;
-      source = rowField t 6 i;
-      via = rowField t 7 i;
-      depth = rowField t 8 i;
-      request = rowField t 9 i;
-    }
+rawRow t i = rowFrom (λ c. rowField t c i)
 
 -- the row of a slot, its sources as numbers
 unfoldable pub rowAt : List ℕ → ℕ → ℕ → Row
@@ -127,14 +134,7 @@ rowsTo t n zero = []
 rowsTo t n (suc i) = rowAt t n i ∷ rowsTo t n i
 
 unfoldable pub requestAt : List ℕ → ℕ → Request
-requestAt t i =
-    record {
-      number = requestField t 0 i;
-      port = requestField t 1 i;
-      asker = requestField t 2 i;
-      fetched = requestField t 3 i;
-      items = requestField t 4 i ∷ requestField t 5 i ∷ requestField t 6 i ∷ requestField t 7 i ∷ [];
-    }
+requestAt t i = requestFrom (λ c. requestField t c i)
 
 unfoldable pub requestsTo : List ℕ → ℕ → List Request
 requestsTo t zero = []

@@ -3,3 +3,4 @@ pub mod Sizes
 pub mod Represents
 pub mod Slots
 pub mod Searches
+pub mod Finds

@@ -1,8 +1,12 @@
 // The rights (capcaps) of a row: hold, transfer, register.
 use crate::Rights;
+use crate::codes::ALL_RIGHTS;
 ghost use mathlib.Core.Path.{_≡_};
 ghost use lib.Dec.{eqb};
 ghost use Rattle.rows.specs.Codes.{mayHold, mayTransfer, mayRegister, within as isWithin};
+
+// the sums of rights are those below
+const SUMS: u32 = ALL_RIGHTS + 1;
 
 impl Rights {
     pub const HOLD: Rights = Rights(1);
@@ -18,11 +22,12 @@ impl Rights {
         self.0 == 0
     }
 
-    // Each right is one of the other's: the three low bits decide. Ruled out: a right that the other lacks; the sides swapped.
+    // Each right is one of the other's: the three low bits decide.
+    // Ruled out: a right that the other lacks; the sides swapped.
     pub fn within(self, other: Rights) -> bool
         ensures { λ r. ⌜ r ≡ isWithin (self .0) (other .0) ⌝ }
     {
-        (self.0 & other.0) % 8 == self.0 % 8
+        (self.0 & other.0) % SUMS == self.0 % SUMS
     }
 
     // The right is there. Ruled out: another right decides; that all three are there is asked.

@@ -62,7 +62,8 @@ pub fn is_clist(place: u32) -> bool
     (FIRST_CLIST <= place) & (place <= LAST_CLIST)
 }
 
-// The place of a process's c-list; 0 for what is no process. Ruled out: the process's own number; the c-list of the next one.
+// The place of a process's c-list; 0 for what is no process.
+// Ruled out: the process's own number; the c-list of the next one.
 pub fn clist(p: u32) -> u32
     ensures { λ r. ⌜ (p ≤ PROCESSES → r ≡ inClist p) ⌝ }
 {

@@ -8,19 +8,18 @@ use crate::layout::Q_PORT;
 ghost use mathlib.Core.Path.{_≡_};
 ghost use Prim.Native.Nat.{_≤_};
 ghost use lib.ListN.{length};
-ghost use Rattle.rows.specs.Tables.{State};
-ghost use Rattle.rows.specs.Layout.{leading, rowsIn, requestsIn, rowSlot};
-ghost use Rattle.rows.specs.contracts.Represents.{Represents};
-ghost use Rattle.rows.specs.contracts.Slots.{Within, foundSlot, requestSlot, openSlot};
-ghost use Rattle.rows.specs.contracts.Searches.{Ascending, LastAt};
+ghost use Rattle.rows.specs.Layout.{leading, rowsIn, requestsIn};
+ghost use Rattle.rows.specs.contracts.Slots.{Within};
+ghost use Rattle.rows.specs.contracts.Searches.{LastAt, LastAtIfAscending};
+ghost use Rattle.rows.specs.contracts.Finds.{FindsRowAmong, FindsRow, FindsRequest, FindsOpen};
 ghost use Rattle.rows.specs.contracts.Sizes.{ROWS, REQUESTS, IsTables};
 
-// The place of n among the first words of a column, which rise: by halves.
-// Ruled out: a place at or past the count; nothing where n is there.
+// The position of n among the first words of a column, which rise: by halves.
+// Ruled out: a position at or past the count; nothing where n is there.
 pub fn search(column: &[u32], count: usize, n: u32) -> Found
     requires { ⌜ count ≤ length (now column) ⌝ }
     ensures within { λ r. ⌜ Within count r ⌝ }
-    ensures found { λ r. ⌜ (Ascending count (now (column .entry)) → LastAt (now (column .entry)) count n r) ⌝ }
+    ensures found { λ r. ⌜ LastAtIfAscending (now (column .entry)) count n r ⌝ }
 {
     let mut lo = 0;
     let mut hi = count;
@@ -39,8 +38,8 @@ pub fn search(column: &[u32], count: usize, n: u32) -> Found
     Found::Nothing
 }
 
-// The last place of n among the first words of a column, in whatever order they stand: from the last word back.
-// Ruled out: an earlier place where n stands again; nothing where n is there.
+// The last position of n among the first words of a column, in whatever order they stand: from the last word back.
+// Ruled out: an earlier position where n stands again; nothing where n is there.
 pub fn search_back(column: &[u32], count: usize, n: u32) -> Found
     requires { ⌜ count ≤ length (now column) ⌝ }
     ensures within { λ r. ⌜ Within count r ⌝ }
@@ -97,7 +96,7 @@ pub fn requests_in(t: &[u32]) -> usize
 pub fn row_among(t: &[u32], count: usize, n: u32) -> Found
     requires { ⌜ IsTables (now t) × (count ≤ ROWS) ⌝ }
     ensures within { λ r. ⌜ Within count r ⌝ }
-    ensures found { λ r. ⌜ ((st : State) → Represents (now (t .entry)) st → count ≡ length (st .rows) → r ≡ foundSlot (rowSlot (st .rows) n)) ⌝ }
+    ensures found { λ r. ⌜ FindsRowAmong (now (t .entry)) count n r ⌝ }
 {
     search(&t[NUMBER..KIND], count, n)
 }
@@ -107,7 +106,7 @@ pub fn row_among(t: &[u32], count: usize, n: u32) -> Found
 pub fn row_slot(t: &[u32], n: u32) -> Found
     requires { ⌜ IsTables (now t) ⌝ }
     ensures within { λ r. ⌜ Within (rowsIn (now (t .entry))) r ⌝ }
-    ensures found { λ r. ⌜ ((st : State) → Represents (now (t .entry)) st → r ≡ foundSlot (rowSlot (st .rows) n)) ⌝ }
+    ensures found { λ r. ⌜ FindsRow (now (t .entry)) n r ⌝ }
 {
     let count = rows_in(t);
     row_among(t, count, n)
@@ -118,7 +117,7 @@ pub fn row_slot(t: &[u32], n: u32) -> Found
 pub fn request_slot(t: &[u32], q: u32) -> Found
     requires { ⌜ IsTables (now t) ⌝ }
     ensures within { λ r. ⌜ Within (requestsIn (now (t .entry))) r ⌝ }
-    ensures found { λ r. ⌜ ((st : State) → Represents (now (t .entry)) st → r ≡ foundSlot (requestSlot (st .requests) q)) ⌝ }
+    ensures found { λ r. ⌜ FindsRequest (now (t .entry)) q r ⌝ }
 {
     let count = requests_in(t);
     search(&t[Q_NUMBER..Q_PORT], count, q)
@@ -129,7 +128,7 @@ pub fn request_slot(t: &[u32], q: u32) -> Found
 pub fn open_on(t: &[u32], c: u32) -> Found
     requires { ⌜ IsTables (now t) ⌝ }
     ensures within { λ r. ⌜ Within (requestsIn (now (t .entry))) r ⌝ }
-    ensures found { λ r. ⌜ ((st : State) → Represents (now (t .entry)) st → r ≡ foundSlot (openSlot (st .requests) c)) ⌝ }
+    ensures found { λ r. ⌜ FindsOpen (now (t .entry)) c r ⌝ }
 {
     let count = requests_in(t);
     search_back(&t[Q_PORT..Q_ASKER], count, c)

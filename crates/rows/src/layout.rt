@@ -47,8 +47,14 @@ pub const Q_PORT: usize = Q_NUMBER + REQUESTS;
 pub const Q_ASKER: usize = Q_NUMBER + 2 * REQUESTS;
 
 pub const Q_FETCHED: usize = Q_NUMBER + 3 * REQUESTS;
-// four of them
+// the columns of the four items
 pub const Q_ITEMS: usize = Q_NUMBER + 4 * REQUESTS;
+
+pub const Q_ITEM_2: usize = Q_ITEMS + REQUESTS;
+
+pub const Q_ITEM_3: usize = Q_ITEMS + 2 * REQUESTS;
+
+pub const Q_ITEM_4: usize = Q_ITEMS + 3 * REQUESTS;
 
 // the next number, and the length of the run
 pub const NEXT: usize = Q_NUMBER + REQUEST_COLUMNS * REQUESTS;

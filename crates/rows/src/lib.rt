@@ -17,7 +17,7 @@ pub struct Row {
     pub request: u32,
 }
 
-// An open request. An item that left the list leaves a 0 in its place.
+// An open request. An item that left the list leaves a 0 behind.
 pub struct Request {
     pub number: u32,
     pub port: u32,

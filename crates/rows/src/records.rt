@@ -1,8 +1,8 @@
 // The process records in their lent run of words, three to a record.
 use crate::Process;
 use crate::layout::PROCESSES;
+use crate::layout::RECORD_WORDS;
 ghost use mathlib.Core.Path.{_≡_};
-ghost use lib.ListN.{length};
 ghost use Rattle.rows.specs.Tables.{isListed};
 ghost use Rattle.rows.specs.Layout.{recordsIn, recordsOf};
 ghost use Rattle.rows.specs.contracts.Sizes.{IsRecords};
@@ -10,7 +10,7 @@ ghost use Rattle.rows.specs.contracts.Sizes.{IsRecords};
 // The records of all processes: that of process p is element p - 1.
 pub type Records = [Process; PROCESSES];
 
-// The records by value. Ruled out: a record of another process; two fields in each other's place.
+// The records by value. Ruled out: a record of another process; two fields swapped.
 pub fn load(p: &[u32]) -> Records
     requires { ⌜ IsRecords (now p) ⌝ }
     ensures { λ r. ⌜ r ≡ recordsIn (now (p .entry)) ⌝ }
@@ -23,7 +23,7 @@ pub fn load(p: &[u32]) -> Records
     let mut ps = [none; PROCESSES];
     let mut i = 0;
     while i < PROCESSES {
-        let at = 3 * i;
+        let at = RECORD_WORDS * i;
         ps[i] = Process {
             prime: p[at],
             active: p[at + 1],
@@ -34,7 +34,7 @@ pub fn load(p: &[u32]) -> Records
     ps
 }
 
-// Writes the records back. Ruled out: a word of the run is left as it was; two fields in each other's place.
+// Writes the records back. Ruled out: a word of the run is left as it was; two fields swapped.
 pub fn store(ps: Records, p: &mut [u32])
     requires { ⌜ IsRecords (now p) ⌝ }
     ensures { λ _. ⌜ now (p .exit) ≡ recordsOf ps ⌝ }
@@ -42,7 +42,7 @@ pub fn store(ps: Records, p: &mut [u32])
     let mut i = 0;
     while i < PROCESSES {
         let x = ps[i];
-        let at = 3 * i;
+        let at = RECORD_WORDS * i;
         p[at] = x.prime;
         p[at + 1] = x.active;
         p[at + 2] = x.through;
@@ -62,5 +62,5 @@ pub fn listed(p: &[u32], n: u32) -> bool
         return false;
     }
     let i = (n - 1) as usize;
-    0 < p[3 * i]
+    0 < p[RECORD_WORDS * i]
 }

@@ -17,9 +17,11 @@ use Rattle.rows.specs.Lists.{rises, member, all, each, laid, filter, some, nonz
 use Rattle.rows.specs.Limits.{rowSlots, requestSlots, mostItems}
 use Rattle.rows.specs.Tables.{numbers, sources}
 use Rattle.rows.specs.Sound.{rowsRise, requestsRise, rowsFit, requestsFit, itemsFew}
-use Rattle.rows.specs.Layout.{wordsOf, nextAt, requestColumns, sourceSlot, rowWord, requestWord, rowField, numberAt, rowAt, rowsTo, rowColumns, requestsAt, requestField, requestAt, requestsTo, rowsIn, requestsIn, stateOf, rowSlot, rawRow}
+use Rattle.rows.specs.Layout.{wordsOf, nextAt, requestColumns, sourceSlot, wordsOfRow, slotted, rowWord, requestWord, rowField, numberAt, rowAt, rowsTo, rowColumns, requestsAt, requestField, requestAt, requestsTo, rowsIn, requestsIn, stateOf, rowSlot, rawRow}
 use Rattle.rows.specs.Setters.{withSources}
 use Rattle.rows.specs.contracts.Represents.{sourcesOlder, laidWell, Represents}
+use Rattle.rows.proofs.LayoutRows.{row-word-from}
+use Rattle.rows.proofs.LayoutRequests.{request-word-from}
 use Rattle.soundness.specs.contracts.Laid.{Rising, RowsLaid, RequestsLaid}
 use Rattle.rows.proofs.Bools.{and-i}
 use Rattle.rows.proofs.RowSources.{Among}
@@ -81,18 +83,11 @@ module _ (t : List ℕ) (n : ℕ) (laid-well : RowsLaid t n) where
       )
 
   row-word : (c i : ℕ) → c < 10 → i < n → rowWord c (rowAt t n i) (listTo (rowAt t n) i) ≡ rowField t c i
-  unfolding rowWord rowAt rawRow withSources rowField rowSlots
-  row-word zero i h lt = refl
-  row-word (suc zero) i h lt = refl
-  row-word (suc (suc zero)) i h lt = refl
-  row-word (suc (suc (suc zero))) i h lt = refl
-  row-word (suc (suc (suc (suc zero)))) i h lt = refl
-  row-word (suc (suc (suc (suc (suc zero))))) i h lt = refl
-  row-word (suc (suc (suc (suc (suc (suc zero)))))) i h lt = source-back i (rowField t 6 i) (omega arith) (laid-well .sources i lt) .0
-  row-word (suc (suc (suc (suc (suc (suc (suc zero))))))) i h lt = source-back i (rowField t 7 i) (omega arith) (laid-well .vias i lt) .0
-  row-word (suc (suc (suc (suc (suc (suc (suc (suc zero)))))))) i h lt = refl
-  row-word (suc (suc (suc (suc (suc (suc (suc (suc (suc zero))))))))) i h lt = refl
-  row-word (suc (suc (suc (suc (suc (suc (suc (suc (suc (suc c)))))))))) i h lt = absurd (omega arith)
+  unfolding rowWord slotted rowAt rawRow withSources rowField rowSlots
+  row-word c i h lt =
+      let source = source-back i (rowField t 6 i) (omega arith) (laid-well .sources i lt) .0 in
+      let via = source-back i (rowField t 7 i) (omega arith) (laid-well .vias i lt) .0 in
+      (λ j. getD (wordsOfRow (withSources (source j) (via j) (rawRow t i))) c 0) ∙ row-word-from (λ d. rowField t d i) c h
 
   -- the words are those that the rows read lay out
   pub row-laid : (c i : ℕ) → c < 10 → i < 1024 → getD t (c * 1024 + i) 0 ≡ getD (laid (rowWord c) (rowsTo t n n)) i 0
@@ -118,15 +113,7 @@ module _ (t : List ℕ) (n : ℕ) (laid-well : RowsLaid t n) where
 module _ (t : List ℕ) (m : ℕ) (laid-well : RequestsLaid t m) where
   request-word : (c i : ℕ) → c < 8 → requestWord c (requestAt t i) (listTo (requestAt t) i) ≡ requestField t c i
   unfolding requestWord requestAt
-  request-word zero i h = refl
-  request-word (suc zero) i h = refl
-  request-word (suc (suc zero)) i h = refl
-  request-word (suc (suc (suc zero))) i h = refl
-  request-word (suc (suc (suc (suc zero)))) i h = refl
-  request-word (suc (suc (suc (suc (suc zero))))) i h = refl
-  request-word (suc (suc (suc (suc (suc (suc zero)))))) i h = refl
-  request-word (suc (suc (suc (suc (suc (suc (suc zero))))))) i h = refl
-  request-word (suc (suc (suc (suc (suc (suc (suc (suc c)))))))) i h = absurd (omega arith)
+  request-word c i h = request-word-from (λ d. requestField t d i) c h
 
   pub request-laid : (c i : ℕ) → c < 8 → i < 128 → getD t (10240 + (c * 128 + i)) 0 ≡ getD (laid (requestWord c) (requestsTo t m)) i 0
   unfolding requestField requestsAt rowColumns rowSlots requestSlots
@@ -220,7 +207,7 @@ module _ (t p : List ℕ) where
         omega (arith, source-le rs (f r), length-to (rowAt t (rowsIn t)) i)
 
     pub represented-rows-laid : RowsLaid t (rowsIn t)
-    unfolding stateOf rowWord
+    unfolding stateOf rowWord slotted withSources
     represented-rows-laid =
         record {
           numbers =

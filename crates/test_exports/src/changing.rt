@@ -3,32 +3,27 @@ use changes::change;
 use changes::remove;
 use rows::Request;
 use rows::Row;
+use rows::layout::ITEMS;
+use rows::layout::REQUEST_COLUMNS;
 use rows::layout::REQUESTS;
+use rows::layout::ROW_COLUMNS;
 use rows::layout::ROWS;
 use rows::layout::RequestMarks;
 use rows::layout::RowMarks;
 use rows::layout::TABLES;
 ghost use mathlib.Core.Path.{_≡_};
-ghost use mathlib.Core.Bool.{Bool, true, false, not};
-ghost use mathlib.Core.List.{List, _∷_};
-ghost use Prim.Native.Nat.{ℕ, suc, _<_, _≤_};
-ghost use lib.ListN.{length};
-ghost use Rattle.rows.specs.declared.Request.{Request};
-ghost use Rattle.rows.specs.Lists.{topOf, filter, pad, member};
-ghost use Rattle.rows.specs.Tables.{State};
-ghost use Rattle.rows.specs.contracts.Represents.{Represents, changeRow, changeRequest};
-ghost use Rattle.rows.specs.Layout.{rowSlot};
-ghost use Rattle.rows.specs.contracts.Slots.{requestSlot, withSourceNumbers};
-ghost use Rattle.rows.specs.Setters.{withRows, withRequests, withNext, withPlace};
-ghost use Rattle.changes.specs.contracts.Changes.{itemCleared, asFetched};
-ghost use Rattle.changes.specs.contracts.Marks.{tested, marksOf, closedUnder};
-ghost use Rattle.test_exports.specs.contracts.Fields.{rowFrom, requestFrom};
+ghost use Prim.Native.Nat.{_<_, _≤_};
+ghost use Rattle.rows.specs.Setters.{withPlace};
 ghost use Rattle.rows.specs.contracts.Sizes.{ROWS, REQUESTS, ITEMS, IsTables};
+ghost use Rattle.changes.specs.contracts.Changes.{ChangesRow, ChangesRequest, SetsNext, RemovesRows, RemovesRequests};
+ghost use Rattle.changes.specs.contracts.Changes.{itemCleared, asFetched};
+ghost use Rattle.test_exports.specs.contracts.Exports.{rowOfWords, requestOfWords};
+ghost use Rattle.test_exports.specs.contracts.Exports.{Unless, ItemFits, RowFits, AddsRowOf, AddsRequestOf};
 
 #[no_mangle]
 pub extern "C" fn kernel_set_place(t: &mut [u32], i: usize, place: u32)
-    ensures represents { λ _. ⌜ ((st : State) (n : ℕ) → i < ROWS → Represents (now (t .entry)) st → rowSlot (st .rows) n ≡ suc i → Represents (now (t .exit)) (changeRow n (withPlace place) st)) ⌝ }
-    ensures other { λ _. ⌜ ((IsTables (now (t .entry)) × (i < ROWS) → ⊥) → now (t .exit) ≡ now (t .entry)) ⌝ }
+    ensures represents { λ _. ⌜ ChangesRow (now (t .entry)) (now (t .exit)) i (withPlace place) ⌝ }
+    ensures other { λ _. ⌜ Unless (IsTables (now (t .entry)) × (i < ROWS)) (now (t .exit) ≡ now (t .entry)) ⌝ }
 {
     if t.len() != TABLES {
         return;
@@ -41,8 +36,8 @@ pub extern "C" fn kernel_set_place(t: &mut [u32], i: usize, place: u32)
 
 #[no_mangle]
 pub extern "C" fn kernel_clear_item(t: &mut [u32], j: usize, k: usize)
-    ensures represents { λ _. ⌜ ((st : State) (q : ℕ) → j < REQUESTS → k < ITEMS → Represents (now (t .entry)) st → requestSlot (st .requests) q ≡ suc j → Represents (now (t .exit)) (changeRequest q (itemCleared k) st)) ⌝ }
-    ensures other { λ _. ⌜ ((IsTables (now (t .entry)) × (j < REQUESTS) × (k < ITEMS) → ⊥) → now (t .exit) ≡ now (t .entry)) ⌝ }
+    ensures represents { λ _. ⌜ (k < ITEMS → ChangesRequest (now (t .entry)) (now (t .exit)) j (itemCleared k)) ⌝ }
+    ensures other { λ _. ⌜ Unless (ItemFits (now (t .entry)) j k) (now (t .exit) ≡ now (t .entry)) ⌝ }
 {
     if t.len() != TABLES {
         return;
@@ -50,7 +45,7 @@ pub extern "C" fn kernel_clear_item(t: &mut [u32], j: usize, k: usize)
     if REQUESTS <= j {
         return;
     }
-    if 4 <= k {
+    if ITEMS <= k {
         return;
     }
     change::clear_item(t, j, k);
@@ -58,8 +53,8 @@ pub extern "C" fn kernel_clear_item(t: &mut [u32], j: usize, k: usize)
 
 #[no_mangle]
 pub extern "C" fn kernel_set_fetched(t: &mut [u32], j: usize)
-    ensures represents { λ _. ⌜ ((st : State) (q : ℕ) → j < REQUESTS → Represents (now (t .entry)) st → requestSlot (st .requests) q ≡ suc j → Represents (now (t .exit)) (changeRequest q asFetched st)) ⌝ }
-    ensures other { λ _. ⌜ ((IsTables (now (t .entry)) × (j < REQUESTS) → ⊥) → now (t .exit) ≡ now (t .entry)) ⌝ }
+    ensures represents { λ _. ⌜ ChangesRequest (now (t .entry)) (now (t .exit)) j asFetched ⌝ }
+    ensures other { λ _. ⌜ Unless (IsTables (now (t .entry)) × (j < REQUESTS)) (now (t .exit) ≡ now (t .entry)) ⌝ }
 {
     if t.len() != TABLES {
         return;
@@ -72,8 +67,8 @@ pub extern "C" fn kernel_set_fetched(t: &mut [u32], j: usize)
 
 #[no_mangle]
 pub extern "C" fn kernel_set_next(t: &mut [u32], n: u32)
-    ensures represents { λ _. ⌜ ((st : State) → Represents (now (t .entry)) st → Represents (now (t .exit)) (withNext n st)) ⌝ }
-    ensures other { λ _. ⌜ ((IsTables (now (t .entry)) → ⊥) → now (t .exit) ≡ now (t .entry)) ⌝ }
+    ensures represents { λ _. ⌜ SetsNext (now (t .entry)) (now (t .exit)) n ⌝ }
+    ensures other { λ _. ⌜ Unless (IsTables (now (t .entry))) (now (t .exit) ≡ now (t .entry)) ⌝ }
 {
     if t.len() != TABLES {
         return;
@@ -81,8 +76,9 @@ pub extern "C" fn kernel_set_next(t: &mut [u32], n: u32)
     change::set_next(t, n);
 }
 
-fn row_of(w: &[u32; 10]) -> Row
-    ensures { λ r. ⌜ r ≡ rowFrom (now (w .entry)) ⌝ }
+// The row of its words.
+fn row_of(w: &[u32; ROW_COLUMNS]) -> Row
+    ensures { λ r. ⌜ r ≡ rowOfWords (now (w .entry)) ⌝ }
 {
     Row {
         number: w[0],
@@ -98,11 +94,11 @@ fn row_of(w: &[u32; 10]) -> Row
     }
 }
 
-// The row is given by the ten words of its columns.
+// The row is given by the words of its columns.
 #[no_mangle]
-pub extern "C" fn kernel_append_row(t: &mut [u32], count: usize, w: &[u32; 10])
-    ensures represents { λ _. ⌜ ((st : State) → (count < ROWS) × (rowFrom (now (w .entry)) .source ≤ count) × (rowFrom (now (w .entry)) .via ≤ count) → Represents (now (t .entry)) st → count ≡ length (st .rows) → topOf (λ r. r .number) (st .rows) < rowFrom (now (w .entry)) .number → Represents (now (t .exit)) (withRows (withSourceNumbers (st .rows) (rowFrom (now (w .entry))) ∷ st .rows) st)) ⌝ }
-    ensures other { λ _. ⌜ ((IsTables (now (t .entry)) × (count < ROWS) × (rowFrom (now (w .entry)) .source ≤ count) × (rowFrom (now (w .entry)) .via ≤ count) → ⊥) → now (t .exit) ≡ now (t .entry)) ⌝ }
+pub extern "C" fn kernel_append_row(t: &mut [u32], count: usize, w: &[u32; ROW_COLUMNS])
+    ensures represents { λ _. ⌜ AddsRowOf (now (t .entry)) (now (t .exit)) count (now (w .entry)) ⌝ }
+    ensures other { λ _. ⌜ Unless (RowFits (now (t .entry)) count (now (w .entry))) (now (t .exit) ≡ now (t .entry)) ⌝ }
 {
     if t.len() != TABLES {
         return;
@@ -120,8 +116,9 @@ pub extern "C" fn kernel_append_row(t: &mut [u32], count: usize, w: &[u32; 10])
     change::append_row(t, count, row);
 }
 
-fn request_of(w: &[u32; 8]) -> Request
-    ensures { λ r. ⌜ r ≡ requestFrom (now (w .entry)) ⌝ }
+// The request of its words.
+fn request_of(w: &[u32; REQUEST_COLUMNS]) -> Request
+    ensures { λ r. ⌜ r ≡ requestOfWords (now (w .entry)) ⌝ }
 {
     let items = [w[4], w[5], w[6], w[7]];
     Request {
@@ -133,11 +130,11 @@ fn request_of(w: &[u32; 8]) -> Request
     }
 }
 
-// The request is given by the eight words of its columns.
+// The request is given by the words of its columns.
 #[no_mangle]
-pub extern "C" fn kernel_append_request(t: &mut [u32], count: usize, w: &[u32; 8])
-    ensures represents { λ _. ⌜ ((st : State) → count < REQUESTS → Represents (now (t .entry)) st → count ≡ length (st .requests) → topOf (λ v. v .number) (st .requests) < requestFrom (now (w .entry)) .number → Represents (now (t .exit)) (withRequests (requestFrom (now (w .entry)) ∷ st .requests) st)) ⌝ }
-    ensures other { λ _. ⌜ ((IsTables (now (t .entry)) × (count < REQUESTS) → ⊥) → now (t .exit) ≡ now (t .entry)) ⌝ }
+pub extern "C" fn kernel_append_request(t: &mut [u32], count: usize, w: &[u32; REQUEST_COLUMNS])
+    ensures represents { λ _. ⌜ AddsRequestOf (now (t .entry)) (now (t .exit)) count (now (w .entry)) ⌝ }
+    ensures other { λ _. ⌜ Unless (IsTables (now (t .entry)) × (count < REQUESTS)) (now (t .exit) ≡ now (t .entry)) ⌝ }
 {
     if t.len() != TABLES {
         return;
@@ -151,8 +148,8 @@ pub extern "C" fn kernel_append_request(t: &mut [u32], count: usize, w: &[u32; 8
 
 #[no_mangle]
 pub extern "C" fn kernel_remove_rows(t: &mut [u32], count: usize, marks: &RowMarks)
-    ensures represents { λ _. ⌜ ((st : State) (g : List ℕ) → count ≤ ROWS → Represents (now (t .entry)) st → count ≡ length (st .rows) → now (marks .entry) ≡ pad false ROWS (marksOf g (st .rows)) → closedUnder g (st .rows) ≡ true → Represents (now (t .exit)) (withRows (filter (λ r. not (member (r .number) g)) (st .rows)) st)) ⌝ }
-    ensures other { λ _. ⌜ ((IsTables (now (t .entry)) × (count ≤ ROWS) → ⊥) → now (t .exit) ≡ now (t .entry)) ⌝ }
+    ensures represents { λ _. ⌜ RemovesRows (now (t .entry)) (now (t .exit)) count (now (marks .entry)) ⌝ }
+    ensures other { λ _. ⌜ Unless (IsTables (now (t .entry)) × (count ≤ ROWS)) (now (t .exit) ≡ now (t .entry)) ⌝ }
 {
     if t.len() != TABLES {
         return;
@@ -165,8 +162,8 @@ pub extern "C" fn kernel_remove_rows(t: &mut [u32], count: usize, marks: &RowMar
 
 #[no_mangle]
 pub extern "C" fn kernel_remove_requests(t: &mut [u32], marks: &RequestMarks)
-    ensures represents { λ _. ⌜ ((st : State) (f : Request → Bool) → Represents (now (t .entry)) st → now (marks .entry) ≡ pad false REQUESTS (tested f (st .requests)) → Represents (now (t .exit)) (withRequests (filter (λ v. not (f v)) (st .requests)) st)) ⌝ }
-    ensures other { λ _. ⌜ ((IsTables (now (t .entry)) → ⊥) → now (t .exit) ≡ now (t .entry)) ⌝ }
+    ensures represents { λ _. ⌜ RemovesRequests (now (t .entry)) (now (t .exit)) (now (marks .entry)) ⌝ }
+    ensures other { λ _. ⌜ Unless (IsTables (now (t .entry))) (now (t .exit) ≡ now (t .entry)) ⌝ }
 {
     if t.len() != TABLES {
         return;

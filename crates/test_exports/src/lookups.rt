@@ -4,17 +4,16 @@ use rows::find;
 use rows::layout::TABLES;
 ghost use mathlib.Core.Path.{_≡_};
 ghost use Prim.Native.Nat.{_≤_};
-ghost use lib.ListN.{length};
-ghost use Rattle.rows.specs.Tables.{State};
-ghost use Rattle.rows.specs.Layout.{rowsIn, requestsIn, rowSlot};
-ghost use Rattle.rows.specs.contracts.Represents.{Represents};
-ghost use Rattle.rows.specs.contracts.Slots.{requestSlot, openSlot};
+ghost use Rattle.rows.specs.Layout.{rowsIn, requestsIn};
+ghost use Rattle.rows.specs.contracts.Slots.{foundSlot};
+ghost use Rattle.rows.specs.contracts.Finds.{FindsRow, FindsRequest, FindsOpen};
 ghost use Rattle.rows.specs.contracts.Sizes.{IsTables};
+ghost use Rattle.test_exports.specs.contracts.Exports.{Unless};
 
 #[no_mangle]
 pub extern "C" fn kernel_rows_in(t: &[u32]) -> usize
     ensures counted { λ r. ⌜ (IsTables (now (t .entry)) → r ≡ rowsIn (now (t .entry))) ⌝ }
-    ensures other { λ r. ⌜ ((IsTables (now (t .entry)) → ⊥) → r ≡ 0) ⌝ }
+    ensures other { λ r. ⌜ Unless (IsTables (now (t .entry))) (r ≡ 0) ⌝ }
 {
     if t.len() != TABLES {
         return 0;
@@ -25,7 +24,7 @@ pub extern "C" fn kernel_rows_in(t: &[u32]) -> usize
 #[no_mangle]
 pub extern "C" fn kernel_requests_in(t: &[u32]) -> usize
     ensures counted { λ r. ⌜ (IsTables (now (t .entry)) → r ≡ requestsIn (now (t .entry))) ⌝ }
-    ensures other { λ r. ⌜ ((IsTables (now (t .entry)) → ⊥) → r ≡ 0) ⌝ }
+    ensures other { λ r. ⌜ Unless (IsTables (now (t .entry))) (r ≡ 0) ⌝ }
 {
     if t.len() != TABLES {
         return 0;
@@ -36,8 +35,8 @@ pub extern "C" fn kernel_requests_in(t: &[u32]) -> usize
 #[no_mangle]
 pub extern "C" fn kernel_row_slot(t: &[u32], n: u32) -> usize
     ensures within { λ r. ⌜ r ≤ rowsIn (now (t .entry)) ⌝ }
-    ensures found { λ r. ⌜ ((st : State) → Represents (now (t .entry)) st → r ≡ rowSlot (st .rows) n) ⌝ }
-    ensures other { λ r. ⌜ ((IsTables (now (t .entry)) → ⊥) → r ≡ 0) ⌝ }
+    ensures found { λ r. ⌜ FindsRow (now (t .entry)) n (foundSlot r) ⌝ }
+    ensures other { λ r. ⌜ Unless (IsTables (now (t .entry))) (r ≡ 0) ⌝ }
 {
     if t.len() != TABLES {
         return 0;
@@ -51,8 +50,8 @@ pub extern "C" fn kernel_row_slot(t: &[u32], n: u32) -> usize
 #[no_mangle]
 pub extern "C" fn kernel_request_slot(t: &[u32], q: u32) -> usize
     ensures within { λ r. ⌜ r ≤ requestsIn (now (t .entry)) ⌝ }
-    ensures found { λ r. ⌜ ((st : State) → Represents (now (t .entry)) st → r ≡ requestSlot (st .requests) q) ⌝ }
-    ensures other { λ r. ⌜ ((IsTables (now (t .entry)) → ⊥) → r ≡ 0) ⌝ }
+    ensures found { λ r. ⌜ FindsRequest (now (t .entry)) q (foundSlot r) ⌝ }
+    ensures other { λ r. ⌜ Unless (IsTables (now (t .entry))) (r ≡ 0) ⌝ }
 {
     if t.len() != TABLES {
         return 0;
@@ -66,8 +65,8 @@ pub extern "C" fn kernel_request_slot(t: &[u32], q: u32) -> usize
 #[no_mangle]
 pub extern "C" fn kernel_open_on(t: &[u32], c: u32) -> usize
     ensures within { λ r. ⌜ r ≤ requestsIn (now (t .entry)) ⌝ }
-    ensures found { λ r. ⌜ ((st : State) → Represents (now (t .entry)) st → r ≡ openSlot (st .requests) c) ⌝ }
-    ensures other { λ r. ⌜ ((IsTables (now (t .entry)) → ⊥) → r ≡ 0) ⌝ }
+    ensures found { λ r. ⌜ FindsOpen (now (t .entry)) c (foundSlot r) ⌝ }
+    ensures other { λ r. ⌜ Unless (IsTables (now (t .entry))) (r ≡ 0) ⌝ }
 {
     if t.len() != TABLES {
         return 0;

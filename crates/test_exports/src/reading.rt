@@ -1,6 +1,9 @@
-// Reading: the words of a slot, the next number, the process records. Where a length or slot does not fit, nothing is written, and the answer is 0 or no.
+// Reading: the words of a slot, the next number, the process records.
+// Where a length or slot does not fit, nothing is written, and the answer is 0 or no.
 use rows::layout::RECORDS;
+use rows::layout::REQUEST_COLUMNS;
 use rows::layout::REQUESTS;
+use rows::layout::ROW_COLUMNS;
 use rows::layout::ROWS;
 use rows::layout::TABLES;
 use rows::read;
@@ -8,16 +11,17 @@ use rows::records;
 ghost use mathlib.Core.Path.{_≡_};
 ghost use mathlib.Core.Bool.{false};
 ghost use Prim.Native.Nat.{_<_};
-ghost use lib.ListN.{length, getD};
+ghost use lib.ListN.{getD};
 ghost use Rattle.rows.specs.Tables.{isListed};
-ghost use Rattle.rows.specs.Layout.{requestAt, recordsIn, recordsOf, rawRow};
-ghost use Rattle.test_exports.specs.contracts.Fields.{fieldsOf, requestFieldsOf};
+ghost use Rattle.rows.specs.Layout.{recordsIn};
 ghost use Rattle.rows.specs.contracts.Sizes.{ROWS, REQUESTS, NEXT, IsTables, IsRecords};
+ghost use Rattle.test_exports.specs.contracts.Exports.{Unless, ReadsRow, ReadsRequest};
+ghost use Rattle.test_exports.specs.contracts.Exports.{StoresRecords, RecordsStay};
 
 #[no_mangle]
-pub extern "C" fn kernel_row_at(t: &[u32], i: usize, out: &mut [u32; 10])
-    ensures read { λ _. ⌜ (IsTables (now (t .entry)) × (i < ROWS) → now (out .exit) ≡ fieldsOf (rawRow (now (t .entry)) i)) ⌝ }
-    ensures other { λ _. ⌜ ((IsTables (now (t .entry)) × (i < ROWS) → ⊥) → now (out .exit) ≡ now (out .entry)) ⌝ }
+pub extern "C" fn kernel_row_at(t: &[u32], i: usize, out: &mut [u32; ROW_COLUMNS])
+    ensures read { λ _. ⌜ ReadsRow (now (t .entry)) i (now (out .exit)) ⌝ }
+    ensures other { λ _. ⌜ Unless (IsTables (now (t .entry)) × (i < ROWS)) (now (out .exit) ≡ now (out .entry)) ⌝ }
 {
     if t.len() != TABLES {
         return;
@@ -41,9 +45,9 @@ pub extern "C" fn kernel_row_at(t: &[u32], i: usize, out: &mut [u32; 10])
 }
 
 #[no_mangle]
-pub extern "C" fn kernel_request_at(t: &[u32], j: usize, out: &mut [u32; 8])
-    ensures read { λ _. ⌜ (IsTables (now (t .entry)) × (j < REQUESTS) → now (out .exit) ≡ requestFieldsOf (requestAt (now (t .entry)) j)) ⌝ }
-    ensures other { λ _. ⌜ ((IsTables (now (t .entry)) × (j < REQUESTS) → ⊥) → now (out .exit) ≡ now (out .entry)) ⌝ }
+pub extern "C" fn kernel_request_at(t: &[u32], j: usize, out: &mut [u32; REQUEST_COLUMNS])
+    ensures read { λ _. ⌜ ReadsRequest (now (t .entry)) j (now (out .exit)) ⌝ }
+    ensures other { λ _. ⌜ Unless (IsTables (now (t .entry)) × (j < REQUESTS)) (now (out .exit) ≡ now (out .entry)) ⌝ }
 {
     if t.len() != TABLES {
         return;
@@ -68,7 +72,7 @@ pub extern "C" fn kernel_request_at(t: &[u32], j: usize, out: &mut [u32; 8])
 #[no_mangle]
 pub extern "C" fn kernel_next_of(t: &[u32]) -> u32
     ensures read { λ r. ⌜ (IsTables (now (t .entry)) → r ≡ getD (now (t .entry)) NEXT 0) ⌝ }
-    ensures other { λ r. ⌜ ((IsTables (now (t .entry)) → ⊥) → r ≡ 0) ⌝ }
+    ensures other { λ r. ⌜ Unless (IsTables (now (t .entry))) (r ≡ 0) ⌝ }
 {
     if t.len() != TABLES {
         return 0;
@@ -79,7 +83,7 @@ pub extern "C" fn kernel_next_of(t: &[u32]) -> u32
 #[no_mangle]
 pub extern "C" fn kernel_listed(p: &[u32], n: u32) -> bool
     ensures listed { λ r. ⌜ (IsRecords (now (p .entry)) → r ≡ isListed (recordsIn (now (p .entry))) n) ⌝ }
-    ensures other { λ r. ⌜ ((IsRecords (now (p .entry)) → ⊥) → r ≡ false) ⌝ }
+    ensures other { λ r. ⌜ Unless (IsRecords (now (p .entry))) (r ≡ false) ⌝ }
 {
     if p.len() != RECORDS {
         return false;
@@ -90,8 +94,8 @@ pub extern "C" fn kernel_listed(p: &[u32], n: u32) -> bool
 // The records of one run, stored in the other.
 #[no_mangle]
 pub extern "C" fn kernel_records(from: &[u32], to: &mut [u32])
-    ensures stored { λ _. ⌜ (IsRecords (now (from .entry)) × IsRecords (now (to .entry)) → now (to .exit) ≡ recordsOf (recordsIn (now (from .entry)))) ⌝ }
-    ensures other { λ _. ⌜ ((IsRecords (now (from .entry)) × IsRecords (now (to .entry)) → ⊥) → now (to .exit) ≡ now (to .entry)) ⌝ }
+    ensures stored { λ _. ⌜ StoresRecords (now (from .entry)) (now (to .entry)) (now (to .exit)) ⌝ }
+    ensures other { λ _. ⌜ RecordsStay (now (from .entry)) (now (to .entry)) (now (to .exit)) ⌝ }
 {
     if from.len() != RECORDS {
         return;

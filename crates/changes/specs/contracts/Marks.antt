@@ -1,11 +1,14 @@
 -- Marks of what is to be removed, one for each slot, oldest first; what is left, and the slots that it moves to.
-use Prim.Native.Nat.{ℕ, zero, suc, _*_}
+use Prim.Native.Nat.{ℕ, zero, suc, _*_, _≤_, _<_}
 use mathlib.Core.Bool.{Bool, false, not, _||_}
 use mathlib.Core.List.{List, [], _∷_, _++_, map}
+use mathlib.Core.Path.{_≡_}
 use lib.ListN.{getD, take, drop}
 use Rattle.rows.specs.declared.Row.{Row}
+use Rattle.rows.specs.declared.Request.{Request}
 use Rattle.rows.specs.Lists.{if_then_else_, any, all, pad, member}
 use Rattle.rows.specs.Tables.{sources}
+use Rattle.rows.specs.contracts.Sizes.{ROWS, REQUESTS}
 
 -- ---- marks
 module _ {A : Type 0} where
@@ -28,7 +31,26 @@ marksOf g rows = tested (λ r. member (r .number) g) rows
 unfoldable pub closedUnder : List ℕ → List Row → Bool
 closedUnder g rows = all (λ r. member (r .number) g || not (any (λ s. member s g) (sources r))) rows
 
+-- none of the first k is marked
+abbrev pub NoneMarked : List Bool → ℕ → Type 0
+NoneMarked ms k = (i : ℕ) → i < k → getD ms i false ≡ false
+
+-- the marks of all slots of rows: set for the rows in g; of requests: for those that pass the test
+abbrev pub MarksRows : List Bool → List ℕ → List Row → Type 0
+MarksRows ms g rows = ms ≡ pad false ROWS (marksOf g rows)
+
+abbrev pub MarksRequests : List Bool → (Request → Bool) → List Request → Type 0
+MarksRequests ms f requests = ms ≡ pad false REQUESTS (tested f requests)
+
 -- ---- a column
+-- of the first n words those that are not marked
+abbrev pub unmarkedOf : List Bool → ℕ → List ℕ → List ℕ
+unmarkedOf ms n l = keep ms (take n l)
+
+-- the words from a position up to another are 0
+abbrev pub cleared : ℕ → ℕ → List ℕ → List ℕ
+cleared from to l = pad 0 to (take from l) ++ drop to l
+
 -- of the first n words those that are not marked come first, 0 after them; the others stay
 unfoldable pub compacted : List Bool → ℕ → List ℕ → List ℕ
 compacted ms n l = pad 0 n (keep ms (take n l)) ++ drop n l
@@ -48,6 +70,10 @@ lefts ms (suc i) = if getD ms i false then lefts ms i else suc (lefts ms i)
 unfoldable pub movedTo : List Bool → ℕ → ℕ
 movedTo ms zero = 0
 movedTo ms (suc i) = suc (lefts ms i)
+
+-- the word s of the table is what the slot plus 1 s becomes, up to n
+abbrev pub Ranks : List Bool → ℕ → List ℕ → Type 0
+Ranks ms n to = (s : ℕ) → s ≤ n → getD to s 0 ≡ movedTo ms s
 
 -- the first n words are changed by a table
 unfoldable pub remapped : List ℕ → ℕ → List ℕ → List ℕ

@@ -9,7 +9,7 @@ use Rattle.rows.specs.declared.Found.{Found}
 use Rattle.rows.specs.declared.Found.the-variants.{At, Nothing}
 use Rattle.rows.specs.Lists.{if_then_else_, slotWith}
 use Rattle.rows.specs.Setters.{withSources}
-use Rattle.rows.specs.Layout.{sourceSlot}
+unfoldable pub use Rattle.rows.specs.Layout.{slotted}
 
 -- the slots, plus 1, of the request numbered q and of the newest on port c; 0 for none
 unfoldable pub requestSlot : List Request → ℕ → ℕ
@@ -27,10 +27,6 @@ foundSlot (suc i) = At i
 unfoldable pub Within : ℕ → Found → Type 0
 Within k (At i) = i < k
 Within k Nothing = Unit {0}
-
--- a row of the state as its words have it, rs the older rows
-unfoldable pub slotted : Row → List Row → Row
-slotted r rs = withSources (sourceSlot rs (r .source)) (sourceSlot rs (r .via)) r
 
 -- the number of the row at a slot plus 1, 0 for none
 unfoldable pub numberOfSlot : List Row → ℕ → ℕ

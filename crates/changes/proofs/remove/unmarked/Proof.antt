@@ -1,4 +1,4 @@
--- No mark before the loop's place is set.
+-- No mark before the loop's position is set.
 use borrow.Author.Needs.{needs}
 use Prim.Native.Nat.{ℕ, _≤_, _<_, _-_}
 use native.Mathlib.Nat.{not-suc-le-zero}

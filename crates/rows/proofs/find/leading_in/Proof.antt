@@ -1,4 +1,4 @@
--- `find::leading_in` meets its contract: before the loop's place no word is 0.
+-- `find::leading_in` meets its contract: before the loop's position no word is 0.
 use borrow.Author.Needs.{needs}
 use Prim.Native.Nat.{ℕ, _≤_, _<_, _-_, _+_}
 use native.Mathlib.Omega.{arith}

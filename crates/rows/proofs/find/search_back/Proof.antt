@@ -1,4 +1,4 @@
--- `find::search_back` meets its contract: from the loop's place on the number does not stand.
+-- `find::search_back` meets its contract: from the loop's position on the number does not stand.
 use borrow.Author.Needs.{needs}
 use Prim.Native.Nat.{ℕ, _≤_, _<_, _-_, _+_}
 use native.Mathlib.Omega.{arith}

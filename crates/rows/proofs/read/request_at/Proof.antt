@@ -17,38 +17,29 @@ shared-slice-read-t7 c = search needs
 add-t8 : tie.Need-add-t8
 add-t8 c = search needs
 
-add-t9 : tie.Need-add-t9
-add-t9 c = search needs
+mul-t9 : tie.Need-mul-t9
+mul-t9 c = search needs
 
-mul-t10 : tie.Need-mul-t10
-mul-t10 c = search needs
+shared-slice-read-t11 : tie.Need-shared-slice-read-t11
+shared-slice-read-t11 c = search needs
 
-shared-slice-read-t12 : tie.Need-shared-slice-read-t12
-shared-slice-read-t12 c = search needs
+add-t12 : tie.Need-add-t12
+add-t12 c = search needs
 
-add-t13 : tie.Need-add-t13
-add-t13 c = search needs
+mul-t13 : tie.Need-mul-t13
+mul-t13 c = search needs
 
-add-t14 : tie.Need-add-t14
-add-t14 c = search needs
+shared-slice-read-t15 : tie.Need-shared-slice-read-t15
+shared-slice-read-t15 c = search needs
 
-mul-t15 : tie.Need-mul-t15
-mul-t15 c = search needs
+add-t16 : tie.Need-add-t16
+add-t16 c = search needs
 
-shared-slice-read-t17 : tie.Need-shared-slice-read-t17
-shared-slice-read-t17 c = search needs
+mul-t17 : tie.Need-mul-t17
+mul-t17 c = search needs
 
-add-t18 : tie.Need-add-t18
-add-t18 c = search needs
-
-add-t19 : tie.Need-add-t19
-add-t19 c = search needs
-
-mul-t20 : tie.Need-mul-t20
-mul-t20 c = search needs
-
-shared-slice-read-t22 : tie.Need-shared-slice-read-t22
-shared-slice-read-t22 c = search needs
+shared-slice-read-t19 : tie.Need-shared-slice-read-t19
+shared-slice-read-t19 c = search needs
 
 add-t4-2 : tie.Need-add-t4-2
 add-t4-2 c = search needs
@@ -56,40 +47,41 @@ add-t4-2 c = search needs
 mul-t5-2 : tie.Need-mul-t5-2
 mul-t5-2 c = search needs
 
-shared-slice-read-t22-2 : tie.Need-shared-slice-read-t22-2
-shared-slice-read-t22-2 c = search needs
+shared-slice-read-t19-2 : tie.Need-shared-slice-read-t19-2
+shared-slice-read-t19-2 c = search needs
 
-add-t19-2 : tie.Need-add-t19-2
-add-t19-2 c = search needs
+add-t16-2 : tie.Need-add-t16-2
+add-t16-2 c = search needs
 
-mul-t18 : tie.Need-mul-t18
-mul-t18 c = search needs
+mul-t17-2 : tie.Need-mul-t17-2
+mul-t17-2 c = search needs
 
-shared-slice-read-t17-2 : tie.Need-shared-slice-read-t17-2
-shared-slice-read-t17-2 c = search needs
+shared-slice-read-t15-2 : tie.Need-shared-slice-read-t15-2
+shared-slice-read-t15-2 c = search needs
 
-add-t15 : tie.Need-add-t15
-add-t15 c = search needs
+add-t12-2 : tie.Need-add-t12-2
+add-t12-2 c = search needs
 
-mul-t14 : tie.Need-mul-t14
-mul-t14 c = search needs
+mul-t13-2 : tie.Need-mul-t13-2
+mul-t13-2 c = search needs
+
+shared-slice-read-t11-2 : tie.Need-shared-slice-read-t11-2
+shared-slice-read-t11-2 c = search needs
+
+add-t8-2 : tie.Need-add-t8-2
+add-t8-2 c = search needs
+
+mul-t9-2 : tie.Need-mul-t9-2
+mul-t9-2 c = search needs
 
 shared-slice-read-t7-2 : tie.Need-shared-slice-read-t7-2
 shared-slice-read-t7-2 c = search needs
 
-add-t13-2 : tie.Need-add-t13-2
-add-t13-2 c = search needs
-
-mul-t10-2 : tie.Need-mul-t10-2
-mul-t10-2 c = search needs
-
-shared-slice-read-t12-2 : tie.Need-shared-slice-read-t12-2
-shared-slice-read-t12-2 c = search needs
-
 returns : tie.Need-returns
 returns c =
-    let b = c .before .before .before .before .before .before .before .before in
-    request-read (now (b .args .t)) (b .args .j)
+    let read = c .before .before .before .before in
+    let start = read .before .before .before .before in
+    request-read (now (start .args .t)) (start .args .j)
 
 pub request-at-spec : {M : Type 1} → statement M
 request-at-spec =
@@ -99,27 +91,24 @@ request-at-spec =
     mul-t5
     shared-slice-read-t7
     add-t8
-    add-t9
-    mul-t10
-    shared-slice-read-t12
-    add-t13
-    add-t14
-    mul-t15
-    shared-slice-read-t17
-    add-t18
-    add-t19
-    mul-t20
-    shared-slice-read-t22
+    mul-t9
+    shared-slice-read-t11
+    add-t12
+    mul-t13
+    shared-slice-read-t15
+    add-t16
+    mul-t17
+    shared-slice-read-t19
     add-t4-2
     mul-t5-2
-    shared-slice-read-t22-2
-    add-t19-2
-    mul-t18
-    shared-slice-read-t17-2
-    add-t15
-    mul-t14
+    shared-slice-read-t19-2
+    add-t16-2
+    mul-t17-2
+    shared-slice-read-t15-2
+    add-t12-2
+    mul-t13-2
+    shared-slice-read-t11-2
+    add-t8-2
+    mul-t9-2
     shared-slice-read-t7-2
-    add-t13-2
-    mul-t10-2
-    shared-slice-read-t12-2
     returns)

@@ -16,7 +16,7 @@ comes-requires : tie.Need-comes-requires
 comes-requires c κs = search needs
 
 returns-3 : tie.Need-returns-3
-returns-3 c = ((λ st n so rep e pos. c .comes .ensures st n so rep e pos), (λ not. absurd (not (c .before .before .if1 .left, c .before .if2 .left))))
+returns-3 c = (c .comes .ensures, (λ not. absurd (not (c .before .before .if1 .left, c .before .if2 .left))))
 
 pub kernel-comes-spec : {M : Type 1} → statement M
 kernel-comes-spec = tie.close (tie.spec returns returns-2 comes-requires returns-3)

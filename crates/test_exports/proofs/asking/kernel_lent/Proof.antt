@@ -16,7 +16,7 @@ lent-requires : tie.Need-lent-requires
 lent-requires c κs = search needs
 
 returns-3 : tie.Need-returns-3
-returns-3 c = ((λ st n so rep e. c .lent .ensures st n so rep e), (λ not. absurd (not (c .before .before .if1 .left, c .before .if2 .left))))
+returns-3 c = (c .lent .ensures, (λ not. absurd (not (c .before .before .if1 .left, c .before .if2 .left))))
 
 pub kernel-lent-spec : {M : Type 1} → statement M
 kernel-lent-spec = tie.close (tie.spec returns returns-2 lent-requires returns-3)

@@ -12,7 +12,7 @@ on-loan-requires : tie.Need-on-loan-requires
 on-loan-requires c κs = search needs
 
 returns-2 : tie.Need-returns-2
-returns-2 c = ((λ st rep pos. c .on-loan .ensures st rep pos), (λ not. absurd (not (c .before .if1 .left))))
+returns-2 c = (c .on-loan .ensures, (λ not. absurd (not (c .before .if1 .left))))
 
 pub kernel-on-loan-spec : {M : Type 1} → statement M
 kernel-on-loan-spec = tie.close (tie.spec returns on-loan-requires returns-2)

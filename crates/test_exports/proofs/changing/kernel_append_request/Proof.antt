@@ -1,22 +1,17 @@
 -- `changing::kernel_append_request` meets its contract: where the length and the slot fit, the change's own; else nothing changes.
 use borrow.Author.Needs.{needs}
 use native.Mathlib.Omega.{arith}
-use Prim.Native.Nat.{_<_}
-use mathlib.Core.List.{_∷_}
 use mathlib.Core.Path.{refl, subst}
-use Rattle.rows.specs.declared.Request.{Request}
-use Rattle.rows.specs.Lists.{topOf}
-use Rattle.rows.specs.contracts.Represents.{Represents}
-use Rattle.rows.specs.Setters.{withRequests}
-use Rattle.rows.proofs.Slots.{represented-length}
+use denote.Ref.{now}
+use Rattle.changes.specs.contracts.Changes.{AddsRequest}
 use Rattle.test_exports.proofs.changing.kernel_append_request.Statement.{statement}
 use Rattle.test_exports.proofs.changing.kernel_append_request.Tie as tie
 
 returns : tie.Need-returns
-returns c = ((λ st h rep e top. absurd (c .if1 .taken (represented-length rep))), (λ not. refl))
+returns c = ((λ fits. absurd (c .if1 .taken (fits .0))), (λ not. refl))
 
 returns-2 : tie.Need-returns-2
-returns-2 c = ((λ st h rep e top. absurd (omega (arith, h, c .if2 .taken))), (λ not. refl))
+returns-2 c = ((λ fits. absurd (omega (arith, fits .1, c .if2 .taken))), (λ not. refl))
 
 request-of-requires : tie.Need-request-of-requires
 request-of-requires c κs = search needs
@@ -29,10 +24,13 @@ same-length c = search needs
 
 returns-3 : tie.Need-returns-3
 returns-3 c =
-    let s = c .before .before in
-    let q = s .before .before in (
-      (λ st h rep e. subst (λ (v : Request). topOf (λ v. v .number) (st .requests) < v .number → Represents (s .append-request .last .0) (withRequests (v ∷ st .requests) st)) (q .request-of .ensures) (s .append-request .ensures .0 st rep e)),
-      (λ not. absurd (not (q .before .before .if1 .left, q .before .if2 .left))),
+    let added = c .before .before in
+    let made = added .before .before in
+    let start = made .before .before .before .before in
+    let t = now (start .args .t) in
+    let count = start .args .count in (
+      (λ fits. subst (AddsRequest t (added .append-request .last .0) count) (made .request-of .ensures) (added .append-request .ensures .0)),
+      (λ not. absurd (not (made .before .before .if1 .left, made .before .if2 .left))),
     )
 
 pub kernel-append-request-spec : {M : Type 1} → statement M

@@ -17,7 +17,7 @@ same-length c = search needs
 returns-2 : tie.Need-returns-2
 returns-2 c =
     let b = c .before .before in
-    ((λ st f rep m. b .remove-requests .ensures st f rep m), (λ not. absurd (not (b .before .before .if1 .left))))
+    (b .remove-requests .ensures, (λ not. absurd (not (b .before .before .if1 .left))))
 
 pub kernel-remove-requests-spec : {M : Type 1} → statement M
 kernel-remove-requests-spec = tie.close (tie.spec returns remove-requests-requires same-length returns-2)

@@ -17,7 +17,7 @@ same-length c = search needs
 returns-2 : tie.Need-returns-2
 returns-2 c =
     let b = c .before .before in
-    ((λ st rep. b .set-next .ensures .0 st rep), (λ not. absurd (not (b .before .before .if1 .left))))
+    (b .set-next .ensures .0, (λ not. absurd (not (b .before .before .if1 .left))))
 
 pub kernel-set-next-spec : {M : Type 1} → statement M
 kernel-set-next-spec = tie.close (tie.spec returns set-next-requires same-length returns-2)

@@ -1,7 +1,6 @@
 -- `changing::request_of` meets its contract: field by field.
 use borrow.Author.Needs.{needs}
 use mathlib.Core.Path.{refl}
-use Rattle.test_exports.specs.contracts.Fields.{requestFrom}
 use Rattle.test_exports.proofs.changing.request_of.Statement.{statement}
 use Rattle.test_exports.proofs.changing.request_of.Tie as tie
 
@@ -30,7 +29,6 @@ element-copy-out-t8-2 : tie.Need-element-copy-out-t8-2
 element-copy-out-t8-2 c = search needs
 
 returns : tie.Need-returns
-unfolding requestFrom
 returns c = refl
 
 pub request-of-spec : {M : Type 1} → statement M

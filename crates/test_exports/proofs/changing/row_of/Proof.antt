@@ -1,7 +1,6 @@
 -- `changing::row_of` meets its contract: field by field.
 use borrow.Author.Needs.{needs}
 use mathlib.Core.Path.{refl}
-use Rattle.test_exports.specs.contracts.Fields.{rowFrom}
 use Rattle.test_exports.proofs.changing.row_of.Statement.{statement}
 use Rattle.test_exports.proofs.changing.row_of.Tie as tie
 
@@ -36,7 +35,6 @@ element-copy-out-t31 : tie.Need-element-copy-out-t31
 element-copy-out-t31 c = search needs
 
 returns : tie.Need-returns
-unfolding rowFrom
 returns c = refl
 
 pub row-of-spec : {M : Type 1} → statement M

@@ -1,12 +1,12 @@
 -- `lookups::kernel_open_on` meets its contract: words of another length hold no state; else the look-up's answer, plus 1.
 use borrow.Author.Needs.{needs}
 use native.Mathlib.Omega.{arith}
-use mathlib.Core.Path.{refl, sym}
+use mathlib.Core.Path.{refl}
 use denote.Ref.{now}
 use Rattle.rows.specs.Layout.{requestsIn}
 use Rattle.rows.specs.contracts.Slots.{openSlot}
-use Rattle.rows.proofs.Slots.{at-below, found-nothing, request-below, represented-length}
-use Rattle.test_exports.proofs.Answers.{plus-one}
+use Rattle.rows.proofs.Slots.{at-below, request-below, represented-length}
+use Rattle.test_exports.proofs.Answers.{plus-one, zero-slot}
 use Rattle.test_exports.proofs.lookups.kernel_open_on.Statement.{statement}
 use Rattle.test_exports.proofs.lookups.kernel_open_on.Tie as tie
 
@@ -24,23 +24,30 @@ enum-told c = search needs
 
 returns-2 : tie.Need-returns-2
 returns-2 c =
-    let a = c .before .before .before .before .before .args in
-    let found = c .before .before .open-on in
-    (search needs, ((λ st rep. sym (found-nothing (openSlot (st .requests) (a .c)) (found .ensures .1 st rep) (c .enum-told .given .1))), (λ not. refl)))
+    let looked = c .before .before in
+    let a = looked .before .before .before .args in
+    let found = looked .open-on in
+    let none = c .enum-told .given .1 in
+    (search needs, ((λ st rep. zero-slot (openSlot (st .requests) (a .c)) (found .ensures .1 st rep) none), (λ not. refl)))
 
 add-result : tie.Need-add-result
 add-result c =
-    let a = c .before .before .before .before .before .before .args in
-    let found = c .before .before .before .open-on in
+    let looked = c .before .before .before in
+    let a = looked .before .before .before .args in
+    let found = looked .open-on in
     omega (arith, request-below (now (a .t)) (found .result) (c .before .j .given .0 .0) (found .ensures .0) (c .before .j .given .1))
 
 returns-3 : tie.Need-returns-3
 returns-3 c =
-    let a = c .before .before .before .before .before .before .args in
-    let found = c .before .before .before .open-on in
+    let looked = c .before .before .before in
+    let a = looked .before .before .before .args in
+    let found = looked .open-on in
     let j = c .before .j .given .0 .0 in (
       omega (arith, at-below (requestsIn (now (a .t))) (found .result) j (found .ensures .0) (c .before .j .given .1)),
-      ((λ st rep. plus-one (openSlot (st .requests) (a .c)) j (found .ensures .1 st rep) (c .before .j .given .1)), (λ not. absurd (not (c .before .before .before .before .if1 .left)))),
+      (
+        (λ st rep. plus-one (openSlot (st .requests) (a .c)) j (found .ensures .1 st rep) (c .before .j .given .1)),
+        (λ not. absurd (not (c .before .before .before .before .if1 .left))),
+      ),
     )
 
 pub kernel-open-on-spec : {M : Type 1} → statement M

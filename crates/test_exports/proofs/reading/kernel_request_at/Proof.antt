@@ -2,7 +2,9 @@
 use borrow.Author.Needs.{needs}
 use native.Mathlib.Omega.{arith}
 use mathlib.Core.Path.{refl, ap}
-use Rattle.test_exports.specs.contracts.Fields.{requestFieldsOf}
+use Rattle.rows.specs.declared.Request.{Request}
+use Rattle.rows.specs.Layout.{wordsOfRequest, requestAt}
+use Rattle.test_exports.specs.contracts.Exports.{requestOfWords}
 use Rattle.test_exports.proofs.reading.kernel_request_at.Statement.{statement}
 use Rattle.test_exports.proofs.reading.kernel_request_at.Tie as tie
 
@@ -28,8 +30,12 @@ array-read-t19 : tie.Need-array-read-t19
 array-read-t19 c = search needs
 
 returns-3 : tie.Need-returns-3
-unfolding requestFieldsOf
-returns-3 c = let r = c .before .before in ((λ fits. ap requestFieldsOf (r .request-at .ensures)), (λ not. absurd (not (r .before .before .if1 .left, r .before .if2 .left))))
+unfolding requestAt
+returns-3 c =
+    let r = c .before .before in (
+      (λ fits. ap (λ (v : Request). wordsOfRequest (requestOfWords (wordsOfRequest v))) (r .request-at .ensures)),
+      (λ not. absurd (not (r .before .before .if1 .left, r .before .if2 .left))),
+    )
 
 pub kernel-request-at-spec : {M : Type 1} → statement M
 kernel-request-at-spec = tie.close (tie.spec returns returns-2 request-at-requires array-read-t10 array-read-t13 array-read-t16 array-read-t19 returns-3)

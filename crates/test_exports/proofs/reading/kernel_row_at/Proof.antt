@@ -2,7 +2,7 @@
 use borrow.Author.Needs.{needs}
 use native.Mathlib.Omega.{arith}
 use mathlib.Core.Path.{refl, ap}
-use Rattle.test_exports.specs.contracts.Fields.{fieldsOf}
+use Rattle.rows.specs.Layout.{wordsOfRow}
 use Rattle.test_exports.proofs.reading.kernel_row_at.Statement.{statement}
 use Rattle.test_exports.proofs.reading.kernel_row_at.Tie as tie
 
@@ -16,8 +16,9 @@ row-at-requires : tie.Need-row-at-requires
 row-at-requires c κs = search needs
 
 returns-3 : tie.Need-returns-3
-unfolding fieldsOf
-returns-3 c = let r = c .before in ((λ fits. ap fieldsOf (r .row-at .ensures)), (λ not. absurd (not (r .before .before .if1 .left, r .before .if2 .left))))
+returns-3 c =
+    let r = c .before in
+    ((λ fits. ap wordsOfRow (r .row-at .ensures)), (λ not. absurd (not (r .before .before .if1 .left, r .before .if2 .left))))
 
 pub kernel-row-at-spec : {M : Type 1} → statement M
 kernel-row-at-spec = tie.close (tie.spec returns returns-2 row-at-requires returns-3)
