@@ -58,8 +58,8 @@ module _ (st : State) (s : Sound st) (new : List Request) (v : Request) (old : L
   pub asker-low : v .asker ≤ PROCESSES
   unfolding requestersListed recordsFit processes
   asker-low =
-      listed-low PROCESSES (st .processes) (v .asker) (eqb-true (length (st .processes)) PROCESSES (s .records-fit))
-      (all-cut listed new v old (subst (λ (l : List Request). all listed l ≡ true) cut (s .requesters-listed)))
+      listed-low PROCESSES (st .processes) (v .asker) (eqb-true (length (st .processes)) PROCESSES (s .placed .records-fit))
+      (all-cut listed new v old (subst (λ (l : List Request). all listed l ≡ true) cut (s .loans .requesters-listed)))
     where
       listed : Request → Bool
       listed w = isListed (st .processes) (w .asker)
@@ -69,14 +69,14 @@ module _ (st : State) (s : Sound st) (new : List Request) (v : Request) (old : L
   items-stand =
       all-mono (λ e. mayBeListed v (rowOf (st .rows) e)) (λ e. member e (numbers (st .rows)))
       (λ e h. first-there (λ r. r .number) noRow (mayBeListed v) (no-row-listed v) (st .rows) e h) (nonzero (v .items))
-      (all-cut lent new v old (subst (λ (l : List Request). all lent l ≡ true) cut (s .items-lent)))
+      (all-cut lent new v old (subst (λ (l : List Request). all lent l ≡ true) cut (s .loans .items-lent)))
     where
       lent : Request → Bool
       lent w = all (λ e. mayBeListed w (rowOf (st .rows) e)) (nonzero (w .items))
 
   pub requests-rise : rises (λ v. v .number) (v ∷ old) ≡ true
   unfolding requestsRise
-  requests-rise = rises-old (λ v. v .number) new (v ∷ old) (subst (λ (l : List Request). rises (λ v. v .number) l ≡ true) cut (s .requests-rise))
+  requests-rise = rises-old (λ v. v .number) new (v ∷ old) (subst (λ (l : List Request). rises (λ v. v .number) l ≡ true) cut (s .numbers .requests-rise))
 
 -- ---- one request, over the older ones
 or-swap : (a b : Bool) → a || b ≡ b || a

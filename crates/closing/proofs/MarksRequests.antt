@@ -65,7 +65,7 @@ module _ {st : State} {t : List ℕ} (rep : Represents t st) (sd : sound st ≡ 
   unfolding portsStand portStands
   port-there =
       let all-stand : all (portStands (st .rows)) (new ++ (v ∷ old)) ≡ true
-      = subst (λ (l : List Request). all (portStands (st .rows)) l ≡ true) (here .0) (sound-open st sd .ports-stand) in
+      = subst (λ (l : List Request). all (portStands (st .rows)) l ≡ true) (here .0) (sound-open st sd .loans .ports-stand) in
       let stands : portStands (st .rows) v ≡ true
       = subst (λ (x : Request). portStands (st .rows) x ≡ true) (first-cut (λ v. v .number) noRequest new v old up)
       (all-first (λ v. v .number) noRequest (portStands (st .rows)) (new ++ (v ∷ old)) (v .number) all-stand (member-cut (λ v. v .number) new v old up)) in

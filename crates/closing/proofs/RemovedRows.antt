@@ -62,7 +62,7 @@ module _ (seed : Row → Bool) (qs : List ℕ) (st : State) (s : Sound st) (c : 
   law n t =
       let m : List ℕ = marked seed (st .rows) in
       let no-zero : member 0 m ≡ false = false-of _ (λ u. let (lo, hi) = row-below st s 0 (marked-stands seed (st .rows) 0 u) in omega arith) in
-      marked-closed seed (st .rows) (s .rows-rise) (sources-older st s) n t
+      marked-closed seed (st .rows) (s .numbers .rows-rise) (sources-older st s) n t
       ∙ ap (λ b. seed (rowOf (st .rows) n) || b) (any-source m no-zero (rowOf (st .rows) n))
 
   pub closable-closed : Closed (marked seed (st .rows)) (closes qs (marked seed (st .rows))) st

@@ -10,7 +10,7 @@ use Rattle.rows.specs.declared.Row.{Row}
 use Rattle.rows.specs.Lists.{member, some}
 use Rattle.rows.specs.Codes.{clientEnd, serverEnd, isClient, isServer, isEnd, inClist, isNode}
 use Rattle.rows.specs.Tables.{State, rowOf, numbers, isLent}
-use Rattle.rows.specs.Sound.{isHeld, isPairedWith, otherEnd}
+use Rattle.rows.specs.Sound.{isHeld, isPairedWith, otherEnd, sourceOf, viaOf}
 use Rattle.rows.proofs.Bools.{and-l, and-r, or-cases, not-f, pos-some}
 use Rattle.rows.proofs.Keyed.{rises-range}
 use Rattle.tables.proofs.Sound.{Sound}
@@ -70,7 +70,7 @@ module _ (st : State) (s : Sound st) where
       let t : member e (numbers (st .rows)) ≡ true = held-there st p e held in
       let r = rowOf (st .rows) e in
       let out : isNode (r .place) ≡ false = ap isNode (held-place st p e held) ∙ clist-not-node p in
-      let h : isHeld (st .rows) r ≡ true = not-lent-held (st .requests) (st .rows) r (standing-shape st s e t) out end (unlent-unborne st e t lent) in
+      let h : isHeld r (sourceOf (st .rows) r) (viaOf (st .rows) r) ≡ true = not-lent-held (st .requests) (st .rows) r (standing-shape st s e t) out end (unlent-unborne st e t lent) in
       node-there (st .rows) (r .source) (search (and-l, and-r))
 
   pub server-port : (e : ℕ) → member e (numbers (st .rows)) ≡ true → isServer (rowOf (st .rows) e .kind) ≡ true → rowOf (st .rows) e .object ≡ pred e

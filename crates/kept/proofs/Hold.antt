@@ -12,7 +12,7 @@ use Rattle.rows.specs.declared.Process.{Process}
 use Rattle.rows.specs.Lists.{member, some}
 use Rattle.rows.specs.Codes.{isSubdirectory, isEnd, isCopied, inNode, inClist, isNode, isClist, isSystem, within}
 use Rattle.rows.specs.Tables.{State, rowOf, processAt, isListed, numbers, depthOver, isLent}
-use Rattle.rows.specs.Sound.{rightInRange, placeInRange, isOpening, isRegistered, isHeld, sourceRight, copyMatches, processPlaced}
+use Rattle.rows.specs.Sound.{rightInRange, placeInRange, isOpening, isRegistered, isHeld, sourceRight, copyMatches, processPlaced, hasRightSources, matchesSource, sourceOf, viaOf}
 use Rattle.rows.proofs.Bools.{and-l, and-r, and-i, or-cases, or-l, or-r, not-f, eqb-self}
 use Rattle.tables.proofs.Sound.{Sound}
 use Rattle.rows.proofs.RowSources.{node-there}
@@ -67,7 +67,7 @@ module _ (st : State) (s : Sound st) (p : ℕ) (l : isListed (st .processes) p �
 
   held-row : (e : ℕ) → isNode (rowOf (st .rows) e .place) ≡ true → tooDeep (depthOver (st .rows) e (processAt (st .processes) p .through)) ≡ false → rowsFull st 1 ≡ false → numbersSpent st 1 ≡ false
       → Sound (withHeld st p e (processAt (st .processes) p .through) (depthOver (st .rows) e (processAt (st .processes) p .through)))
-  unfolding withHeld copyOf sourceRight isHeld copyMatches
+  unfolding withHeld copyOf hasRightSources isHeld matchesSource
   held-row e n d f m =
       let there = node-there (st .rows) e n in
       let r = rowOf (st .rows) e in
@@ -77,7 +77,7 @@ module _ (st : State) (s : Sound st) (p : ℕ) (l : isListed (st .processes) p �
       copy-added st s e (inClist p) e via (depthOver (st .rows) e via) there c
       (clist-in-range st s p l new refl)
       (clist-not-system st s p l)
-      (or-r (isOpening new) _ (or-r (isRegistered (st .rows) new) _ (or-l (isHeld (st .rows) new) _
+      (or-r (isOpening new) _ (or-r (isRegistered new (sourceOf (st .rows) new)) _ (or-l (isHeld new (sourceOf (st .rows) new) (viaOf (st .rows) new)) _
       (and-i (isClist (inClist p)) _ (clist-is st s p l) (and-i (isCopied (r .kind)) _ c (and-i (isNode (r .place)) _ n (and-i _ true (through-right (processAt (st .processes) p) (placed-at st s p l)) refl)))))))
       refl d
       (or-r (eqb e 0) _ (or-r (isEnd (r .kind)) _ (and-i _ _ (eqb-self (r .kind)) (and-i _ _ (eqb-self (r .object)) (and-i _ _ (eqb-self (r .operation)) (within-self (r .rights)))))))
@@ -96,13 +96,13 @@ module _ (st : State) (s : Sound st) (p : ℕ) (l : isListed (st .processes) p �
   registered-row : (e : ℕ) → eqb (rowOf (st .rows) e .place) (inClist p) ≡ true → isEnd (rowOf (st .rows) e .kind) ≡ false → isLent st e ≡ false
       → tooDeep (depthOver (st .rows) (rowOf (st .rows) e .source) 0) ≡ false → rowsFull st 1 ≡ false → numbersSpent st 1 ≡ false
       → Sound (withRegistered st p e (depthOver (st .rows) (rowOf (st .rows) e .source) 0))
-  unfolding withRegistered copyOf sourceRight isHeld isRegistered copyMatches inNode
+  unfolding withRegistered copyOf hasRightSources isHeld isRegistered matchesSource inNode
   registered-row e h k u d f m =
       let there = clist-there (st .rows) p e h in
       let r = rowOf (st .rows) e in
       let node = processAt (st .processes) p .active in
       let outside : isNode (r .place) ≡ false = ap isNode (eqb-true (r .place) (inClist p) h) ∙ clist-not-node p in
-      let held : isHeld (st .rows) r ≡ true = not-lent-held (st .requests) (st .rows) r (standing-shape st s e there) outside k (unlent-unborne st e there u) in
+      let held : isHeld r (sourceOf (st .rows) r) (viaOf (st .rows) r) ≡ true = not-lent-held (st .requests) (st .rows) r (standing-shape st s e there) outside k (unlent-unborne st e there u) in
       let c : isCopied (r .kind) ≡ true = and-l (isCopied (r .kind)) _ (and-r (isClist (r .place)) _ held) in
       let above : isNode (rowOf (st .rows) (r .source) .place) ≡ true = and-l (isNode (rowOf (st .rows) (r .source) .place)) _ (and-r (isCopied (r .kind)) _ (and-r (isClist (r .place)) _ held)) in
       let d′ = depthOver (st .rows) (r .source) 0 in
@@ -110,7 +110,7 @@ module _ (st : State) (s : Sound st) (p : ℕ) (l : isListed (st .processes) p �
       copy-added st s e node (r .source) 0 d′ there c
       (node-in-range (st .processes) new (active-node st s p l))
       (node-not-system node (active-node st s p l))
-      (or-r (isOpening new) _ (or-l (isRegistered (st .rows) new) _
+      (or-r (isOpening new) _ (or-l (isRegistered new (sourceOf (st .rows) new)) _
       (and-i (isNode node) _ (active-node st s p l) (and-i (isCopied (r .kind)) _ c (and-i (isNode (rowOf (st .rows) (r .source) .place)) true above refl)))))
       refl d
       (standing-copy st s e there)

@@ -22,7 +22,7 @@ ghost use Rattle.rows.specs.Layout.{recordsIn};
 ghost use Rattle.rows.specs.contracts.Sizes.{ROWS, REQUESTS, PROCESSES, IsTables, IsRecords};
 ghost use Rattle.soundness_rows.specs.contracts.OfState.{OfRows, TestsTables};
 ghost use Rattle.soundness.specs.contracts.Laid.{before};
-ghost use Rattle.soundness.specs.contracts.Clauses.{nextClauses};
+ghost use Rattle.soundness.specs.contracts.Clauses.{allOfNext};
 
 // The greatest next number: one more than the greatest number of a row or a request.
 const LAST_NEXT: u32 = 1000001;
@@ -42,7 +42,7 @@ pub fn last_of(column: &[u32], k: usize) -> u32
 // Ruled out: a next number of 1,000,002; one that a row or a request has.
 pub fn next_sound(t: &[u32], n: usize, m: usize) -> bool
     requires { ⌜ IsTables (now t) × (n ≤ ROWS) × (m ≤ REQUESTS) ⌝ }
-    ensures { λ r. ⌜ TestsTables (now (t .entry)) n m r nextClauses ⌝ }
+    ensures { λ r. ⌜ TestsTables (now (t .entry)) n m r allOfNext ⌝ }
 {
     let next = t[NEXT];
     let row = last_of(&t[NUMBER..KIND], n);

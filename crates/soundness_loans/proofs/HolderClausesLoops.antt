@@ -17,7 +17,7 @@ use Rattle.rows.specs.Tables.{State, lists}
 use Rattle.rows.specs.Sound.{itemsLent, isFetched, olderFetched, awaitsFetch, same, systemHolds}
 use Rattle.rows.specs.Layout.{requestAt, requestsTo, rowSlot}
 use Rattle.rows.specs.contracts.Represents.{Represents}
-use Rattle.soundness_loans.specs.contracts.Clauses.{itemsListable, listingCode, listingOf, codeAt, listAll, itemSlots, listedOnce, withItems, heldTo, holderClauses}
+use Rattle.soundness_loans.specs.contracts.Clauses.{itemsListable, listingCode, listingOf, codeAt, listAll, itemSlots, listedOnce, withItems, heldTo, allOfHolders}
 use Rattle.rows.proofs.Bools.{and-l, and-r, or-r, pos-some}
 use Rattle.rows.proofs.Slots.{represented-well, row-words-at, slot-number}
 use Rattle.soundness_loans.proofs.RequestClauses.{requests-read, and-true}
@@ -138,7 +138,7 @@ awaits-is (v ∷ vs) e = pick (awaits-is vs e) (lists e v) (isFetched v)
     pick ih true false = refl
     pick ih false f = ih
 
-pub held-rows : {st : State} {t : List ℕ} → Represents t st → (l : List ℕ) → ((e : ℕ) → listingOf (st .requests) e ≡ codeAt l (rowSlot (st .rows) e)) → systemHolds st ≡ heldTo t l (length (st .rows))
+pub held-rows : {st : State} {t : List ℕ} → Represents t st → (l : List ℕ) → ((e : ℕ) → listingOf (st .requests) e ≡ codeAt l (rowSlot (st .rows) e)) → systemHolds (st .requests) (st .rows) ≡ heldTo t l (length (st .rows))
 unfolding systemHolds all heldTo codeAt rowSlot
 held-rows {st} {t} rep l codes = along [] (st .rows) refl
   where
@@ -163,7 +163,7 @@ lent-at F t (suc m) h j lt =
     ⊎-elim (λ e. ap (λ (k : ℕ). F (requestAt t k)) e ∙ and-l (F (requestAt t m)) (all F (requestsTo t m)) h)
     (λ less. lent-at F t m (and-r (F (requestAt t m)) (all F (requestsTo t m)) h) j less) (eq-or-lt-of-le (le-of-suc-le-suc lt))
 
-pub items-lent : {st : State} {t : List ℕ} → Represents t st → itemsLent st ≡ true → (j : ℕ) → j < length (st .requests) → Lent st (requestAt t j)
+pub items-lent : {st : State} {t : List ℕ} → Represents t st → itemsLent (st .rows) (st .requests) ≡ true → (j : ℕ) → j < length (st .requests) → Lent st (requestAt t j)
 unfolding itemsLent
 items-lent {st} {t} rep h j lt =
     lent-at (itemsListable (st .rows)) t (length (st .requests)) (ap (all (itemsListable (st .rows))) (requests-read rep) ∙ h) j lt
@@ -179,12 +179,12 @@ listing-next {st} {t} rep whole j l l′ older r pos lent e d p =
 
 -- all requests are listed, and the rows looked at
 pub holders-end : {st : State} {t : List ℕ} → Represents t st → (n m : ℕ) → n ≡ length (st .rows) → m ≡ length (st .requests) → (j : ℕ) → j ≤ 0 → (l : List ℕ) (older held : Bool)
-    → Listing (st .rows) (requestsTo t m) (requestsTo t j) l older → held ≡ heldTo t l n → older && held ≡ holderClauses st
+    → Listing (st .rows) (requestsTo t m) (requestsTo t j) l older → held ≡ heldTo t l n → older && held ≡ allOfHolders st
 unfolding requestsTo
 holders-end {st} {t} rep n m e d j h l older held p q =
     let none : j ≡ 0 = omega arith in
     let whole : requestsTo t m ≡ st .requests = ap (requestsTo t) d ∙ requests-read rep in
     let (a, b) = listing-end (st .rows) (requestsTo t m) l older (subst (λ (k : ℕ). Listing (st .rows) (requestsTo t m) (requestsTo t k) l older) none p) in
-    let first : older ≡ olderFetched st = a ∙ ap (fetchedAfter (λ x. false)) whole ∙ sym (older-after st) in
-    let second : held ≡ systemHolds st = q ∙ ap (heldTo t l) e ∙ sym (held-rows rep l (λ x. ap (λ (vs : List Request). listingOf vs x) (sym whole) ∙ b x)) in
+    let first : older ≡ olderFetched (st .requests) = a ∙ ap (fetchedAfter (λ x. false)) whole ∙ sym (older-after st) in
+    let second : held ≡ systemHolds (st .requests) (st .rows) = q ∙ ap (heldTo t l) e ∙ sym (held-rows rep l (λ x. ap (λ (vs : List Request). listingOf vs x) (sym whole) ∙ b x)) in
     λ i. first i && second i

@@ -18,7 +18,7 @@ use Rattle.rows.specs.Tables.{State, noRow, rowOf, isListed}
 use Rattle.rows.specs.Sound.{numbersApart, fetchedInRange, portStands, portsStand, requestersListed, itemsApart, itemsLent, onePerPort}
 use Rattle.rows.specs.Layout.{requestAt, requestsTo, rowSlot}
 use Rattle.rows.specs.contracts.Represents.{Represents}
-use Rattle.soundness_loans.specs.contracts.Clauses.{numberApart, itemsListable, requestRight, requestsRight, standingPort, portsRight, requestClauses, isFree, withMark}
+use Rattle.soundness_loans.specs.contracts.Clauses.{numberApart, itemsListable, requestRight, requestsRight, standingPort, portsRight, allOfRequests, isFree, withMark}
 use Rattle.rows.proofs.Bools.{clash, and-l, and-r, and-false, eqb-sym}
 use Rattle.rows.proofs.Slots.{row-absent}
 use Rattle.soundness_loans.proofs.RequestClauses.{slot-test, all-both}
@@ -124,7 +124,7 @@ unfolding requestsTo
 ports-next rep u j marks marks′ right r s e h free mark p = rw (add-one j, free, mark) (ports-turn rep (requestsTo u j) marks right (requestAt u j) s e h p)
 
 -- ---- the clauses joined
-each-right : (st : State) → requestsRight st ≡ numbersApart st && (fetchedInRange st && (requestersListed st && (itemsApart st && itemsLent st)))
+each-right : (st : State) → requestsRight st ≡ numbersApart (st .rows) (st .requests) && (fetchedInRange (st .requests) && (requestersListed (st .processes) (st .requests) && (itemsApart (st .requests) && itemsLent (st .rows) (st .requests))))
 unfolding requestRight numbersApart fetchedInRange requestersListed itemsApart itemsLent
 each-right st =
     all-both apart (λ v. fetched v && (asked v && (once v && lent v))) vs
@@ -150,11 +150,11 @@ each-right st =
     lent : Request → Bool
     lent v = itemsListable (st .rows) v
 
-pub requests-joined : (st : State) → requestsRight st && portsRight (st .rows) (st .requests) ≡ requestClauses st
+pub requests-joined : (st : State) → requestsRight st && portsRight (st .rows) (st .requests) ≡ allOfRequests st
 unfolding portsRight portsStand onePerPort
 requests-joined st =
     ap (λ (b : Bool). b && portsRight (st .rows) (st .requests)) (each-right st)
-    ∙ join (numbersApart st) (fetchedInRange st) (portsStand st) (requestersListed st) (itemsApart st) (itemsLent st) (onePerPort st)
+    ∙ join (numbersApart (st .rows) (st .requests)) (fetchedInRange (st .requests)) (portsStand (st .rows) (st .requests)) (requestersListed (st .processes) (st .requests)) (itemsApart (st .requests)) (itemsLent (st .rows) (st .requests)) (onePerPort (st .requests))
   where
     join : (a b c d e f g : Bool) → (a && (b && (d && (e && f)))) && (c && g) ≡ a && (b && (c && (d && (e && (f && g)))))
     join false b c d e f g = refl

@@ -27,7 +27,7 @@ ghost use Rattle.rows.specs.contracts.Sizes.{ROWS, REQUESTS, REQUEST, IsTables,
 ghost use Rattle.soundness_rows.specs.contracts.OfState.{OfRows, TestsTables, Tests};
 ghost use Rattle.soundness_loans.specs.contracts.Clauses.{OfRequest, TestsItem, wordAt, numberApart};
 ghost use Rattle.soundness_loans.specs.contracts.Clauses.{itemsListable, requestRight, standingPort};
-ghost use Rattle.soundness_loans.specs.contracts.Clauses.{requestsRight, portsRight, requestClauses, isFree};
+ghost use Rattle.soundness_loans.specs.contracts.Clauses.{requestsRight, portsRight, allOfRequests, isFree};
 ghost use Rattle.soundness_loans.specs.contracts.Clauses.{withMark};
 
 // The slot plus 1 of the row numbered x, of n rows; 0 for none.
@@ -222,7 +222,7 @@ fn ports_right(t: &[u32], n: usize, m: usize) -> bool
 // Ruled out: a request on a port that another is open on; an item that is a copy for another request.
 pub fn requests_sound(t: &[u32], p: &[u32], n: usize, m: usize) -> bool
     requires { ⌜ IsTables (now t) × IsRecords (now p) × (n ≤ ROWS) × (m ≤ REQUESTS) ⌝ }
-    ensures { λ r. ⌜ Tests (now (t .entry)) (now (p .entry)) n m r requestClauses ⌝ }
+    ensures { λ r. ⌜ Tests (now (t .entry)) (now (p .entry)) n m r allOfRequests ⌝ }
 {
     let right = requests_right(t, p, n, m);
     let ports = ports_right(t, n, m);

@@ -11,14 +11,13 @@ use Rattle.rows.specs.declared.Request.{Request}
 use Rattle.rows.specs.declared.Process.{Process}
 use Rattle.rows.specs.Lists.{each, member, some}
 use Rattle.rows.specs.Codes.{clientEnd, serverEnd, isClient, isServer, isEnd}
-use Rattle.rows.specs.Tables.{State, noRequest, requestOf, lists}
-use Rattle.rows.specs.Sound.{objectInRange, objectsInRange, rightInRange, rightsInRange, placeInRange, placesInRange, sourceRight, sourcesRight, depthRight, depthsRight}
-use Rattle.rows.specs.Sound.{copyMatches, copiesMatch, isPairedWith, otherEnd, endPaired, endsPaired, copyListed, copiesListed}
+use Rattle.rows.specs.Tables.{State, noRequest, requestOf, lists, noRow, rowOf}
+use Rattle.rows.specs.Sound.{objectInRange, objectsInRange, rightInRange, rightsInRange, placeInRange, placesInRange, sourceRight, sourcesRight, depthRight, depthsRight, copyMatches, copiesMatch, isPairedWith, otherEnd, endPaired, endsPaired, copyListed, copiesListed, sourced}
 use Rattle.rows.specs.Layout.{requestAt, rawRow}
 use Rattle.rows.specs.contracts.Represents.{Represents}
 use Rattle.rows.specs.contracts.Slots.{requestSlot}
 use Rattle.soundness_rows.specs.contracts.AtSlot.{AtSlot}
-use Rattle.soundness_rows.specs.contracts.Clauses.{fieldsInRange, sourceClauses, loanClauses, pairedAbove, pairedBelow, rowSound, rowClauses}
+use Rattle.soundness_rows.specs.contracts.Clauses.{fieldsInRange, sourceClauses, sourceAndLoan, pairedAbove, pairedBelow, rowSound, allOfRows}
 use Rattle.soundness_rows.specs.contracts.Seen.{Same, SaysOfLoan, SaysListed, slotRow}
 use Rattle.rows.proofs.Bools.{or-false, and-false}
 use Rattle.rows.proofs.Slots.{represented-well, slot-zero, request-absent, request-words, raw-request, request-read}
@@ -63,7 +62,7 @@ unfolding objectInRange rightInRange placeInRange
 fields-same ps x y s = rw (s .number, s .kind, s .object, s .operation, s .rights, s .place) refl
 
 -- all rows
-pub rows-joined : (st : State) → each (rowSound st) (st .rows) ≡ rowClauses st
+pub rows-joined : (st : State) → each (rowSound st) (st .rows) ≡ allOfRows st
 unfolding rowSound objectsInRange rightsInRange placesInRange sourcesRight depthsRight copiesMatch endsPaired copiesListed
 rows-joined st =
     each-join (λ y old. objectInRange (st .processes) y) _ (st .rows) (each-all (objectInRange (st .processes)) (st .rows))
@@ -106,7 +105,7 @@ module _ {st : State} {t : List ℕ} (rep : Represents t st) where
     -- ---- the clauses joined
     pub sources-joined : (s v : Row) (port : ℕ) (listed : Bool) {a b : Bool} → s ≡ slotRow t (x .source) → v ≡ slotRow t (x .via)
         → port ≡ requestOf (st .requests) (x .request) .port → listed ≡ lists (x .number) (requestOf (st .requests) (x .request))
-        → SaysOfLoan x s v port a sourceClauses → SaysListed x listed b → AtSlot (λ y old. loanClauses (st .requests) y old) (st .rows) i (a && b)
+        → SaysOfLoan x s v port a sourceClauses → SaysListed x listed b → AtSlot (λ y old. sourceAndLoan (st .requests) y old) (st .rows) i (a && b)
     unfolding copyListed
     sources-joined s v port listed ds dv dp dl right listing =
         record {
@@ -119,7 +118,7 @@ module _ {st : State} {t : List ℕ} (rep : Represents t st) where
         }
 
     pub row-joined : (ps : List Process) → st .processes ≡ ps → {a b c : Bool} → a ≡ fieldsInRange ps x
-        → AtSlot (λ y old. loanClauses (st .requests) y old) (st .rows) i b
+        → AtSlot (λ y old. sourceAndLoan (st .requests) y old) (st .rows) i b
         → AtSlot (λ y old. endPaired (st .rows) y) (st .rows) i c → AtSlot (rowSound st) (st .rows) i (a && (b && c))
     unfolding rowSound
     row-joined ps p {a} {b} {c} fields sources paired =

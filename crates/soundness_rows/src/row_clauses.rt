@@ -20,8 +20,11 @@ use rows::records::listed;
 ghost use mathlib.Core.Path.{_≡_};
 ghost use Prim.Native.Nat.{suc};
 ghost use lib.Dec.{eqb};
-ghost use Rattle.rows.specs.Sound.{objectInRange, rightInRange, placeInRange, isOpening, isRegistered, isHeld};
-ghost use Rattle.rows.specs.Sound.{isPortEnd, isLentCopy, sourceRight, depthRight, copyMatches, isPairedWith};
+ghost use Rattle.rows.specs.Sound.{objectInRange, rightInRange, placeInRange, isOpening, isRegistered, isHeld, isPortEnd, isLentCopy, sourceRight, depthRight, copyMatches, isPairedWith, copyListed, sourceOf, viaOf};
+ghost use lib.ListN.{length};
+ghost use Rattle.rows.specs.declared.Row.{Row};
+ghost use Rattle.rows.specs.declared.Request.{Request};
+ghost use Rattle.rows.specs.Tables.{requestOf, lists};
 ghost use Rattle.rows.specs.Layout.{recordsIn};
 ghost use Rattle.rows.specs.contracts.Sizes.{IsRecords};
 ghost use Rattle.soundness_rows.specs.contracts.Seen.{SaysOf, SaysOfLoan, SaysListed};
@@ -92,7 +95,7 @@ fn is_opening(x: Row) -> bool
 
 // Ruled out: a source that is in no node; a second source.
 fn is_registered(x: Row, s: Row, v: Row) -> bool
-    ensures { λ r. ⌜ SaysOf x s v r (λ y rs. isRegistered rs y) ⌝ }
+    ensures { λ r. ⌜ SaysOf x s v r (λ y rs. isRegistered y (sourceOf rs y)) ⌝ }
 {
     let node = is_node(x.place);
     let copied = is_copied(x.kind);
@@ -102,7 +105,7 @@ fn is_registered(x: Row, s: Row, v: Row) -> bool
 
 // Ruled out: a source that is in no node; a second source that is an operation.
 fn is_held(x: Row, s: Row, v: Row) -> bool
-    ensures { λ r. ⌜ SaysOf x s v r (λ y rs. isHeld rs y) ⌝ }
+    ensures { λ r. ⌜ SaysOf x s v r (λ y rs. isHeld y (sourceOf rs y) (viaOf rs y)) ⌝ }
 {
     let home = is_clist(x.place);
     let copied = is_copied(x.kind);
@@ -113,7 +116,7 @@ fn is_held(x: Row, s: Row, v: Row) -> bool
 
 // Ruled out: an end in a node; an end whose source is a subdirectory.
 fn is_port_end(x: Row, s: Row, v: Row) -> bool
-    ensures { λ r. ⌜ SaysOf x s v r (λ y rs. isPortEnd rs y) ⌝ }
+    ensures { λ r. ⌜ SaysOf x s v r (λ y rs. isPortEnd y (sourceOf rs y)) ⌝ }
 {
     let end = is_end(x.kind);
     let node = is_node(x.place);
@@ -123,7 +126,7 @@ fn is_port_end(x: Row, s: Row, v: Row) -> bool
 
 // Ruled out: a second source that is a server end; one that is not the port of the request.
 fn is_lent_copy(x: Row, s: Row, v: Row, port: u32) -> bool
-    ensures { λ r. ⌜ SaysOfLoan x s v port r (λ vs y rs. isLentCopy vs rs y) ⌝ }
+    ensures { λ r. ⌜ SaysOfLoan x s v port r (λ vs y rs. isLentCopy vs y (sourceOf rs y) (viaOf rs y)) ⌝ }
 {
     let node = is_node(x.place);
     let copied = is_copied(x.kind);

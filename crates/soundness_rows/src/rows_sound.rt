@@ -28,7 +28,7 @@ ghost use Rattle.soundness_rows.specs.contracts.OfState.{OfRequests, Tes
 ghost use Rattle.soundness_rows.specs.contracts.AtSlot.{OfRowAt, OfRowAmong, OfSources, OfSlot};
 ghost use Rattle.soundness_rows.specs.contracts.Seen.{SaysOfLoan, SourcesBefore, SourcesOlder, slotRow};
 ghost use Rattle.soundness_rows.specs.contracts.Clauses.{fieldsInRange, sourceClauses, pairedAbove, pairedBelow};
-ghost use Rattle.soundness_rows.specs.contracts.Clauses.{rowClauses};
+ghost use Rattle.soundness_rows.specs.contracts.Clauses.{allOfRows};
 
 // What the request that a row bears says: its port, and whether it lists the row.
 pub struct Loan {
@@ -194,7 +194,7 @@ fn row_sound(t: &[u32], p: &[u32], i: usize, n: usize, m: usize) -> bool
 pub fn rows_sound(t: &[u32], p: &[u32], n: usize, m: usize) -> bool
     requires sizes { ⌜ IsTables (now t) × IsRecords (now p) × (n ≤ ROWS) × (m ≤ REQUESTS) ⌝ }
     requires sources { ⌜ SourcesOlder (now t) n ⌝ }
-    ensures { λ r. ⌜ Tests (now (t .entry)) (now (p .entry)) n m r rowClauses ⌝ }
+    ensures { λ r. ⌜ Tests (now (t .entry)) (now (p .entry)) n m r allOfRows ⌝ }
 {
     let mut i = 0;
     while i < n {

@@ -60,10 +60,10 @@ unfoldable pub portsRight : List Row → List Request → Bool
 portsRight rs vs = all (portStands rs) vs && distinct (map (λ v. v .port) vs)
 
 -- the seven clauses of requests
-abbrev pub requestClauses : State → Bool
-requestClauses st =
-    numbersApart st
-    && (fetchedInRange st && (portsStand st && (requestersListed st && (itemsApart st && (itemsLent st && onePerPort st)))))
+abbrev pub allOfRequests : State → Bool
+allOfRequests st =
+    numbersApart (st .rows) (st .requests)
+    && (fetchedInRange (st .requests) && (portsStand (st .rows) (st .requests) && (requestersListed (st .processes) (st .requests) && (itemsApart (st .requests) && (itemsLent (st .rows) (st .requests) && onePerPort (st .requests))))))
 
 -- ---- marks: a slot is free once
 unfoldable pub isFree : List Bool → ℕ → Bool
@@ -126,10 +126,10 @@ heldTo t listing zero = true
 heldTo t listing (suc i) = same (isSystem (getD t (PLACE + i) 0)) (eqb (getD listing i 0) 2) && heldTo t listing i
 
 -- the two clauses of holders
-abbrev pub holderClauses : State → Bool
-holderClauses st = olderFetched st && systemHolds st
+abbrev pub allOfHolders : State → Bool
+allOfHolders st = olderFetched (st .requests) && systemHolds (st .requests) (st .rows)
 
 -- r is what they say of every state that t represents whose items may be listed, n rows and m requests standing
 abbrev pub TestsHolders : List ℕ → ℕ → ℕ → Bool → Type 0
 TestsHolders t n m r =
-    (st : State) → Represents t st → n ≡ length (st .rows) → m ≡ length (st .requests) → itemsLent st ≡ true → r ≡ holderClauses st
+    (st : State) → Represents t st → n ≡ length (st .rows) → m ≡ length (st .requests) → itemsLent (st .rows) (st .requests) ≡ true → r ≡ allOfHolders st

@@ -8,7 +8,7 @@ use Rattle.rows.specs.declared.Row.{Row}
 use Rattle.rows.specs.Tables.{State}
 use Rattle.rows.specs.Layout.{recordsIn, rawRow}
 use Rattle.rows.specs.contracts.Represents.{Represents}
-use Rattle.soundness_rows.specs.contracts.Clauses.{loanClauses, rowSound}
+use Rattle.soundness_rows.specs.contracts.Clauses.{sourceAndLoan, rowSound}
 
 -- b is what the test says of the element at slot i, counted from the oldest, with the older ones at hand
 pub record AtSlot {A : Type 0} (F : A → List A → Bool) (xs : List A) (i : ℕ) (b : Bool) : Type 0 where
@@ -28,7 +28,7 @@ OfRowAmong t n x i r F =
 abbrev pub OfSources : List ℕ → ℕ → Row → Bool → Type 0
 OfSources t m x r =
     (st : State) (i : ℕ) → Represents t st → m ≡ length (st .requests) → x ≡ rawRow t i
-    → AtSlot (λ y old. loanClauses (st .requests) y old) (st .rows) i r
+    → AtSlot (λ y old. sourceAndLoan (st .requests) y old) (st .rows) i r
 
 -- r is what all clauses say of the row at slot i, where the records p, n rows and m requests stand
 abbrev pub OfSlot : List ℕ → List ℕ → ℕ → ℕ → ℕ → Bool → Type 0

@@ -16,15 +16,15 @@ fieldsInRange ps y = objectInRange ps y && (rightInRange y && placeInRange ps y)
 
 -- it was not lent and is no end
 abbrev pub isOwn : Row → List Row → Bool
-isOwn y old = isOpening y || (isRegistered old y || isHeld old y)
+isOwn y old = isOpening y || (isRegistered y (sourceOf old y) || isHeld y (sourceOf old y) (viaOf old y))
 
 -- its sources
 abbrev pub sourceClauses : List Request → Row → List Row → Bool
 sourceClauses vs y old = sourceRight vs y old && (depthRight y old && copyMatches y old)
 
 -- its sources, and the request that it bears
-abbrev pub loanClauses : List Request → Row → List Row → Bool
-loanClauses vs y old = sourceClauses vs y old && copyListed vs y
+abbrev pub sourceAndLoan : List Request → Row → List Row → Bool
+sourceAndLoan vs y old = sourceClauses vs y old && copyListed vs y
 
 -- the row with the next number is the other end of its port; the row with the number before it is
 abbrev pub pairedAbove : List Row → Row → Bool
@@ -43,8 +43,8 @@ rowSound st y old =
     && (depthRight y old && (copyMatches y old && (endPaired (st .rows) y && copyListed (st .requests) y))))))
 
 -- ---- of all rows
-abbrev pub rowClauses : State → Bool
-rowClauses st =
-    objectsInRange st
-    && (rightsInRange st
-    && (placesInRange st && (sourcesRight st && (depthsRight st && (copiesMatch st && (endsPaired st && copiesListed st))))))
+abbrev pub allOfRows : State → Bool
+allOfRows st =
+    objectsInRange (st .processes) (st .rows)
+    && (rightsInRange (st .rows)
+    && (placesInRange (st .processes) (st .rows) && (sourcesRight (st .requests) (st .rows) && (depthsRight (st .rows) && (copiesMatch (st .rows) && (endsPaired (st .rows) && copiesListed (st .requests) (st .rows)))))))

@@ -17,7 +17,7 @@ use Rattle.soundness_loans.proofs.holder_clauses.holders_sound.Tie as t
 abbrev Inv-loop : tie.InvT-loop
 Inv-loop t n m listing₀ older₀ j₀ listing older j =
     (j ≤ m)
-    × ((st : State) → Represents t st → n ≡ length (st .rows) → m ≡ length (st .requests) → itemsLent st ≡ true
+    × ((st : State) → Represents t st → n ≡ length (st .rows) → m ≡ length (st .requests) → itemsLent (st .rows) (st .requests) ≡ true
     → Listing (st .rows) (requestsTo t m) (requestsTo t j) listing older)
 
 abbrev μ-loop : tie.MeasureT-loop
