@@ -63,7 +63,7 @@ fields-same ps x y s = rw (s .number, s .kind, s .object, s .operation, s .right
 
 -- all rows
 pub rows-joined : (st : State) → each (rowSound st) (st .rows) ≡ allOfRows st
-unfolding rowSound objectsInRange rightsInRange placesInRange sourcesRight depthsRight copiesMatch endsPaired copiesListed
+unfolding rowSound objectsInRange rightsInRange placesInRange sourcesRight depthsRight copiesMatch endsPaired copiesListed sourced each
 rows-joined st =
     each-join (λ y old. objectInRange (st .processes) y) _ (st .rows) (each-all (objectInRange (st .processes)) (st .rows))
     (each-join (λ y old. rightInRange y) _ (st .rows) (each-all rightInRange (st .rows))
