@@ -10,11 +10,11 @@ use borrow.Author.Tests.{eqb-true, eq-eqb, ne-eqb, leb-true}
 use lib.Dec.{leb, eqb}
 use lib.ListN.{getD}
 use Rattle.rows.specs.declared.Row.{Row}
-use Rattle.rows.specs.Lists.{filter, any, member, some, nonzero}
+use Rattle.rows.specs.Lists.{filter, any, member, some, nonzero, each}
 use Rattle.rows.specs.Limits.{greatestDepth}
 use Rattle.rows.specs.Codes.{operation, subdirectory, clientEnd, isOperation, isSubdirectory, isClient, isEnd, isCopied}
 use Rattle.rows.specs.Tables.{State, noRow, rowOf, numbers, sources, depthOver, reaches, marked, bears, comesFrom, onLoan, lentItself, isLent}
-use Rattle.rows.specs.Sound.{rowsRise, sound, isOpening, isRegistered, isHeld, isPortEnd, isLentCopy, sourceRight, sourcesRight, depthRight, depthsRight, hasRightDepth, sourceOf, viaOf}
+use Rattle.rows.specs.Sound.{rowsRise, sound, isOpening, isRegistered, isHeld, isPortEnd, isLentCopy, sourceRight, sourcesRight, depthRight, depthsRight, hasRightDepth, sourceOf, viaOf, sourced}
 use Rattle.rows.specs.contracts.Sizes.{ROWS, SOURCE, VIA, REQUEST}
 use Rattle.rows.specs.contracts.Represents.{Represents}
 use Rattle.rows.specs.Layout.{rowSlot}
@@ -138,7 +138,7 @@ module _ (st : State) (s : Sound st) where
     pub depth-falls : (rowOf (st .rows) (rowOf (st .rows) n .source) .depth < rowOf (st .rows) n .depth)
         × (rowOf (st .rows) (rowOf (st .rows) n .via) .depth < rowOf (st .rows) n .depth)
         × (rowOf (st .rows) n .depth ≤ 12)
-    unfolding depthsRight hasRightDepth depthOver greatestDepth rowsRise rowOf numbers sourcesRight
+    unfolding depthsRight hasRightDepth depthOver greatestDepth rowsRise rowOf numbers sourcesRight each sourced
     depth-falls =
         let r = rowOf (st .rows) n in
         let old = olderOf (λ r. r .number) (st .rows) n in
