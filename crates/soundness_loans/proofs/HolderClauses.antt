@@ -17,7 +17,7 @@ use Rattle.rows.specs.Sound.{mayBeListed}
 use Rattle.rows.specs.contracts.Represents.{Represents}
 use Rattle.rows.specs.Layout.{rowSlot}
 use Rattle.soundness_loans.specs.contracts.Clauses.{itemsListable, codeAt, listAt, listAll, itemSlots}
-use Rattle.rows.proofs.Bools.{false-of, clash, and-l, and-r, and-i, pos-some, eqb-self, all-at}
+use Rattle.rows.proofs.Bools.{false-of, clash, and-l, and-r, and-i, or-false, pos-some, eqb-self, all-at}
 use Rattle.rows.proofs.Slots.{represented-well, slot-le, row-absent}
 use Rattle.soundness_loans.proofs.RequestClauses.{no-slot, slot-test, member-nonzero}
 
@@ -78,11 +78,7 @@ any-four f [] e = absurd (omega arith)
 any-four f (a ∷ []) e = absurd (omega arith)
 any-four f (a ∷ b ∷ []) e = absurd (omega arith)
 any-four f (a ∷ b ∷ c ∷ []) e = absurd (omega arith)
-any-four f (a ∷ b ∷ c ∷ d ∷ []) e = ap (λ (x : Bool). f a || (f b || (f c || x))) (none (f d))
-  where
-    none : (x : Bool) → x ≡ x || false
-    none true = refl
-    none false = refl
+any-four f (a ∷ b ∷ c ∷ d ∷ []) e = ap (λ (x : Bool). f a || (f b || (f c || x))) (sym (or-false (f d)))
 any-four f (a ∷ b ∷ c ∷ d ∷ x ∷ ss) e = absurd (omega arith)
 
 pub list-four : (code : ℕ) (ss l : List ℕ) → length ss ≡ 4

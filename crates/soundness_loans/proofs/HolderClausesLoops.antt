@@ -18,9 +18,9 @@ use Rattle.rows.specs.Sound.{itemsLent, isFetched, olderFetched, awaitsFetch, s
 use Rattle.rows.specs.Layout.{requestAt, requestsTo, rowSlot}
 use Rattle.rows.specs.contracts.Represents.{Represents}
 use Rattle.soundness_loans.specs.contracts.Clauses.{itemsListable, listingCode, listingOf, codeAt, listAll, itemSlots, listedOnce, withItems, heldTo, holderClauses}
-use Rattle.rows.proofs.Bools.{and-l, and-r, or-r, pos-some}
+use Rattle.rows.proofs.Bools.{and-l, and-r, or-r, and-true, or-false, pos-some}
 use Rattle.rows.proofs.Slots.{represented-well, row-words-at, slot-number}
-use Rattle.soundness_loans.proofs.RequestClauses.{requests-read, and-true}
+use Rattle.soundness_loans.proofs.RequestClauses.{requests-read}
 use Rattle.soundness_loans.proofs.HolderClausesOlder.{fetchedAfter, older-after}
 use Rattle.soundness_loans.proofs.HolderClauses.{code-none, length-list-all, listed-now, Lent, code-turn}
 
@@ -66,14 +66,10 @@ module _ (b : Bool) (code y c : ℕ) (pos : 0 < code) where
       positive : (n : ℕ) → (n ≡ 0 → ⊥) → 0 < n
       positive n h = omega arith
 
-      none : (a : Bool) → a ≡ a || false
-      none true = refl
-      none false = refl
-
       pick : (b d : Bool) → eqb c 0 ≡ d → some (cond (b && d) code c) ≡ some c || b
       pick true true q = rw (pos-some code pos) (sym (or-r (some c) true refl))
       pick true false q = rw (pos-some c (positive c (eqb-false c 0 q))) refl
-      pick false d q = none (some c)
+      pick false d q = sym (or-false (some c))
 
 any-map : (f : ℕ → Bool) (g : ℕ → ℕ) (ns : List ℕ) → any f (map g ns) ≡ any (λ n. f (g n)) ns
 unfolding any

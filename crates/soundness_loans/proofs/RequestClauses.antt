@@ -18,7 +18,7 @@ use Rattle.rows.specs.Sound.{itemsFew, portStands, mayBeListed}
 use Rattle.rows.specs.Layout.{rowColumns, requestColumns, requestsAt, requestAt, requestsTo, rowSlot}
 use Rattle.rows.specs.contracts.Represents.{Represents}
 use Rattle.soundness_loans.specs.contracts.Clauses.{wordAt, standingPort}
-use Rattle.rows.proofs.Bools.{bool-eq, clash}
+use Rattle.rows.proofs.Bools.{bool-eq, clash, and-true, or-false}
 use Rattle.rows.proofs.LayoutRequests.{requests-back}
 use Rattle.rows.proofs.Slots.{represented-well, represented-request, row-found, row-none, row-absent, row-words, request-read, slot-zero}
 
@@ -116,10 +116,6 @@ all-both f g (x ∷ xs) = rw (all-both f g xs) (swap (f x) (g x) (all f xs) (all
     swap false b c d = refl
 
 -- ---- items that are there
-pub and-true : (b : Bool) → b && true ≡ b
-and-true true = refl
-and-true false = refl
-
 -- what is asked of an item that is there
 pub all-nonzero : (P : ℕ → Bool) (e : ℕ) (es : List ℕ) → all P (nonzero (e ∷ es)) ≡ (not (some e) || P e) && all P (nonzero es)
 unfolding all nonzero filter
@@ -151,11 +147,7 @@ member-nonzero e (a ∷ es) h = pick (member-nonzero e es h) (some a) refl (eqb 
 
 pub member-three : (e a b c : ℕ) → eqb e a || (eqb e b || eqb e c) ≡ member e (a ∷ b ∷ c ∷ [])
 unfolding member
-member-three e a b c = rw (or-none (eqb e c)) refl
-  where
-    or-none : (b : Bool) → b || false ≡ b
-    or-none true = refl
-    or-none false = refl
+member-three e a b c = rw (or-false (eqb e c)) refl
 
 abbrev apart : ℕ → List ℕ → Bool
 apart e es = not (some e) || not (member e es)
