@@ -41,7 +41,8 @@ module _ (rs : List Row) where
         told = ap (λ (L : ℕ → Bool). fetchedAfter L vs) (λ i e. some (code-none 1024 (rowSlot rs e) i));
       }
 
-  pub listing-end : (whole : List Request) (l : List ℕ) (older : Bool) → Listing whole [] l older → (older ≡ fetchedAfter (λ e. false) whole) × ((e : ℕ) → listingOf whole e ≡ codeAt l (rowSlot rs e))
+  pub listing-end : (whole : List Request) (l : List ℕ) (older : Bool) → Listing whole [] l older
+      → (older ≡ fetchedAfter (λ e. false) whole) × ((e : ℕ) → listingOf whole e ≡ codeAt l (rowSlot rs e))
   unfolding fetchedAfter listingOf
   listing-end whole l older p = (sym (and-true older) ∙ p .told, (λ e. p .codes e ∙ same-code (codeAt l (rowSlot rs e))))
     where
@@ -134,7 +135,8 @@ awaits-is (v ∷ vs) e = pick (awaits-is vs e) (lists e v) (isFetched v)
     pick ih true false = refl
     pick ih false f = ih
 
-pub held-rows : {st : State} {t : List ℕ} → Represents t st → (l : List ℕ) → ((e : ℕ) → listingOf (st .requests) e ≡ codeAt l (rowSlot (st .rows) e)) → systemHolds st ≡ heldTo t l (length (st .rows))
+pub held-rows : {st : State} {t : List ℕ} → Represents t st → (l : List ℕ) → ((e : ℕ) → listingOf (st .requests) e ≡ codeAt l (rowSlot (st .rows) e))
+    → systemHolds st ≡ heldTo t l (length (st .rows))
 unfolding systemHolds all heldTo codeAt rowSlot
 held-rows {st} {t} rep l codes = along [] (st .rows) refl
   where
@@ -143,10 +145,15 @@ held-rows {st} {t} rep l codes = along [] (st .rows) refl
 
     along : (new old : List Row) → st .rows ≡ new ++ old → all test old ≡ heldTo t l (length old)
     along new [] e = refl
-    along new (r ∷ old) e = λ i. same (isSystem (sym (row-words-at rep new r old e .place) i)) (waits i) && along (new ++ (r ∷ [])) old (e ∙ sym (append-assoc new (r ∷ []) old)) i
+    along new (r ∷ old) e =
+        λ i.
+        same (isSystem (sym (row-words-at rep new r old e .place) i)) (waits i)
+        && along (new ++ (r ∷ [])) old (e ∙ sym (append-assoc new (r ∷ []) old)) i
       where
         slot : rowSlot (st .rows) (r .number) ≡ suc (length old)
-        slot = ap (λ (rs : List Row). rowSlot rs (r .number)) e ∙ slot-number (λ r. r .number) new r old (ap (rises (λ r. r .number)) (sym e) ∙ represented-well rep .rows-rise)
+        slot =
+            ap (λ (rs : List Row). rowSlot rs (r .number)) e
+            ∙ slot-number (λ r. r .number) new r old (ap (rises (λ r. r .number)) (sym e) ∙ represented-well rep .rows-rise)
 
         waits : awaitsFetch (st .requests) (r .number) ≡ eqb (getD l (length old) 0) 2
         waits = awaits-is (st .requests) (r .number) ∙ ap (λ (n : ℕ). eqb n 2) (codes (r .number) ∙ ap (codeAt l) slot)
@@ -174,7 +181,8 @@ listing-next {st} {t} rep whole j l l′ older r pos lent e d p =
     listing-turn rep whole (requestsTo t (j - 1)) l l′ older r (requestAt t (j - 1)) lent e d (subst (λ (k : ℕ). Listing (st .rows) whole (requestsTo t k) l older) before p)
 
 -- all requests are listed, and the rows looked at
-pub holders-end : {st : State} {t : List ℕ} → Represents t st → (n m : ℕ) → n ≡ length (st .rows) → m ≡ length (st .requests) → (j : ℕ) → j ≤ 0 → (l : List ℕ) (older held : Bool)
+pub holders-end : {st : State} {t : List ℕ} → Represents t st → (n m : ℕ) → n ≡ length (st .rows) → m ≡ length (st .requests)
+    → (j : ℕ) → j ≤ 0 → (l : List ℕ) (older held : Bool)
     → Listing (st .rows) (requestsTo t m) (requestsTo t j) l older → held ≡ heldTo t l n → older && held ≡ holderClauses st
 unfolding requestsTo
 holders-end {st} {t} rep n m e d j h l older held p q =
