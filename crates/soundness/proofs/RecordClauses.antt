@@ -1,6 +1,6 @@
 -- Soundness of the process records and of the next number, as the loops and look-ups of the code say it.
 use Prim.Native.Nat.{ℕ, zero, suc, _+_, _-_, _<_, _≤_}
-use mathlib.Core.Bool.{Bool, true, false, _&&_, _||_}
+use mathlib.Core.Bool.{Bool, true, false, _&&_}
 use mathlib.Core.List.{List, [], _∷_}
 use mathlib.Core.Path.{_≡_, refl, ap, sym, _∙_}
 use native.Mathlib.Nat.{le-of-suc-le-suc}
@@ -21,7 +21,7 @@ use Rattle.rows.specs.Layout.{rowSlot, rawRow}
 use Rattle.rows.specs.Setters.{withSources}
 use Rattle.rows.specs.contracts.Slots.{slotted}
 use Rattle.soundness.specs.contracts.Laid.{before}
-use Rattle.rows.proofs.Bools.{pos-some}
+use Rattle.rows.proofs.Bools.{and-true, or-false, pos-some}
 use Rattle.rows.proofs.Keyed.{first-none}
 use Rattle.rows.proofs.Slots.{slot-none, represented-well, row-words-at, raw-row, request-words-at}
 
@@ -56,10 +56,6 @@ and-assoc : (a b c : Bool) → a && (b && c) ≡ (a && b) && c
 and-assoc true b c = refl
 and-assoc false b c = refl
 
-and-true : (a : Bool) → a && true ≡ a
-and-true true = refl
-and-true false = refl
-
 all-taken : {A : Type 0} (f : A → Bool) (none : A) (xs : List A) (i : ℕ) → i < length xs → all f (take (suc i) xs) ≡ all f (take i xs) && f (getD xs i none)
 unfolding all
 all-taken f none [] i h = absurd (omega arith)
@@ -87,10 +83,6 @@ pub placed-more : (rs : List Row) (none : Process) (xs : List Process) (i : ℕ)
 placed-more rs none xs i h = ap (λ (k : ℕ). placedFrom rs 1 (take k xs)) (add-one i) ∙ placed-taken rs none 1 xs i h
 
 -- ---- one process's record
-or-false : (a : Bool) → a || false ≡ a
-or-false true = refl
-or-false false = refl
-
 pub placed-prime : (rs : List Row) (q : ℕ) (x : Process) → x .through ≡ 0 → eqb (x .active) (x .prime) ≡ processPlaced rs q x
 unfolding processPlaced some
 placed-prime rs q x e = rw e (sym (or-false (eqb (x .active) (x .prime))))

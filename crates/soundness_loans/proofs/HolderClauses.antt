@@ -17,7 +17,7 @@ use Rattle.rows.specs.Sound.{mayBeListed}
 use Rattle.rows.specs.contracts.Represents.{Represents}
 use Rattle.rows.specs.Layout.{rowSlot}
 use Rattle.soundness_loans.specs.contracts.Clauses.{itemsListable, codeAt, listAt, listAll, itemSlots}
-use Rattle.rows.proofs.Bools.{false-of, clash, and-l, and-r, and-i, pos-some, eqb-self, all-at}
+use Rattle.rows.proofs.Bools.{false-of, clash, and-l, and-r, and-i, or-false, pos-some, eqb-self, all-at}
 use Rattle.rows.proofs.Slots.{represented-well, slot-le, row-absent}
 use Rattle.soundness_loans.proofs.RequestClauses.{no-slot, slot-test, member-nonzero}
 
@@ -78,11 +78,7 @@ any-four f [] e = absurd (omega arith)
 any-four f (a ∷ []) e = absurd (omega arith)
 any-four f (a ∷ b ∷ []) e = absurd (omega arith)
 any-four f (a ∷ b ∷ c ∷ []) e = absurd (omega arith)
-any-four f (a ∷ b ∷ c ∷ d ∷ []) e = ap (λ (x : Bool). f a || (f b || (f c || x))) (none (f d))
-  where
-    none : (x : Bool) → x ≡ x || false
-    none true = refl
-    none false = refl
+any-four f (a ∷ b ∷ c ∷ d ∷ []) e = ap (λ (x : Bool). f a || (f b || (f c || x))) (sym (or-false (f d)))
 any-four f (a ∷ b ∷ c ∷ d ∷ x ∷ ss) e = absurd (omega arith)
 
 pub list-four : (code : ℕ) (ss l : List ℕ) → length ss ≡ 4
@@ -110,7 +106,8 @@ Small ss = all (λ s. leb s 1024) ss ≡ true
 abbrev pub listed-now : Bool → ℕ → ℕ → ℕ
 listed-now b code old = cond (b && eqb old 0) code old
 
-code-list-all : (code : ℕ) → 0 < code → (ss l : List ℕ) → length l ≡ 1024 → Small ss → (i : ℕ) → codeAt (listAll code ss l) (suc i) ≡ listed-now (member (suc i) ss) code (getD l i 0)
+code-list-all : (code : ℕ) → 0 < code → (ss l : List ℕ) → length l ≡ 1024 → Small ss → (i : ℕ)
+    → codeAt (listAll code ss l) (suc i) ≡ listed-now (member (suc i) ss) code (getD l i 0)
 unfolding listAll member all codeAt
 code-list-all code pos [] l long h i = refl
 code-list-all code pos (s ∷ ss) l long h i =
@@ -151,7 +148,8 @@ item-there st v lent e h z =
     let there : member e (nonzero (v .items)) ≡ true = member-nonzero e (v .items) here ∙ and-r (some e) (member e (v .items)) h in
     clash (all-at (λ e. mayBeListed v (rowOf (st .rows) e)) (nonzero (v .items)) lent e there) (ap (mayBeListed v) (row-absent (st .rows) e z))
 
-member-slot : {st : State} {t : List ℕ} → Represents t st → (e i : ℕ) → rowSlot (st .rows) e ≡ suc i → (es : List ℕ) → member (suc i) (map (rowSlot (st .rows)) es) ≡ member e es
+member-slot : {st : State} {t : List ℕ} → Represents t st → (e i : ℕ) → rowSlot (st .rows) e ≡ suc i → (es : List ℕ)
+    → member (suc i) (map (rowSlot (st .rows)) es) ≡ member e es
 unfolding member
 member-slot rep e i d [] = refl
 member-slot {st} rep e i d (a ∷ es) = rw (slot-test rep e i d a, member-slot rep e i d es) refl
@@ -167,7 +165,9 @@ code-turn {st} rep v lent code pos l long e = pick (rowSlot (st .rows) e) refl
 
     pick : (s : ℕ) → rowSlot (st .rows) e ≡ s → codeAt (listAll code slots l) s ≡ listed-now (lists e v) code (codeAt l s)
     pick zero d = sym (ap (λ (b : Bool). listed-now b code 0) (false-of (lists e v) (λ h. item-there st v lent e h d)))
-    pick (suc i) d = code-list-all code pos slots l long (small-slots rep (v .items)) i ∙ ap (λ (b : Bool). listed-now b code (getD l i 0)) (member-slot rep e i d (v .items) ∙ sym (listed e d))
+    pick (suc i) d =
+        code-list-all code pos slots l long (small-slots rep (v .items)) i
+        ∙ ap (λ (b : Bool). listed-now b code (getD l i 0)) (member-slot rep e i d (v .items) ∙ sym (listed e d))
       where
         listed : (e : ℕ) → rowSlot (st .rows) e ≡ suc i → lists e v ≡ member e (v .items)
         listed zero d = absurd (omega (arith, no-slot rep, d))

@@ -18,9 +18,9 @@ use Rattle.rows.specs.Sound.{itemsLent, isFetched, olderFetched, awaitsFetch, s
 use Rattle.rows.specs.Layout.{requestAt, requestsTo, rowSlot}
 use Rattle.rows.specs.contracts.Represents.{Represents}
 use Rattle.soundness_loans.specs.contracts.Clauses.{itemsListable, listingCode, listingOf, codeAt, listAll, itemSlots, listedOnce, withItems, heldTo, allOfHolders}
-use Rattle.rows.proofs.Bools.{and-l, and-r, or-r, pos-some}
+use Rattle.rows.proofs.Bools.{and-l, and-r, or-r, and-true, or-false, pos-some}
 use Rattle.rows.proofs.Slots.{represented-well, row-words-at, slot-number}
-use Rattle.soundness_loans.proofs.RequestClauses.{requests-read, and-true}
+use Rattle.soundness_loans.proofs.RequestClauses.{requests-read}
 use Rattle.soundness_loans.proofs.HolderClausesOlder.{fetchedAfter, older-after}
 use Rattle.soundness_loans.proofs.HolderClauses.{code-none, length-list-all, listed-now, Lent, code-turn}
 
@@ -41,7 +41,8 @@ module _ (rs : List Row) where
         told = ap (λ (L : ℕ → Bool). fetchedAfter L vs) (λ i e. some (code-none 1024 (rowSlot rs e) i));
       }
 
-  pub listing-end : (whole : List Request) (l : List ℕ) (older : Bool) → Listing whole [] l older → (older ≡ fetchedAfter (λ e. false) whole) × ((e : ℕ) → listingOf whole e ≡ codeAt l (rowSlot rs e))
+  pub listing-end : (whole : List Request) (l : List ℕ) (older : Bool) → Listing whole [] l older
+      → (older ≡ fetchedAfter (λ e. false) whole) × ((e : ℕ) → listingOf whole e ≡ codeAt l (rowSlot rs e))
   unfolding fetchedAfter listingOf
   listing-end whole l older p = (sym (and-true older) ∙ p .told, (λ e. p .codes e ∙ same-code (codeAt l (rowSlot rs e))))
     where
@@ -66,14 +67,10 @@ module _ (b : Bool) (code y c : ℕ) (pos : 0 < code) where
       positive : (n : ℕ) → (n ≡ 0 → ⊥) → 0 < n
       positive n h = omega arith
 
-      none : (a : Bool) → a ≡ a || false
-      none true = refl
-      none false = refl
-
       pick : (b d : Bool) → eqb c 0 ≡ d → some (cond (b && d) code c) ≡ some c || b
       pick true true q = rw (pos-some code pos) (sym (or-r (some c) true refl))
       pick true false q = rw (pos-some c (positive c (eqb-false c 0 q))) refl
-      pick false d q = none (some c)
+      pick false d q = sym (or-false (some c))
 
 any-map : (f : ℕ → Bool) (g : ℕ → ℕ) (ns : List ℕ) → any f (map g ns) ≡ any (λ n. f (g n)) ns
 unfolding any
@@ -138,7 +135,8 @@ awaits-is (v ∷ vs) e = pick (awaits-is vs e) (lists e v) (isFetched v)
     pick ih true false = refl
     pick ih false f = ih
 
-pub held-rows : {st : State} {t : List ℕ} → Represents t st → (l : List ℕ) → ((e : ℕ) → listingOf (st .requests) e ≡ codeAt l (rowSlot (st .rows) e)) → systemHolds (st .requests) (st .rows) ≡ heldTo t l (length (st .rows))
+pub held-rows : {st : State} {t : List ℕ} → Represents t st → (l : List ℕ) → ((e : ℕ) → listingOf (st .requests) e ≡ codeAt l (rowSlot (st .rows) e))
+    → systemHolds (st .requests) (st .rows) ≡ heldTo t l (length (st .rows))
 unfolding systemHolds all heldTo codeAt rowSlot
 held-rows {st} {t} rep l codes = along [] (st .rows) refl
   where
@@ -147,10 +145,15 @@ held-rows {st} {t} rep l codes = along [] (st .rows) refl
 
     along : (new old : List Row) → st .rows ≡ new ++ old → all test old ≡ heldTo t l (length old)
     along new [] e = refl
-    along new (r ∷ old) e = λ i. same (isSystem (sym (row-words-at rep new r old e .place) i)) (waits i) && along (new ++ (r ∷ [])) old (e ∙ sym (append-assoc new (r ∷ []) old)) i
+    along new (r ∷ old) e =
+        λ i.
+        same (isSystem (sym (row-words-at rep new r old e .place) i)) (waits i)
+        && along (new ++ (r ∷ [])) old (e ∙ sym (append-assoc new (r ∷ []) old)) i
       where
         slot : rowSlot (st .rows) (r .number) ≡ suc (length old)
-        slot = ap (λ (rs : List Row). rowSlot rs (r .number)) e ∙ slot-number (λ r. r .number) new r old (ap (rises (λ r. r .number)) (sym e) ∙ represented-well rep .rows-rise)
+        slot =
+            ap (λ (rs : List Row). rowSlot rs (r .number)) e
+            ∙ slot-number (λ r. r .number) new r old (ap (rises (λ r. r .number)) (sym e) ∙ represented-well rep .rows-rise)
 
         waits : awaitsFetch (st .requests) (r .number) ≡ eqb (getD l (length old) 0) 2
         waits = awaits-is (st .requests) (r .number) ∙ ap (λ (n : ℕ). eqb n 2) (codes (r .number) ∙ ap (codeAt l) slot)
@@ -178,7 +181,8 @@ listing-next {st} {t} rep whole j l l′ older r pos lent e d p =
     listing-turn rep whole (requestsTo t (j - 1)) l l′ older r (requestAt t (j - 1)) lent e d (subst (λ (k : ℕ). Listing (st .rows) whole (requestsTo t k) l older) before p)
 
 -- all requests are listed, and the rows looked at
-pub holders-end : {st : State} {t : List ℕ} → Represents t st → (n m : ℕ) → n ≡ length (st .rows) → m ≡ length (st .requests) → (j : ℕ) → j ≤ 0 → (l : List ℕ) (older held : Bool)
+pub holders-end : {st : State} {t : List ℕ} → Represents t st → (n m : ℕ) → n ≡ length (st .rows) → m ≡ length (st .requests)
+    → (j : ℕ) → j ≤ 0 → (l : List ℕ) (older held : Bool)
     → Listing (st .rows) (requestsTo t m) (requestsTo t j) l older → held ≡ heldTo t l n → older && held ≡ allOfHolders st
 unfolding requestsTo
 holders-end {st} {t} rep n m e d j h l older held p q =

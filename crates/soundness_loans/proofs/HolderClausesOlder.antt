@@ -45,7 +45,8 @@ common (x ∷ xs) ys t = pick (common xs ys) (some x && member x ys) refl t
 lists-both : (v w : Request) → any (λ e. lists e v) (w .items) ≡ any (λ e. lists e w) (v .items)
 unfolding lists
 lists-both v w =
-    bool-eq (any (λ e. some e && member e (v .items)) (w .items)) (any (λ e. some e && member e (w .items)) (v .items)) (common (w .items) (v .items)) (common (v .items) (w .items))
+    bool-eq (any (λ e. some e && member e (v .items)) (w .items)) (any (λ e. some e && member e (w .items)) (v .items))
+    (common (w .items) (v .items)) (common (v .items) (w .items))
 
 any-or : (f g : ℕ → Bool) (ns : List ℕ) → any (λ e. f e || g e) ns ≡ any f ns || any g ns
 unfolding any
@@ -75,7 +76,8 @@ unfolding fetchedAfter all each olderFetchedBy
 after-is L [] = refl
 after-is L (v ∷ vs) =
     ap (λ (b : Bool). clear L v && b) (after-is (λ e. L e || lists e v) vs)
-    ∙ ap (λ (b : Bool). clear L v && (b && each olderFetchedBy vs)) (all-eq (clear (λ e. L e || lists e v)) (λ w. clear L w && apart w) (clear-more L v) vs ∙ all-both (clear L) apart vs)
+    ∙ ap (λ (b : Bool). clear L v && (b && each olderFetchedBy vs))
+    (all-eq (clear (λ e. L e || lists e v)) (λ w. clear L w && apart w) (clear-more L v) vs ∙ all-both (clear L) apart vs)
     ∙ mix (clear L v) (all (clear L) vs) (all apart vs) (each olderFetchedBy vs)
   where
     apart : Request → Bool
@@ -95,7 +97,10 @@ older-after st = sym (after-is (λ e. false) (st .requests) ∙ ap (λ (b : Bool
     or-true false = refl
 
     free : (vs : List Request) → all (clear (λ e. false)) vs ≡ true
-    free vs = all-eq (clear (λ e. false)) (λ w. true) (λ w. ap (λ (b : Bool). isFetched w || not b) (any-none (λ e. false) (λ e. refl) (w .items)) ∙ or-true (isFetched w)) vs ∙ each-one vs
+    free vs =
+        all-eq (clear (λ e. false)) (λ w. true)
+        (λ w. ap (λ (b : Bool). isFetched w || not b) (any-none (λ e. false) (λ e. refl) (w .items)) ∙ or-true (isFetched w)) vs
+        ∙ each-one vs
       where
         each-one : (vs : List Request) → all (λ (w : Request). true) vs ≡ true
         each-one [] = refl

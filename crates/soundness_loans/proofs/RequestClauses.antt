@@ -18,7 +18,7 @@ use Rattle.rows.specs.Sound.{itemsFew, portStands, mayBeListed}
 use Rattle.rows.specs.Layout.{rowColumns, requestColumns, requestsAt, requestAt, requestsTo, rowSlot}
 use Rattle.rows.specs.contracts.Represents.{Represents}
 use Rattle.soundness_loans.specs.contracts.Clauses.{wordAt, standingPort}
-use Rattle.rows.proofs.Bools.{bool-eq, clash}
+use Rattle.rows.proofs.Bools.{bool-eq, clash, and-true, or-false}
 use Rattle.rows.proofs.LayoutRequests.{requests-back}
 use Rattle.rows.proofs.Slots.{represented-well, represented-request, row-found, row-none, row-absent, row-words, request-read, slot-zero}
 
@@ -101,7 +101,8 @@ module _ {st : State} {t : List ℕ} (rep : Represents t st) where
       → not (ltb 0 e) || ((isEnd kind && ltb e q) || (ltb 0 bears && eqb bears q)) ≡ not (some e) || mayBeListed v (rowOf (st .rows) e)
   unfolding some mayBeListed
   may-be-listed v e q kind bears a b c =
-      rw (b, c, ← a) (ap (λ (x : Bool). not (ltb 0 e) || (x || (ltb 0 (rowOf (st .rows) e .request) && eqb (rowOf (st .rows) e .request) (v .number)))) (older-end e (v .number)))
+      let own = rowOf (st .rows) e .request in
+      rw (b, c, ← a) (ap (λ (x : Bool). not (ltb 0 e) || (x || (ltb 0 own && eqb own (v .number)))) (older-end e (v .number)))
 
 -- ---- tests joined
 pub all-both : {A : Type 0} (f g : A → Bool) (xs : List A) → all (λ x. f x && g x) xs ≡ all f xs && all g xs
@@ -116,10 +117,6 @@ all-both f g (x ∷ xs) = rw (all-both f g xs) (swap (f x) (g x) (all f xs) (all
     swap false b c d = refl
 
 -- ---- items that are there
-pub and-true : (b : Bool) → b && true ≡ b
-and-true true = refl
-and-true false = refl
-
 -- what is asked of an item that is there
 pub all-nonzero : (P : ℕ → Bool) (e : ℕ) (es : List ℕ) → all P (nonzero (e ∷ es)) ≡ (not (some e) || P e) && all P (nonzero es)
 unfolding all nonzero filter
@@ -129,21 +126,25 @@ all-nonzero P e es = pick (some e)
     pick true = refl
     pick false = refl
 
-pub items-all : (P : ℕ → Bool) (a b c d : ℕ) → (not (some a) || P a) && ((not (some b) || P b) && ((not (some c) || P c) && (not (some d) || P d))) ≡ all P (nonzero (a ∷ b ∷ c ∷ d ∷ []))
+pub items-all : (P : ℕ → Bool) (a b c d : ℕ)
+    → (not (some a) || P a) && ((not (some b) || P b) && ((not (some c) || P c) && (not (some d) || P d))) ≡ all P (nonzero (a ∷ b ∷ c ∷ d ∷ []))
 unfolding all nonzero filter
 items-all P a b c d =
     sym
     (all-nonzero P a (b ∷ c ∷ d ∷ [])
     ∙ ap (λ (x : Bool). (not (some a) || P a) && x)
     (all-nonzero P b (c ∷ d ∷ [])
-    ∙ ap (λ (x : Bool). (not (some b) || P b) && x) (all-nonzero P c (d ∷ []) ∙ ap (λ (x : Bool). (not (some c) || P c) && x) (all-nonzero P d [] ∙ and-true (not (some d) || P d)))))
+    ∙ ap (λ (x : Bool). (not (some b) || P b) && x)
+    (all-nonzero P c (d ∷ [])
+    ∙ ap (λ (x : Bool). (not (some c) || P c) && x) (all-nonzero P d [] ∙ and-true (not (some d) || P d)))))
 
 pub member-nonzero : (e : ℕ) (es : List ℕ) → some e ≡ true → member e (nonzero es) ≡ member e es
 unfolding nonzero filter member
 member-nonzero e [] h = refl
 member-nonzero e (a ∷ es) h = pick (member-nonzero e es h) (some a) refl (eqb e a) refl
   where
-    pick : member e (filter some es) ≡ member e es → (b : Bool) → some a ≡ b → (d : Bool) → eqb e a ≡ d → member e (cond b (a ∷ filter some es) (filter some es)) ≡ d || member e es
+    pick : member e (filter some es) ≡ member e es → (b : Bool) → some a ≡ b → (d : Bool) → eqb e a ≡ d
+        → member e (cond b (a ∷ filter some es) (filter some es)) ≡ d || member e es
     pick ih true q true r = rw r refl
     pick ih true q false r = rw r ih
     pick ih false q true r = clash (ap some (sym (eqb-true e a r)) ∙ h) q
@@ -151,11 +152,7 @@ member-nonzero e (a ∷ es) h = pick (member-nonzero e es h) (some a) refl (eqb 
 
 pub member-three : (e a b c : ℕ) → eqb e a || (eqb e b || eqb e c) ≡ member e (a ∷ b ∷ c ∷ [])
 unfolding member
-member-three e a b c = rw (or-none (eqb e c)) refl
-  where
-    or-none : (b : Bool) → b || false ≡ b
-    or-none true = refl
-    or-none false = refl
+member-three e a b c = rw (or-false (eqb e c)) refl
 
 abbrev apart : ℕ → List ℕ → Bool
 apart e es = not (some e) || not (member e es)
@@ -185,7 +182,9 @@ items-apart a b c d =
     (distinct-nonzero a (b ∷ c ∷ d ∷ [])
     ∙ ap (λ (x : Bool). apart a (b ∷ c ∷ d ∷ []) && x)
     (distinct-nonzero b (c ∷ d ∷ [])
-    ∙ ap (λ (x : Bool). apart b (c ∷ d ∷ []) && x) (distinct-nonzero c (d ∷ []) ∙ ap (λ (x : Bool). apart c (d ∷ []) && x) (distinct-nonzero d [] ∙ last (some d)) ∙ and-true (apart c (d ∷ []))))))
+    ∙ ap (λ (x : Bool). apart b (c ∷ d ∷ []) && x)
+    (distinct-nonzero c (d ∷ [])
+    ∙ ap (λ (x : Bool). apart c (d ∷ []) && x) (distinct-nonzero d [] ∙ last (some d)) ∙ and-true (apart c (d ∷ []))))))
   where
     last : (x : Bool) → (not x || true) && true ≡ true
     last true = refl

@@ -59,7 +59,8 @@ taken-port rep c i e [] h = refl
 taken-port {st} rep c i e (w ∷ vs) h =
     let here : portStands (st .rows) w ≡ true = and-l (portStands (st .rows) w) (all (portStands (st .rows)) vs) h in
     let rest : all (portStands (st .rows)) vs ≡ true = and-r (portStands (st .rows) w) (all (portStands (st .rows)) vs) h in
-    rw (here, taken-port rep c i e vs rest) (ap (λ (b : Bool). b || member c (map (λ v. v .port) vs)) (eqb-sym (rowSlot (st .rows) (w .port)) (suc i) ∙ slot-test rep c i e (w .port)))
+    rw (here, taken-port rep c i e vs rest)
+    (ap (λ (b : Bool). b || member c (map (λ v. v .port) vs)) (eqb-sym (rowSlot (st .rows) (w .port)) (suc i) ∙ slot-test rep c i e (w .port)))
 
 -- the marks are the slots of the ports of the requests so far
 pub record Ports (rs : List Row) (vs : List Request) (marks : List Bool) (right : Bool) : Type 0 where
@@ -71,20 +72,26 @@ pub ports-start : (rs : List Row) → Ports rs [] (replicate 1024 false) true
 unfolding portsRight any all distinct
 ports-start rs = record { long = length-replicate 1024 false; told = refl; held = λ i h. getD-replicate 1024 i false false h }
 
-pub ports-turn : {st : State} {t : List ℕ} → Represents t st → (vs : List Request) (marks : List Bool) (right : Bool) (v : Request) (s : ℕ) → s ≡ standingPort (st .rows) v → s ≤ 1024
-    → Ports (st .rows) vs marks right → Ports (st .rows) (v ∷ vs) (withMark marks s) (isFree marks s && right)
+pub ports-turn : {st : State} {t : List ℕ} → Represents t st → (vs : List Request) (marks : List Bool) (right : Bool) (v : Request) (s : ℕ)
+    → s ≡ standingPort (st .rows) v → s ≤ 1024 → Ports (st .rows) vs marks right → Ports (st .rows) (v ∷ vs) (withMark marks s) (isFree marks s && right)
 unfolding portsRight any all distinct withMark isFree
 ports-turn {st} rep vs marks right v zero e h p =
     record {
       long = p .long;
       told = rw (port-none (st .rows) v (sym e)) refl;
-      held = λ k lt. p .held k lt ∙ ap (λ (b : Bool). b || taken (st .rows) (suc k) vs) (sym (ap (λ (s : ℕ). eqb s (suc k)) (sym e) ∙ ne-eqb 0 (suc k) (λ d. omega arith)));
+      held =
+          λ k lt.
+          p .held k lt
+          ∙ ap (λ (b : Bool). b || taken (st .rows) (suc k) vs) (sym (ap (λ (s : ℕ). eqb s (suc k)) (sym e) ∙ ne-eqb 0 (suc k) (λ d. omega arith)));
     }
 ports-turn {st} rep vs marks right v (suc i) e h p =
     let (stands, at) = port-some (st .rows) v i (sym e) in
     record {
       long = length-set marks i true ∙ p .long;
-      told = ap (λ (b : Bool). not b && right) (p .held i h) ∙ ap (λ (b : Bool). not (taken (st .rows) (suc i) vs) && b) (p .told) ∙ rw stands (joined at (all (portStands (st .rows)) vs) refl);
+      told =
+          ap (λ (b : Bool). not b && right) (p .held i h)
+          ∙ ap (λ (b : Bool). not (taken (st .rows) (suc i) vs) && b) (p .told)
+          ∙ rw stands (joined at (all (portStands (st .rows)) vs) refl);
       held = marked;
     }
   where
@@ -118,8 +125,9 @@ ports-turn {st} rep vs marks right v (suc i) e h p =
             ∙ or-taken (ne-eqb (standingPort (st .rows) v) (suc k) (λ x. d (same k x)))
 
 -- one request more
-pub ports-next : {st : State} {t : List ℕ} → Represents t st → (u : List ℕ) (j : ℕ) (marks marks′ : List Bool) (right r : Bool) (s : ℕ) → s ≡ standingPort (st .rows) (requestAt u j) → s ≤ 1024
-    → r ≡ isFree marks s → marks′ ≡ withMark marks s → Ports (st .rows) (requestsTo u j) marks right → Ports (st .rows) (requestsTo u (j + 1)) marks′ (r && right)
+pub ports-next : {st : State} {t : List ℕ} → Represents t st → (u : List ℕ) (j : ℕ) (marks marks′ : List Bool) (right r : Bool) (s : ℕ)
+    → s ≡ standingPort (st .rows) (requestAt u j) → s ≤ 1024 → r ≡ isFree marks s → marks′ ≡ withMark marks s
+    → Ports (st .rows) (requestsTo u j) marks right → Ports (st .rows) (requestsTo u (j + 1)) marks′ (r && right)
 unfolding requestsTo
 ports-next rep u j marks marks′ right r s e h free mark p = rw (add-one j, free, mark) (ports-turn rep (requestsTo u j) marks right (requestAt u j) s e h p)
 

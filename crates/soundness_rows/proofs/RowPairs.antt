@@ -108,7 +108,8 @@ module _ {st : State} {t : List ℕ} (rep : Represents t st) where
   up : rises (λ r. r .number) (st .rows) ≡ true
   up = represented-well rep .rows-rise
 
-  module _ (new₁ : List Row) (a : Row) (old₁ : List Row) (e₁ : st .rows ≡ new₁ ++ (a ∷ old₁)) (new₂ : List Row) (b : Row) (old₂ : List Row) (e₂ : st .rows ≡ new₂ ++ (b ∷ old₂)) where
+  module _ (new₁ : List Row) (a : Row) (old₁ : List Row) (e₁ : st .rows ≡ new₁ ++ (a ∷ old₁)) (new₂ : List Row) (b : Row) (old₂ : List Row)
+      (e₂ : st .rows ≡ new₂ ++ (b ∷ old₂)) where
     -- the same source by number, by slot
     same-source : eqb (sourceSlot old₁ (a .source)) (sourceSlot old₂ (b .source)) ≡ eqb (a .source) (b .source)
     same-source =
@@ -168,7 +169,8 @@ module _ {st : State} {t : List ℕ} (rep : Represents t st) where
           let at-z : z ≡ rawRow t (length (y ∷ old)) = dz ∙ ap (rawRow t) (omega arith) in
           let look : rowOf (st .rows) (suc (y .number)) ≡ cond (eqb (suc (y .number)) (w .number)) w noRow
           = ap (λ (l : List Row). rowOf l (suc (y .number))) e′ ∙ next-row front w y old up′ in
-          rw (paired-words (front ++ (w ∷ [])) y old e front w (y ∷ old) e′ x z at-x at-z, word-number (front ++ (w ∷ [])) y old e x at-x, word-number front w (y ∷ old) e′ z at-z)
+          let new = front ++ (w ∷ []) in
+          rw (paired-words new y old e front w (y ∷ old) e′ x z at-x at-z, word-number new y old e x at-x, word-number front w (y ∷ old) e′ z at-z)
           (paired-if (eqb (suc (y .number)) (w .number)) y w ∙ ap (isPairedWith y) (sym look))
 
   -- ---- the slot before

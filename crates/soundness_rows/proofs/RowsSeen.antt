@@ -55,7 +55,8 @@ module _ {st : State} {t : List ℕ} (rep : Represents t st) where
 
   slot-row : (new old : List Row) → st .rows ≡ new ++ old → (n : ℕ) → Same (slotRow t (sourceSlot old n)) (rowOf old n)
   slot-row new old e n =
-      slot-row-at new old e n (sourceSlot old n) (sym (source-rises old (rises-old (λ r. r .number) new old (ap (rises (λ r. r .number)) (sym e) ∙ represented-well rep .rows-rise)) n))
+      let up = ap (rises (λ r. r .number)) (sym e) ∙ represented-well rep .rows-rise in
+      slot-row-at new old e n (sourceSlot old n) (sym (source-rises old (rises-old (λ r. r .number) new old up) n))
 
 -- the number of a source, and whether there is one, by its slot
 among-number : (old : List Row) → rises (λ r. r .number) old ≡ true → (n : ℕ) → Among old n → rowOf old n .number ≡ n

@@ -113,7 +113,9 @@ module _ {st : State} {t : List ℕ} (rep : Represents t st) where
               λ new y old e d.
               let at-y = at ∙ ap (rawRow t) (sym d) in
               let same = same-at rep new y old e x at-y in
-              rw (right y old (st .requests) (seen-at rep new y old e x s v at-y ds dv) (dp ∙ ap (λ (q : ℕ). requestOf (st .requests) q .port) (same .request)), listing (st .requests) dl)
+              let seen = seen-at rep new y old e x s v at-y ds dv in
+              let on-port = dp ∙ ap (λ (q : ℕ). requestOf (st .requests) q .port) (same .request) in
+              rw (right y old (st .requests) seen on-port, listing (st .requests) dl)
               (rw (same .request, same .number) refl);
         }
 

@@ -52,6 +52,7 @@ unfoldable pub standingPort : List Row → Request → ℕ
 standingPort rs v = if portStands rs v then rowSlot rs (v .port) else 0
 
 -- ---- all requests
+-- each by itself
 abbrev pub requestsRight : State → Bool
 requestsRight st = all (requestRight (st .processes) (st .rows)) (st .requests)
 
@@ -66,18 +67,22 @@ allOfRequests st =
     && (fetchedInRange (st .requests) && (portsStand (st .rows) (st .requests) && (requestersListed (st .processes) (st .requests) && (itemsApart (st .requests) && (itemsLent (st .rows) (st .requests) && onePerPort (st .requests))))))
 
 -- ---- marks: a slot is free once
+-- a slot plus 1 has no mark
 unfoldable pub isFree : List Bool → ℕ → Bool
 isFree marks zero = false
 isFree marks (suc i) = not (getD marks i false)
 
+-- the marks with one more
 unfoldable pub withMark : List Bool → ℕ → List Bool
 withMark marks zero = marks
 withMark marks (suc i) = set marks i true
 
 -- ---- the listing: 0 for a row that no request lists, 1 where the newest that does is fetched, 2 where it is not
+-- the code of what a request lists
 unfoldable pub listingCode : Bool → ℕ
 listingCode fetched = if fetched then 1 else 2
 
+-- the code of the row numbered e, by the requests newest first
 unfoldable pub listingOf : List Request → ℕ → ℕ
 listingOf [] e = 0
 listingOf (v ∷ vs) e = if lists e v then listingCode (isFetched v) else listingOf vs e
@@ -92,18 +97,21 @@ unfoldable pub listAt : ℕ → ℕ → List ℕ → List ℕ
 listAt code zero listing = listing
 listAt code (suc i) listing = if eqb (getD listing i 0) 0 then set listing i code else listing
 
+-- each slot of a list does
 unfoldable pub listAll : ℕ → List ℕ → List ℕ → List ℕ
 listAll code [] listing = listing
 listAll code (s ∷ ss) listing = listAll code ss (listAt code s listing)
 
 -- ---- the items of a request in the listing
--- no slot of a list is past the first n; a slot of it is listed
+-- no slot of a list is past the first n
 abbrev pub SlotsWithin : ℕ → List ℕ → Type 0
 SlotsWithin n slots = (k : ℕ) → getD slots k 0 ≤ n
 
+-- one of the slots is listed
 abbrev pub anyListed : List ℕ → List ℕ → Bool
 anyListed listing slots = any (λ s. some (codeAt listing s)) slots
 
+-- the slots of its items
 abbrev pub itemSlots : List Row → Request → List ℕ
 itemSlots rs v = map (rowSlot rs) (v .items)
 

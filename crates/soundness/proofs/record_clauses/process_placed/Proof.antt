@@ -23,16 +23,18 @@ enum-told c = search needs
 
 returns-2 : tie.Need-returns-2
 returns-2 c =
-    let b = c .before .before in
-    let s = b .before .before .before .before in
+    let searched = c .before .before in
+    let a = searched .before .before .before .before .args in
     λ st rep e.
-    placed-nowhere st (s .args .q) (s .args .x) (b .before .if1 .left) (found-nothing (rowSlot (st .rows) (s .args .x .through)) (b .row-among .ensures .1 st rep e) (c .enum-told .given .1))
+    placed-nowhere st (a .q) (a .x) (searched .before .if1 .left)
+    (found-nothing (rowSlot (st .rows) (a .x .through)) (searched .row-among .ensures .1 st rep e) (c .enum-told .given .1))
 
 row-at-requires : tie.Need-row-at-requires
 row-at-requires c κs =
-    let b = c .before .before .before in
-    let s = b .before .before .before .before in
-    (s .pre .0, omega (arith, at-below (s .args .n) (b .row-among .result) _ (b .row-among .ensures .0) (c .before .i .given .1)))
+    let searched = c .before .before .before in
+    let f = searched .row-among in
+    let s = searched .before .before .before .before in
+    (s .pre .0, omega (arith, at-below (s .args .n) (f .result) _ (f .ensures .0) (c .before .i .given .1)))
 
 clist-requires : tie.Need-clist-requires
 clist-requires c κs = search needs

@@ -43,7 +43,8 @@ loop-again c =
     let p = now (s .args .p) in
     let i = b .loop .i in (
       search needs,
-      rw (b .loop .inv .1, c .record-in-range .ensures, c .before .record-at .ensures) (sym (all-more recordInRange noProcess (recordsIn p) i (omega (arith, length-in 64 p (s .pre))))),
+      rw (b .loop .inv .1, c .record-in-range .ensures, c .before .record-at .ensures)
+          (sym (all-more recordInRange noProcess (recordsIn p) i (omega (arith, length-in 64 p (s .pre))))),
     )
 
 returns : tie.Need-returns Inv-loop μ-loop

@@ -52,7 +52,9 @@ returns : tie.Need-returns Inv-loop μ-loop
 returns c = λ st rep e d.
     let b = c .before in
     let end : b .loop .j ≡ length (st .requests) = omega (arith, b .loop .inv .0, c .loop-test .left, d) in
-    b .loop .inv .1 st rep e .told ∙ ap (λ (k : ℕ). portsRight (st .rows) (requestsTo (now (b .before .before .args .t)) k)) end ∙ ap (portsRight (st .rows)) (requests-read rep)
+    b .loop .inv .1 st rep e .told
+    ∙ ap (λ (k : ℕ). portsRight (st .rows) (requestsTo (now (b .before .before .args .t)) k)) end
+    ∙ ap (portsRight (st .rows)) (requests-read rep)
 
 pub ports-right-spec : {M : Type 1} → statement M
 ports-right-spec =

@@ -39,7 +39,11 @@ loop-less c = search needs
 loop-again : tie.Need-loop-again Inv-loop μ-loop
 loop-again c = let b = c .before .before in
     let a = b .before .before .before .args in
-    (search needs, (λ st rep e. all-next (requestRight (recordsIn (now (a .p))) (st .rows)) (now (a .t)) (b .loop .j) (c .request-right .ensures st rep e) (b .loop .inv .1 st rep e)))
+    let turn = b .loop in (
+      search needs,
+      (λ st rep e.
+          all-next (requestRight (recordsIn (now (a .p))) (st .rows)) (now (a .t)) (turn .j) (c .request-right .ensures st rep e) (turn .inv .1 st rep e)),
+    )
 
 returns : tie.Need-returns Inv-loop μ-loop
 returns c = λ st rep ps e d.

@@ -21,7 +21,10 @@ returns c =
     λ y rs h.
     let a = c .before .before .before .before .args in
     let b = c .before .before .if1 in
-    let top = ⊎-elim (λ w. greater-second (a .s .depth) (a .v .depth) (b .top) (w .0 .taken) (w .1)) (λ w. greater-first (a .s .depth) (a .v .depth) (b .top) (w .0 .left) (w .1)) (b .came) in
+    let first = a .s .depth in
+    let second = a .v .depth in
+    let top =
+    ⊎-elim (λ w. greater-second first second (b .top) (w .0 .taken) (w .1)) (λ w. greater-first first second (b .top) (w .0 .left) (w .1)) (b .came) in
     rw (c .before .follows .ensures, top, h .own .depth, h .source .depth, h .via .depth)
     (ap (λ (b : Bool). b && leb (y .depth) 12) (eqb-sym (depthOver rs (y .source) (y .via)) (y .depth)))
 

@@ -16,7 +16,8 @@ returns : tie.Need-returns
 unfolding isPortEnd isOperation operation
 returns c =
     λ y rs h.
-    rw (c .before .before .before .before .is-end .ensures, c .before .before .before .is-node .ensures, h .own .place, h .own .kind, h .source .kind, h .via-none, h .own .request) refl
+    let node = c .before .before .before in
+    rw (node .before .is-end .ensures, node .is-node .ensures, h .own .place, h .own .kind, h .source .kind, h .via-none, h .own .request) refl
 
 pub is-port-end-spec : {M : Type 1} → statement M
 is-port-end-spec = tie.close (tie.spec is-end-requires is-node-requires returns)

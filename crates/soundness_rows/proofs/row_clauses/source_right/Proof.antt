@@ -23,8 +23,9 @@ is-port-end-requires c κs = search needs
 returns-2 : tie.Need-returns-2
 returns-2 c =
     λ y rs vs h e.
-    let b = c .before .before in
-    c .is-port-end .ensures y rs h ∙ source-end vs rs y (sym (h .own .request) ∙ b .before .if1 .left) (ap isEnd (sym (h .own .kind)) ∙ sym (b .is-end .ensures) ∙ c .before .if2 .taken)
+    let kind = c .before .before in
+    c .is-port-end .ensures y rs h
+    ∙ source-end vs rs y (sym (h .own .request) ∙ kind .before .if1 .left) (ap isEnd (sym (h .own .kind)) ∙ sym (kind .is-end .ensures) ∙ c .before .if2 .taken)
 
 is-own-requires : tie.Need-is-own-requires
 is-own-requires c κs = search needs
@@ -32,8 +33,9 @@ is-own-requires c κs = search needs
 returns-3 : tie.Need-returns-3
 returns-3 c =
     λ y rs vs h e.
-    let b = c .before .before in
-    c .is-own .ensures y rs h ∙ source-own vs rs y (sym (h .own .request) ∙ b .before .if1 .left) (ap isEnd (sym (h .own .kind)) ∙ sym (b .is-end .ensures) ∙ c .before .if2 .left)
+    let kind = c .before .before in
+    c .is-own .ensures y rs h
+    ∙ source-own vs rs y (sym (h .own .request) ∙ kind .before .if1 .left) (ap isEnd (sym (h .own .kind)) ∙ sym (kind .is-end .ensures) ∙ c .before .if2 .left)
 
 pub source-right-spec : {M : Type 1} → statement M
 source-right-spec = tie.close (tie.spec is-lent-copy-requires returns is-end-requires is-port-end-requires returns-2 is-own-requires returns-3)
