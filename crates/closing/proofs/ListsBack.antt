@@ -18,7 +18,8 @@ use Rattle.rows.specs.Setters.{withRows, withPlace}
 use Rattle.rows.proofs.Bools.{or-fl, or-fr, eqb-sym-f}
 use Rattle.rows.proofs.Slots.{represented-well, row-none}
 use Rattle.rows.specs.contracts.Sizes.{ROWS}
-use Rattle.closing.specs.contracts.Lists.{slotMarks, among, backRow, itemsBack, WentBack}
+use Rattle.closing.specs.contracts.Marks.{RowCount}
+use Rattle.closing.specs.contracts.Lists.{slotMarks, SlotsMarked, among, backRow, itemsBack, WentBack}
 use Rattle.closing.proofs.ListsMarks.{tested-eq, tested-map, among-one, among-zero, mark-put, mark-absent}
 
 -- ---- rows and marks under a change that keeps numbers
@@ -30,7 +31,8 @@ back-number b p is r = pick (not (b (r .number)) && among is (r .number))
     pick true = refl
     pick false = refl
 
-pub marks-map : (b : ℕ → Bool) (h : Row → Row) → ((r : Row) → h r .number ≡ r .number) → (rows : List Row) → slotMarks b (map h rows) ≡ slotMarks b rows
+pub marks-map : (b : ℕ → Bool) (h : Row → Row) → ((r : Row) → h r .number ≡ r .number) → (rows : List Row)
+    → slotMarks b (map h rows) ≡ slotMarks b rows
 unfolding slotMarks
 marks-map b h k rows =
     ap (pad false ROWS) (tested-map (λ r. b (r .number)) h rows ∙ tested-eq (λ r. b (h r .number)) (λ r. b (r .number)) (λ r. ap b (k r)) rows)
@@ -57,7 +59,8 @@ module _ (b : ℕ → Bool) (p : ℕ) (is : List ℕ) where
       λ i. record { rows = rows i; requests = st .requests; processes = st .processes; next = st .next }
 
 -- no row is the item
-rows-stay : (b : ℕ → Bool) (p e : ℕ) → some e ≡ true → (rs : List Row) → member e (map (λ r. r .number) rs) ≡ false → map (backRow b p (e ∷ [])) rs ≡ rs
+rows-stay : (b : ℕ → Bool) (p e : ℕ) → some e ≡ true → (rs : List Row) → member e (map (λ r. r .number) rs) ≡ false
+    → map (backRow b p (e ∷ [])) rs ≡ rs
 unfolding member
 rows-stay b p e h [] q = refl
 rows-stay b p e h (r ∷ rs) q =
@@ -72,12 +75,13 @@ state-stays b p e h st s =
     let rows = rows-stay b p e h (st .rows) (row-none (st .rows) e s) in
     λ i. record { rows = rows i; requests = st .requests; processes = st .processes; next = st .next }
 
-module _ (b : ℕ → Bool) (p : ℕ) (st : State) (t : List ℕ) (back : List Bool) (rep : Represents t st) (m : back ≡ slotMarks b (st .rows)) where
+module _ (b : ℕ → Bool) (p : ℕ) (st : State) (t : List ℕ) (back : List Bool) (rep : Represents t st) (m : SlotsMarked back b st) where
   -- no item, or none that is a number
   unchanged : (is : List ℕ) → ((n : ℕ) → among is n ≡ false) → WentBack b p is st t back
   unchanged is h =
       record {
-        represents = subst (λ (s : State). Represents t s) (sym (back-none b p is st (λ r. and-none (not (b (r .number))) (among is (r .number)) (h (r .number))))) rep;
+        represents = subst (λ (s : State). Represents t s)
+            (sym (back-none b p is st (λ r. and-none (not (b (r .number))) (among is (r .number)) (h (r .number))))) rep;
         marks = m ∙ (λ i. slotMarks (λ n. sym (or-none (b n) (among is n) (h n)) i) (st .rows));
       }
 
@@ -120,8 +124,8 @@ module _ (b : ℕ → Bool) (p : ℕ) (st : State) (t : List ℕ) (back : List B
             pick false d = or-none (b n) false refl
 
 -- it goes back
-pub back-now : (b : ℕ → Bool) (p : ℕ) (st : State) (t t′ : List ℕ) (back : List Bool) → Represents t st → back ≡ slotMarks b (st .rows) → (e : ℕ) → some e ≡ true → b e ≡ false
-    → (i : ℕ) → rowSlot (st .rows) e ≡ suc i → Represents t′ (changeRow e (withPlace (inClist p)) st) → WentBack b p (e ∷ []) st t′ (set back i true)
+pub back-now : (b : ℕ → Bool) (p : ℕ) (st : State) (t t′ : List ℕ) (back : List Bool) → Represents t st → SlotsMarked back b st
+    → (e : ℕ) → some e ≡ true → b e ≡ false → (i : ℕ) → rowSlot (st .rows) e ≡ suc i → Represents t′ (changeRow e (withPlace (inClist p)) st) → WentBack b p (e ∷ []) st t′ (set back i true)
 back-now b p st t t′ back rep m e h q i s rep′ =
     record {
       represents = subst (λ (x : State). Represents t′ x) same rep′;
@@ -178,7 +182,8 @@ module _ (b : ℕ → Bool) (p : ℕ) (xs ys : List ℕ) where
       let rows = map-map (backRow (λ n. b n || among xs n) p ys) (backRow b p xs) (st .rows) ∙ (λ i. map (λ r. row-step r i) (st .rows)) in
       λ i. record { rows = rows i; requests = st .requests; processes = st .processes; next = st .next }
 
-  marks-step : (st : State) → slotMarks (λ n. (b n || among xs n) || among ys n) (itemsBack b p xs st .rows) ≡ slotMarks (λ n. b n || among (xs ++ ys) n) (st .rows)
+  marks-step : (st : State)
+      → slotMarks (λ n. (b n || among xs n) || among ys n) (itemsBack b p xs st .rows) ≡ slotMarks (λ n. b n || among (xs ++ ys) n) (st .rows)
   unfolding itemsBack
   marks-step st =
       marks-map (λ n. (b n || among xs n) || among ys n) (backRow b p xs) (back-number b p xs) (st .rows)
@@ -188,25 +193,33 @@ module _ (b : ℕ → Bool) (p : ℕ) (xs ys : List ℕ) where
       or-assoc true c d = refl
       or-assoc false c d = refl
 
-  pub back-step : (st : State) (t : List ℕ) (back : List Bool) → WentBack (λ n. b n || among xs n) p ys (itemsBack b p xs st) t back → WentBack b p (xs ++ ys) st t back
-  back-step st t back w = record { represents = subst (λ (s : State). Represents t s) (state-step st) (w .represents); marks = w .marks ∙ marks-step st }
+  pub back-step : (st : State) (t : List ℕ) (back : List Bool)
+      → WentBack (λ n. b n || among xs n) p ys (itemsBack b p xs st) t back → WentBack b p (xs ++ ys) st t back
+  back-step st t back w =
+      record {
+        represents = subst (λ (s : State). Represents t s) (state-step st) (w .represents);
+        marks = w .marks ∙ marks-step st;
+      }
 
 -- ---- the loop over the items
 module _ (b : ℕ → Bool) (p : ℕ) (st : State) where
   -- the changed state has as many rows, and the same marks
-  pub back-count : (xs : List ℕ) (n : ℕ) → n ≡ length (st .rows) → n ≡ length (itemsBack b p xs st .rows)
+  pub back-count : (xs : List ℕ) (n : ℕ) → RowCount n st → RowCount n (itemsBack b p xs st)
   unfolding itemsBack
   back-count xs n e = e ∙ sym (length-map (st .rows) (backRow b p xs))
 
-  pub back-marks : (xs : List ℕ) (t : List ℕ) (back : List Bool) → WentBack b p xs st t back → back ≡ slotMarks (λ n. b n || among xs n) (itemsBack b p xs st .rows)
+  pub back-marks : (xs : List ℕ) (t : List ℕ) (back : List Bool) → WentBack b p xs st t back
+      → SlotsMarked back (λ n. b n || among xs n) (itemsBack b p xs st)
   unfolding itemsBack
   back-marks xs t back w = w .marks ∙ sym (marks-map (λ n. b n || among xs n) (backRow b p xs) (back-number b p xs) (st .rows))
 
   pub back-turn : (items : List ℕ) (k : ℕ) → k < length items → (t : List ℕ) (back : List Bool)
-      → WentBack (λ n. b n || among (take k items) n) p (getD items k 0 ∷ []) (itemsBack b p (take k items) st) t back → WentBack b p (take (k + 1) items) st t back
+      → WentBack (λ n. b n || among (take k items) n) p (getD items k 0 ∷ []) (itemsBack b p (take k items) st) t back
+      → WentBack b p (take (k + 1) items) st t back
   back-turn items k h t back w =
       subst (λ (l : List ℕ). WentBack b p l st t back) (sym (ap (λ (j : ℕ). take j items) (add-one k) ∙ take-suc items k 0 h))
       (back-step b p (take k items) (getD items k 0 ∷ []) st t back w)
 
-  pub back-end : (items : List ℕ) (k : ℕ) → length items ≤ k → (t : List ℕ) (back : List Bool) → WentBack b p (take k items) st t back → WentBack b p items st t back
+  pub back-end : (items : List ℕ) (k : ℕ) → length items ≤ k → (t : List ℕ) (back : List Bool)
+      → WentBack b p (take k items) st t back → WentBack b p items st t back
   back-end items k h t back w = subst (λ (l : List ℕ). WentBack b p l st t back) (take-all k items h) w

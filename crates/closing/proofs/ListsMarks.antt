@@ -51,7 +51,8 @@ pub tested-at : {A : Type 0} (p : A → Bool) (new : List A) (x : A) (old : List
 unfolding tested
 tested-at p [] x old = getD-at (tested p old) (p x) [] false (length old) (length-tested p old)
 tested-at p (y ∷ new) x old =
-    List·getD-append (tested p (new ++ (x ∷ old))) (p y ∷ []) false (length old) (omega (arith, length-tested p (new ++ (x ∷ old)), length-append new (x ∷ old)))
+    List·getD-append (tested p (new ++ (x ∷ old))) (p y ∷ []) false (length old)
+    (omega (arith, length-tested p (new ++ (x ∷ old)), length-append new (x ∷ old)))
     ∙ tested-at p new x old
 
 module _ {A : Type 0} (key : A → ℕ) (b : ℕ → Bool) (n : ℕ) where
@@ -66,7 +67,8 @@ module _ {A : Type 0} (key : A → ℕ) (b : ℕ → Bool) (n : ℕ) where
   mark-at [] i e = absurd (omega arith)
   mark-at (x ∷ xs) i e = pick (mark-at xs i) (eqb (key x) n) refl e
     where
-      pick : (slotWith key xs n ≡ suc i → getD (tested in-it xs) i false ≡ b n) → (c : Bool) → eqb (key x) n ≡ c → cond c (suc (length xs)) (slotWith key xs n) ≡ suc i
+      pick : (slotWith key xs n ≡ suc i → getD (tested in-it xs) i false ≡ b n)
+          → (c : Bool) → eqb (key x) n ≡ c → cond c (suc (length xs)) (slotWith key xs n) ≡ suc i
           → getD (tested in-it xs ++ (b (key x) ∷ [])) i false ≡ b n
       pick ih true q e = getD-at (tested in-it xs) (b (key x)) [] false i (omega (arith, length-tested in-it xs)) ∙ ap b (eqb-true (key x) n q)
       pick ih false q e = List·getD-append (tested in-it xs) (b (key x) ∷ []) false i (omega (arith, length-tested in-it xs, slot-le key xs n)) ∙ ih e
@@ -93,7 +95,8 @@ module _ {A : Type 0} (key : A → ℕ) (b : ℕ → Bool) (n : ℕ) where
   mark-set [] up i e = absurd (omega arith)
   mark-set (x ∷ xs) up i e = pick (mark-set xs (rises-rest key x xs up) i) (eqb (key x) n) refl e
     where
-      pick : (slotWith key xs n ≡ suc i → set (tested in-it xs) i true ≡ tested in-more xs) → (c : Bool) → eqb (key x) n ≡ c → cond c (suc (length xs)) (slotWith key xs n) ≡ suc i
+      pick : (slotWith key xs n ≡ suc i → set (tested in-it xs) i true ≡ tested in-more xs)
+          → (c : Bool) → eqb (key x) n ≡ c → cond c (suc (length xs)) (slotWith key xs n) ≡ suc i
           → set (tested in-it xs ++ (b (key x) ∷ [])) i true ≡ tested in-more xs ++ ((b (key x) || eqb (key x) n) ∷ [])
       pick ih true q e =
           let fresh : member n (map key xs) ≡ false = ap (λ (m : ℕ). member m (map key xs)) (sym (eqb-true (key x) n q)) ∙ rises-fresh key x xs up in
@@ -137,7 +140,8 @@ module _ (b : ℕ → Bool) where
     unfolding slotMarks rowSlot
     mark-put up few i s =
         ap (λ (l : List Bool). set l i true) m
-        ∙ set-pad false ROWS (tested (λ r. b (r .number)) rows) i true (omega (arith, length-tested (λ r. b (r .number)) rows, slot-le (λ r. r .number) rows e))
+        ∙ set-pad false ROWS (tested (λ r. b (r .number)) rows) i true
+        (omega (arith, length-tested (λ r. b (r .number)) rows, slot-le (λ r. r .number) rows e))
         ∙ ap (pad false ROWS) (mark-set (λ r. r .number) b e rows up i s ∙ tested-eq _ _ one-more rows)
 
     -- no row has the number
@@ -146,6 +150,7 @@ module _ (b : ℕ → Bool) where
     mark-absent s = m ∙ ap (pad false ROWS) (mark-none (λ r. r .number) b e rows (slot-none (λ r. r .number) rows e s) ∙ tested-eq _ _ one-more rows)
 
 -- what two marks say at a slot
-pub marks-read : (g b : ℕ → Bool) (rows : List Row) (n i : ℕ) → rowSlot rows n ≡ suc i → (removed back : List Bool) → removed ≡ slotMarks g rows → back ≡ slotMarks b rows
+pub marks-read : (g b : ℕ → Bool) (rows : List Row) (n i : ℕ) → rowSlot rows n ≡ suc i
+    → (removed back : List Bool) → removed ≡ slotMarks g rows → back ≡ slotMarks b rows
     → getD removed i false || getD back i false ≡ g n || b n
 marks-read g b rows n i e removed back p q = λ j. mark-read g rows n i e removed p j || mark-read b rows n i e back q j

@@ -89,7 +89,8 @@ pub returned-number : (f : Request → Bool) (vs : List Request) (r : Row) → r
 returned-number = returned-keeps (λ r. r .number) (λ p r. unfold withPlace in refl)
 
 -- an oldest one is there if one is
-oldest-some : (f : Request → Bool) (n : ℕ) (vs : List Request) → rises (λ v. v .number) vs ≡ true → some (oldestListing f n vs .number) ≡ listedIn f vs n
+oldest-some : (f : Request → Bool) (n : ℕ) (vs : List Request) → rises (λ v. v .number) vs ≡ true
+    → some (oldestListing f n vs .number) ≡ listedIn f vs n
 unfolding oldestListing listedIn any
 oldest-some f n [] up = unfold noRequest some in refl
 oldest-some f n (v ∷ vs) up = pick (oldest-some f n vs (rises-rest (λ v. v .number) v vs up)) (some (w .number)) refl (f v && lists n v)
@@ -244,7 +245,8 @@ module _ (g : List ℕ) (f : Request → Bool) (new : List Request) (v : Request
 
 -- ---- one request done, by what the two functions over its items ensure
 module _ (st : State) (sd : sound st ≡ true) (g : List ℕ) (f : Request → Bool) (new : List Request) (v : Request) (old : List Request)
-    (n j : ℕ) (count : RowCount n st) (here : InSlot j new v old st) (t : List ℕ) (back : List Bool) (done : SettledTo g f (new ++ (v ∷ [])) old st t back)
+    (n j : ℕ) (count : RowCount n st) (here : InSlot j new v old st)
+    (t : List ℕ) (back : List Bool) (done : SettledTo g f (new ++ (v ∷ [])) old st t back)
     (x : Request) (is : x ≡ requestAt t j) where
   was : State
   was = partlySettled g f (new ++ (v ∷ [])) old st
@@ -261,7 +263,8 @@ module _ (st : State) (sd : sound st ≡ true) (g : List ℕ) (f : Request → B
       → SendsBack n (x .asker) (x .items) t back t′ back′ → SettledTo g f new (v ∷ old) st t′ back′
   unfolding was
   closed-done h t′ back′ called =
-      let low : x .asker ≤ PROCESSES = subst (λ (y : Request). y .asker ≤ PROCESSES) (sym read) (asker-low st (sound-open st sd) new v old (here .0)) in
+      let low : x .asker ≤ PROCESSES
+      = subst (λ (y : Request). y .asker ≤ PROCESSES) (sym read) (asker-low st (sound-open st sd) new v old (here .0)) in
       let went : WentBack (listedIn f old) (x .asker) (x .items) was t′ back′
       = called was (listedIn f old) (done .represents) (before-count g f new v old st n count) low marked-back in
       closed-settled g f new v old st h (requests-rise st (sound-open st sd) new v old (here .0)) t′ back′
@@ -272,7 +275,8 @@ module _ (st : State) (sd : sound st ≡ true) (g : List ℕ) (f : Request → B
   unfolding was
   open-done h removed gone t′ called =
       let stand : ItemsStand was (x .items)
-      = subst (λ (y : Request). ItemsStand was (y .items)) (sym read) (before-stand g f new v old st (items-stand st (sound-open st sd) new v old (here .0))) in
+      = subst (λ (y : Request). ItemsStand was (y .items)) (sym read)
+      (before-stand g f new v old st (items-stand st (sound-open st sd) new v old (here .0))) in
       let cut : was .requests ≡ new ++ (x ∷ trimmedAll f g old)
       = before-cut g f new v old st ∙ ap (λ (y : Request). new ++ (y ∷ trimmedAll f g old)) (sym read) in
       let represents : Represents t′ (outHere x)
@@ -340,8 +344,8 @@ module _ (g : List ℕ) (f : Request → Bool) (st : State) where
   done-end j t back e d = d [] (st .requests) refl e .represents
 
   -- the mark of the request in a slot
-  pub closes-at : (closed : List Bool) → RequestsMarked closed f st → (new : List Request) (v : Request) (old : List Request) (j : ℕ) → InSlot j new v old st
-      → getD closed j false ≡ f v
+  pub closes-at : (closed : List Bool) → RequestsMarked closed f st
+      → (new : List Request) (v : Request) (old : List Request) (j : ℕ) → InSlot j new v old st → getD closed j false ≡ f v
   closes-at closed e new v old j here =
       ap (λ (l : List Bool). getD l j false) e
       ∙ getD-pad false REQUESTS (tested f (st .requests)) j

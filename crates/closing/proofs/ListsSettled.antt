@@ -12,7 +12,7 @@ use Rattle.rows.specs.Tables.{State, sources}
 use Rattle.rows.specs.Sound.{rowsRise, requestsRise, rowsFit, requestsFit, itemsFew}
 use Rattle.rows.specs.Layout.{wordsOf}
 use Rattle.rows.specs.contracts.Represents.{laidWell, Represents}
-use Rattle.rows.specs.Setters.{withRows, withRequests, withPlace, withItems}
+use Rattle.rows.specs.Setters.{withRows, withRequests, withProcesses, withPlace, withItems}
 use Rattle.changes.specs.contracts.Marks.{tested, marksOf, closedUnder}
 use Rattle.closing.specs.Closing.{closes, returned, trimmed, remaining, settled}
 use Rattle.closing.specs.contracts.Lists.{trimmedAll, partlySettled, listsSettled}
@@ -66,7 +66,8 @@ module _ (g : List ℕ) (f : Request → Bool) (st : State) where
   pub lists-rows-left : filter (λ r. not (member (r .number) g)) (listsSettled g f st .rows) ≡ settled g f st .rows
   unfolding listsSettled partlySettled settled
   lists-rows-left =
-      filter-map (λ r. not (member (r .number) g)) (returned f (st .requests)) (λ r. ap (λ (n : ℕ). not (member n g)) (returned-number f (st .requests) r)) (st .rows)
+      filter-map (λ r. not (member (r .number) g)) (returned f (st .requests))
+      (λ r. ap (λ (n : ℕ). not (member n g)) (returned-number f (st .requests) r)) (st .rows)
 
 -- ---- requests
 module _ (f : Request → Bool) (blind : Blind f) (g : List ℕ) where
@@ -85,12 +86,14 @@ module _ (f : Request → Bool) (blind : Blind f) (g : List ℕ) where
   trimmed-left [] = refl
   trimmed-left (v ∷ vs) = rw (same-test v vs (f v), trimmed-left vs) (pick (f v))
     where
-      pick : (b : Bool) → cond (not b) (cond b v (trimmed f g vs v) ∷ remaining f g vs) (remaining f g vs) ≡ cond b (remaining f g vs) (trimmed f g vs v ∷ remaining f g vs)
+      pick : (b : Bool)
+          → cond (not b) (cond b v (trimmed f g vs v) ∷ remaining f g vs) (remaining f g vs)
+          ≡ cond b (remaining f g vs) (trimmed f g vs v ∷ remaining f g vs)
       pick true = refl
       pick false = refl
 
 -- the words do not hold the process records
-represented-processes : (st : State) (ps : List Process) (t : List ℕ) → Represents t st → Represents t (record { rows = st .rows; requests = st .requests; processes = ps; next = st .next })
+represented-processes : (st : State) (ps : List Process) (t : List ℕ) → Represents t st → Represents t (withProcesses ps st)
 unfolding laidWell rowsRise requestsRise rowsFit requestsFit itemsFew wordsOf
 represented-processes st ps t rep = record { well = rep .well; words = rep .words }
 
@@ -104,16 +107,20 @@ module _ (g : List ℕ) (f : Request → Bool) (blind : Blind f) (st : State) wh
   lists-requests-left = trimmed-left f blind g (st .requests)
 
   -- ---- both
-  pub lists-settled : (t : List ℕ)
-      → Represents t (withRequests (filter (λ v. not (f v)) (listsSettled g f st .requests)) (withRows (filter (λ r. not (member (r .number) g)) (listsSettled g f st .rows)) (listsSettled g f st)))
-      → Represents t (settled g f st)
+  -- the state with its lists settled, and then without the rows g and the requests that pass the test
+  abbrev takenOut : State
+  takenOut =
+      let now = listsSettled g f st in
+      withRequests (filter (λ v. not (f v)) (now .requests)) (withRows (filter (λ r. not (member (r .number) g)) (now .rows)) now)
+
+  pub lists-settled : (t : List ℕ) → Represents t takenOut → Represents t (settled g f st)
   unfolding settled
   lists-settled t rep = represented-processes left (settled g f st .processes) t (subst (λ (s : State). Represents t s) same rep)
     where
       left : State
       left = record { rows = settled g f st .rows; requests = settled g f st .requests; processes = st .processes; next = st .next }
 
-      same : withRequests (filter (λ v. not (f v)) (listsSettled g f st .requests)) (withRows (filter (λ r. not (member (r .number) g)) (listsSettled g f st .rows)) (listsSettled g f st)) ≡ left
+      same : takenOut ≡ left
       same =
           unfold listsSettled partlySettled in
           λ i. record { rows = lists-rows-left g f st i; requests = lists-requests-left i; processes = st .processes; next = st .next }

@@ -22,7 +22,8 @@ use Rattle.closing.specs.contracts.Marks.{Stands}
 use Rattle.closing.proofs.TrimmedLists.{each-of-first, rises-filter, rises-keys, trim, member-trim}
 
 -- ---- an item of a trimmed list
-pub trimmed-lists : (f : Request → Bool) (g : List ℕ) (vs : List Request) (v : Request) (e : ℕ) → lists e (trimmed f g vs v) ≡ lists e v && not (leaves f g vs e)
+pub trimmed-lists : (f : Request → Bool) (g : List ℕ) (vs : List Request) (v : Request) (e : ℕ)
+    → lists e (trimmed f g vs v) ≡ lists e v && not (leaves f g vs e)
 unfolding lists trimmed trim
 trimmed-lists f g vs v e = pick (some e) refl
   where
@@ -43,7 +44,8 @@ module _ (f : Request → Bool) (g : List ℕ) where
   remaining-keys key k (v ∷ vs) = pick (remaining-keys key k vs) (f v)
     where
       pick : map key (remaining f g vs) ≡ map key (filter (λ v. not (f v)) vs) → (b : Bool)
-          → map key (cond b (remaining f g vs) (trimmed f g vs v ∷ remaining f g vs)) ≡ map key (cond (not b) (v ∷ filter (λ v. not (f v)) vs) (filter (λ v. not (f v)) vs))
+          → map key (cond b (remaining f g vs) (trimmed f g vs v ∷ remaining f g vs))
+          ≡ map key (cond (not b) (v ∷ filter (λ v. not (f v)) vs) (filter (λ v. not (f v)) vs))
       pick ih true = ih
       pick ih false = rw (k _ v, ih) refl
 
@@ -63,12 +65,14 @@ module _ (f : Request → Bool) (g : List ℕ) where
       rises-keys (λ v. v .number) (remaining f g vs) (filter (λ v. not (f v)) vs) (remaining-keys (λ v. v .number) (λ is v. refl) vs)
       ∙ rises-filter (λ v. v .number) (λ v. not (f v)) vs e .0
 
-  pub remaining-known : (vs : List Request) (q : ℕ) → member q (map (λ v. v .number) (remaining f g vs)) ≡ true → member q (map (λ v. v .number) vs) ≡ true
+  pub remaining-known : (vs : List Request) (q : ℕ)
+      → member q (map (λ v. v .number) (remaining f g vs)) ≡ true → member q (map (λ v. v .number) vs) ≡ true
   remaining-known vs q t =
       picked-sub (λ v. v .number) (λ v. not (f v)) vs q (ap (member q) (sym (remaining-keys (λ v. v .number) (λ is v. refl) vs)) ∙ t)
 
   -- a request that does not close is found trimmed
-  pub request-after : (vs : List Request) → rises (λ v. v .number) vs ≡ true → (q : ℕ) → member q (map (λ v. v .number) vs) ≡ true → f (requestOf vs q) ≡ false
+  pub request-after : (vs : List Request) → rises (λ v. v .number) vs ≡ true
+      → (q : ℕ) → member q (map (λ v. v .number) vs) ≡ true → f (requestOf vs q) ≡ false
       → requestOf (remaining f g vs) q ≡ trimmed f g (olderOf (λ v. v .number) vs q) (requestOf vs q)
   unfolding requestOf remaining olderOf trimmed Rattle.rows.specs.Lists.firstWith
   request-after [] e q t h = clash t (unfold member in refl)

@@ -19,7 +19,8 @@ module _ {A : Type 0} (key : A → ℕ) where
   pub member-cut : (new : List A) (x : A) (old : List A) → rises key (new ++ (x ∷ old)) ≡ true → member (key x) (map key (new ++ (x ∷ old))) ≡ true
   member-cut new x old up = slot-member key (new ++ (x ∷ old)) (key x) (length old) (slot-number key new x old up)
 
-  pub first-cut : (none : A) (new : List A) (x : A) (old : List A) → rises key (new ++ (x ∷ old)) ≡ true → firstWith key none (new ++ (x ∷ old)) (key x) ≡ x
+  pub first-cut : (none : A) (new : List A) (x : A) (old : List A) → rises key (new ++ (x ∷ old)) ≡ true
+      → firstWith key none (new ++ (x ∷ old)) (key x) ≡ x
   first-cut none [] x old up = first-here key none x old
   first-cut none (y ∷ new) x old up =
       let up′ : rises key (new ++ (x ∷ old)) ≡ true = rises-rest key y (new ++ (x ∷ old)) up in

@@ -276,7 +276,8 @@ module _ (t : List ℕ) (i q d : ℕ) where
         (or-r (reaches (touches st q) (st .rows) (rowOf (st .rows) n .source)) true refl))
 
     -- the first source decides
-    pub question-source : Touched t i q false → ViaReaches t i q d false → (r : Bool) → Reaches t (getD t (SOURCE + i) 0) q (d - 1) r → Reaches t s q d r
+    pub question-source : Touched t i q false → ViaReaches t i q d false
+        → (r : Bool) → Reaches t (getD t (SOURCE + i) 0) q (d - 1) r → Reaches t s q d r
     unfolding Reaches
     question-source h g r k st n so rep e deep =
         sym

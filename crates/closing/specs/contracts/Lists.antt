@@ -1,4 +1,5 @@
--- Lists and places as the pass over the requests, from the oldest on, leaves them, before what is marked is removed; and what the functions of the pass say.
+-- Lists and places as the pass over the requests, from the oldest on, leaves them, before what is marked is removed;
+-- and what the functions of the pass say.
 use Prim.Native.Nat.{ℕ, _≤_}
 use mathlib.Core.Bool.{Bool, true, false, not, _&&_, _||_}
 use mathlib.Core.List.{List, [], _∷_, _++_, map}
@@ -22,6 +23,10 @@ use Rattle.closing.specs.contracts.Marks.{RowCount, RequestCount, Stands
 unfoldable pub slotMarks : (ℕ → Bool) → List Row → List Bool
 slotMarks b rows = pad false ROWS (tested (λ r. b (r .number)) rows)
 
+-- the marks are at the slots of the rows whose numbers pass the test, and at no other slot
+abbrev pub SlotsMarked : List Bool → (ℕ → Bool) → State → Type 0
+SlotsMarked marks b st = marks ≡ slotMarks b (st .rows)
+
 -- ---- the whole pass
 -- each request that stays open is trimmed, one that closes is as it was
 unfoldable pub trimmedAll : (Request → Bool) → List ℕ → List Request → List Request
@@ -36,7 +41,7 @@ partlySettled g f new old st =
 -- the words represent it, and the rows that went back are marked
 pub record SettledTo (g : List ℕ) (f : Request → Bool) (new old : List Request) (st : State) (t : List ℕ) (back : List Bool) : Type 0 where
   pub represents : Represents t (partlySettled g f new old st)
-  pub marks : back ≡ slotMarks (listedIn f old) (st .rows)
+  pub marks : SlotsMarked back (listedIn f old) st
 
 -- rows of g may go back too: they are removed next, as are the requests that close
 unfoldable pub listsSettled : List ℕ → (Request → Bool) → State → State
@@ -57,7 +62,7 @@ itemsBack b p is st = withRows (map (backRow b p is) (st .rows)) st
 -- the state with the items' rows gone back, in words, and the marks of all that went back
 pub record WentBack (b : ℕ → Bool) (p : ℕ) (is : List ℕ) (st : State) (t : List ℕ) (back : List Bool) : Type 0 where
   pub represents : Represents t (itemsBack b p is st)
-  pub marks : back ≡ slotMarks (λ n. b n || among is n) (st .rows)
+  pub marks : SlotsMarked back (λ n. b n || among is n) st
 
 -- the item e, at position k, leaves the list if it passes the test
 unfoldable pub itemOut : (ℕ → Bool) → ℕ → ℕ → Request → Request
@@ -67,19 +72,16 @@ itemOut c k e v = if some e && c e then itemCleared k v else v
 unfoldable pub itemsOut : (ℕ → Bool) → Request → Request
 itemsOut c v = withItems (map (λ e. if c e then 0 else e) (v .items)) v
 
--- ---- what the functions say
--- the marks are at the slots of the rows whose numbers pass the test
-abbrev pub SlotsMarked : List Bool → (ℕ → Bool) → State → Type 0
-SlotsMarked marks b st = marks ≡ slotMarks b (st .rows)
-
--- the request v is in slot j: the requests new are newer, and old, j of them, are older
+-- ---- what is said of a request first
+-- v is in slot j: the requests new are newer, and old, j of them, are older
 abbrev pub InSlot : ℕ → List Request → Request → List Request → State → Type 0
 InSlot j new v old st = (st .requests ≡ new ++ (v ∷ old)) × (length old ≡ j)
 
--- every item of the request is the number of a row
+-- every item that is not 0 is the number of a row
 abbrev pub ItemsStand : State → List ℕ → Type 0
 ItemsStand st is = all (λ e. member e (numbers (st .rows))) (nonzero is) ≡ true
 
+-- ---- what the functions say, of every state that the words t represent and that has n rows; u are the words after it
 -- the rows of the items go to the c-list of p, in words and marks, except those marked, which went back before
 abbrev pub SendsBack : ℕ → ℕ → List ℕ → List ℕ → List Bool → List ℕ → List Bool → Type 0
 SendsBack n p is t back u back′ =

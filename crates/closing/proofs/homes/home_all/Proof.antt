@@ -18,7 +18,8 @@ use Rattle.closing.proofs.homes.home_all.Tie as tie
 abbrev Inv-loop : tie.InvT-loop
 Inv-loop t n removed to₀ i₀ to i =
     (i ≤ PROCESSES) × (length to ≡ PROCESSES)
-    × ((st : State) (g : List ℕ) → sound st ≡ true → Represents t st → RowCount n st → RowsMarked removed g st → st .processes ≡ to₀ → HomedTo g to₀ to i)
+    × ((st : State) (g : List ℕ) → sound st ≡ true → Represents t st → RowCount n st → RowsMarked removed g st → st .processes ≡ to₀
+    → HomedTo g to₀ to i)
 
 abbrev μ-loop : tie.MeasureT-loop
 μ-loop t n removed to₀ i₀ to i = PROCESSES - i

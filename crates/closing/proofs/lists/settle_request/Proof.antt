@@ -26,8 +26,8 @@ returns c =
     let read = closing .before .request-at in
     let a = closing .before .before .before .before .args in (
       (λ st g f new v old sd count here closes gone done.
-          closed-done st sd g f new v old (a .n) (a .j) count here (now (a .t)) (now (a .back)) done (read .result) (read .ensures) (sym closes ∙ closing .if1 .taken)
-          (called .last .0) (called .last .1 .1 .1 .0) (called .ensures .0)),
+          closed-done st sd g f new v old (a .n) (a .j) count here (now (a .t)) (now (a .back)) done (read .result) (read .ensures)
+          (sym closes ∙ closing .if1 .taken) (called .last .0) (called .last .1 .1 .1 .0) (called .ensures .0)),
       called .ensures .1,
     )
 
@@ -42,8 +42,8 @@ returns-2 c =
     let read = stays .before .request-at in
     let a = stays .before .before .before .before .args in (
       (λ st g f new v old sd count here closes gone done.
-          open-done st sd g f new v old (a .n) (a .j) count here (now (a .t)) (now (a .back)) done (read .result) (read .ensures) (sym closes ∙ stays .if1 .left)
-          (now (a .removed)) gone (called .last .0) (called .ensures .0)),
+          open-done st sd g f new v old (a .n) (a .j) count here (now (a .t)) (now (a .back)) done (read .result) (read .ensures)
+          (sym closes ∙ stays .if1 .left) (now (a .removed)) gone (called .last .0) (called .ensures .0)),
       called .ensures .1,
     )
 

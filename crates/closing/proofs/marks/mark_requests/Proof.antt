@@ -74,8 +74,8 @@ loop-again c =
     let port = c .is-marked in (
       search needs,
       (λ st g sd rep count long gone.
-          marked-turn (closes qs g) REQUESTS (st .requests) (l .j) (l .closed) (first .result || port .result) (omega (arith, turn .loop-test .taken, start .pre .2))
-          (l .inv .1 st g sd rep count long gone)
+          marked-turn (closes qs g) REQUESTS (st .requests) (l .j) (l .closed) (first .result || port .result)
+          (omega (arith, turn .loop-test .taken, start .pre .2)) (l .inv .1 st g sd rep count long gone)
           (λ new v old cut slot so-far.
           request-marked rep sd new v old (cut, slot) qs g (first .result) (port .result) (first .ensures) (port .ensures st g rep count gone))),
     )

@@ -79,8 +79,8 @@ loop-again c =
       search needs,
       search needs,
       (λ st rep count.
-          rows-turn rep (start .args .s) (l .i) (l .removed) (seed .result) (source .result) (via .result) (omega (arith, turn .loop-test .taken, start .pre .1))
-          (l .inv .2 st rep count) (seed .ensures) (source .ensures) (via .ensures)),
+          rows-turn rep (start .args .s) (l .i) (l .removed) (seed .result) (source .result) (via .result)
+          (omega (arith, turn .loop-test .taken, start .pre .1)) (l .inv .2 st rep count) (seed .ensures) (source .ensures) (via .ensures)),
     )
 
 returns : tie.Need-returns Inv-loop μ-loop

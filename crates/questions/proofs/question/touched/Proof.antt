@@ -55,7 +55,8 @@ returns-3 c =
     let unborne = asked .before .before in
     let of-lent = unborne .before in
     let a = of-lent .before .before .before .args in
-    touched-loan (now (a .t)) (a .i) (a .q) _ (of-lent .if1 .left) (unborne .if2 .left) (sym (asked .is-end .ensures) ∙ end .if3 .taken) (c .on-loan .ensures)
+    let is-end = sym (asked .is-end .ensures) ∙ end .if3 .taken in
+    touched-loan (now (a .t)) (a .i) (a .q) _ (of-lent .if1 .left) (unborne .if2 .left) is-end (c .on-loan .ensures)
 
 returns-4 : tie.Need-returns-4
 returns-4 c =
