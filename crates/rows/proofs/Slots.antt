@@ -23,10 +23,13 @@ use Rattle.rows.proofs.Keyed.{olderOf, first-none, rises-rest}
 use Rattle.rows.proofs.RowSources.{Among}
 use Rattle.rows.proofs.LayoutColumns.{laid-at}
 use Rattle.rows.proofs.Searches.{leading-le}
-pub use Rattle.rows.proofs.KeySlots.{found-at, found-nothing, at-below, slot-le, slot-there, none-slot, slot-none, slot-member, slot-older, slot-found, cut-first, rises-old, slot-kept, slot-number, older-slot, slot-zero, each-cut, Cut, cut-at}
+pub use Rattle.rows.proofs.KeySlots.{found-at, found-nothing, at-below, slot-le, slot-there, none-slot, slot-none, slot-member, slot-older, slot-found}
+pub use Rattle.rows.proofs.KeySlots.{cut-first, rises-old, slot-kept, slot-number, older-slot, slot-zero, each-cut, Cut, cut-at}
 unfoldable pub use Rattle.rows.proofs.KeySlots.{newerOf}
-pub use Rattle.rows.proofs.RepresentedWords.{Well, well-open, represented-well, represented-length, represented-rows, represented-requests, represented-next, represented-row, represented-request}
-pub use Rattle.rows.proofs.RequestSlots.{RequestWords, request-of-words, request-words-at, request-words, request-read, raw-request, open-words, raw-open, request-found, request-absent, open-found, open-absent}
+pub use Rattle.rows.proofs.RepresentedWords.{Well, well-open, represented-well, represented-length, represented-rows}
+pub use Rattle.rows.proofs.RepresentedWords.{represented-requests, represented-next, represented-row, represented-request}
+pub use Rattle.rows.proofs.RequestSlots.{RequestWords, request-of-words, request-words-at, request-words, request-read, raw-request}
+pub use Rattle.rows.proofs.RequestSlots.{open-words, raw-open, request-found, request-absent, open-found, open-absent}
 
 -- ---- slots in use, of any words
 pub rows-most : (t : List ℕ) → rowsIn t ≤ 1024
@@ -146,7 +149,8 @@ number-of-row rs n i e =
 -- the slots of its sources are those among all rows, and at most its own
 module _ (st : State) (w : Well st) (n i : ℕ) (e : rowSlot (st .rows) n ≡ suc i) where
   slots-kept : (f : Row → ℕ)
-      → ((new : List Row) (r : Row) (old : List Row) → rises (λ r. r .number) (new ++ (r ∷ old)) ≡ true → sourcesOlder (new ++ (r ∷ old)) ≡ true → (sourceSlot old (f r) ≡ rowSlot (new ++ (r ∷ old)) (f r)) × (sourceSlot old (f r) ≤ length old))
+      → ((new : List Row) (r : Row) (old : List Row) → rises (λ r. r .number) (new ++ (r ∷ old)) ≡ true → sourcesOlder (new ++ (r ∷ old)) ≡ true
+      → (sourceSlot old (f r) ≡ rowSlot (new ++ (r ∷ old)) (f r)) × (sourceSlot old (f r) ≤ length old))
       → (sourceSlot (olderOf (λ r. r .number) (st .rows) n) (f (rowOf (st .rows) n)) ≡ rowSlot (st .rows) (f (rowOf (st .rows) n)))
       × (sourceSlot (olderOf (λ r. r .number) (st .rows) n) (f (rowOf (st .rows) n)) ≤ i)
   slots-kept f law =
