@@ -1,12 +1,10 @@
 -- What the searches of the lent words find, where they represent a state: the slots of its rows and requests.
 use Prim.Native.Nat.{ℕ, _+_}
 use mathlib.Core.Bool.{true}
-use mathlib.Core.List.{List, _∷_, _++_}
+use mathlib.Core.List.{List}
 use mathlib.Core.Path.{_≡_, ap, sym, subst, _∙_}
 use native.Mathlib.Omega.{arith}
 use lib.ListN.{length, getD, take, drop}
-use Rattle.rows.specs.declared.Row.{Row}
-use Rattle.rows.specs.declared.Request.{Request}
 use Rattle.rows.specs.declared.Found.{Found}
 use Rattle.rows.specs.Lists.{rises, slotWith}
 use Rattle.rows.specs.Tables.{State}

@@ -16,7 +16,7 @@ use Rattle.rows.specs.declared.Found.{Found}
 use Rattle.rows.specs.declared.Found.the-variants.{At, Nothing}
 use Rattle.rows.specs.Lists.{rises, member, some, slotWith}
 use Rattle.rows.specs.Layout.{leading}
-use Rattle.rows.specs.contracts.Slots.{Within, foundSlot}
+use Rattle.rows.specs.contracts.Slots.{foundSlot}
 use Rattle.rows.specs.contracts.Searches.{Ascending, LastAt}
 use Rattle.rows.proofs.Bools.{pos-some, member-here, member-there}
 use Rattle.rows.proofs.Keyed.{rises-rest, rises-older}

@@ -1,18 +1,17 @@
 -- The slots of rows and requests: slots of sources, and what the words of a slot are. Passes on the laws over any key and those of the words.
 use Prim.Native.Nat.{ℕ, zero, suc, _+_, _*_, _<_, _≤_, zero-le, suc-le-suc}
-use mathlib.Core.Bool.{Bool, true, false, cond, _&&_}
+use mathlib.Core.Bool.{Bool, true, false, _&&_}
 use mathlib.Core.List.{List, [], _∷_, _++_, map}
 use mathlib.Core.Path.{_≡_, refl, ap, sym, subst, _∙_}
 use mathlib.Core.Logic.{_⊎_, inl, inr}
 use native.Mathlib.Omega.{arith}
 use borrow.Author.Tests.{ne-eqb}
-use lib.Dec.{eqb}
 use lib.ListN.{length, getD, take, drop, length-append, length-take}
 use Rattle.rows.specs.declared.Row.{Row}
-use Rattle.rows.specs.Lists.{filter, firstWith, rises, laid, member, all, some, nonzero, slotWith}
+use Rattle.rows.specs.Lists.{filter, rises, laid, member, all, some, nonzero}
 use Rattle.rows.specs.Tables.{State, noRow, rowOf, numbers, sources}
 use Rattle.rows.specs.declared.Found.{Found}
-use Rattle.rows.specs.declared.Found.the-variants.{At, Nothing}
+use Rattle.rows.specs.declared.Found.the-variants.{At}
 use Rattle.rows.specs.Limits.{rowSlots, requestSlots}
 use Rattle.rows.specs.Layout.{requestsAt, rowSlot, sourceSlot, rowWord, rowField, rowsIn, requestsIn, rawRow}
 use Rattle.rows.specs.contracts.Represents.{sourcesOlder, Represents}
