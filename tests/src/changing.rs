@@ -8,7 +8,7 @@ pub fn set_place(tables: &mut [u32], slot: usize, place: u32) {
     unsafe { raw::kernel_set_place(tables.as_mut_ptr(), tables.len(), slot, place) }
 }
 
-/// The item at a place of a request's list leaves it.
+/// The item at a position of a request's list leaves it.
 pub fn clear_item(tables: &mut [u32], slot: usize, item: usize) {
     unsafe { raw::kernel_clear_item(tables.as_mut_ptr(), tables.len(), slot, item) }
 }

@@ -11,13 +11,13 @@ pub mod reading;
 pub mod rights;
 
 /// A row as the words of its columns, in their order.
-pub type RowFields = [u32; 10];
+pub type RowFields = [u32; layout::ROW_COLUMNS];
 
 /// A request as the words of its columns, in their order.
-pub type RequestFields = [u32; 8];
+pub type RequestFields = [u32; layout::REQUEST_COLUMNS];
 
 /// Which slots of rows are marked.
-pub type RowMarks = [bool; 1024];
+pub type RowMarks = [bool; layout::ROWS];
 
 /// Which slots of requests are marked.
-pub type RequestMarks = [bool; 128];
+pub type RequestMarks = [bool; layout::REQUESTS];

@@ -12,7 +12,7 @@ use model::tables::{Kind, Place, Request, Row};
 use model::words::{place_word, request_words, row_words, TABLES_WORDS};
 use model::Tables;
 
-/// A change of tables, made by the model and by the library on its words;
+/// A change of tables, made by the model and by the proved function on its words;
 /// none if the tables have nothing to change in this way.
 type Change = fn(&mut Rng, &mut Tables, &mut [u32]) -> Option<()>;
 

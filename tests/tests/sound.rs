@@ -29,7 +29,7 @@ struct Counts {
 }
 
 impl Counts {
-    /// The library's answer is the model's; where it is not, the clauses that
+    /// The proved function's answer is the model's; where it is not, the clauses that
     /// the model finds broken are shown.
     fn compare(&mut self, lent: &Lent, about: &str) {
         let expected = expected(lent);
@@ -125,7 +125,7 @@ fn altered_tables() {
     assert!(counts.sound >= 1_000 && counts.not >= 3_000, "{counts:?}");
 }
 
-/// A place among the words in use, or any.
+/// A position among the words in use, or any.
 fn any_word(rng: &mut Rng, tables: &Tables) -> usize {
     match rng.below(4) {
         0 => rng.below(TABLES_WORDS),

@@ -183,8 +183,10 @@ compacted-is ms n j l₀ l l′ front rest e = e ∙ ap (λ (t : List ℕ). pad 
 pub length-compacted : (ms : List Bool) (n : ℕ) (l : List ℕ) → n ≤ length l → length (compacted ms n l) ≡ length l
 unfolding compacted
 length-compacted ms n l h =
+    let few : length (take n l) ≡ n = length-take-le n l h in
+    let front : length (pad 0 n (keep ms (take n l))) ≡ n = length-pad 0 n (keep ms (take n l)) (omega (arith, length-keep ms (take n l), few)) in
     length-append (pad 0 n (keep ms (take n l))) (drop n l)
-    ∙ omega (arith, length-pad 0 n (keep ms (take n l)) (omega (arith, length-keep ms (take n l), length-take-le n l h)), ap length (take-append-drop n l), length-append (take n l) (drop n l), length-take-le n l h)
+    ∙ omega (arith, front, ap length (take-append-drop n l), length-append (take n l) (drop n l), few)
 
 -- ---- a column of laid words
 -- a padded column, of which the first n words are looked at and hold all that is not padding

@@ -117,8 +117,10 @@ module _ (ms : List Bool) (n k : ℕ) (l₀ : List ℕ) (few : n ≤ k) where
   unfolding compactedParts
   length-parts zero h = omega arith
   length-parts (suc c) h =
-      length-append (compactedParts ms n k c l₀) (compacted ms n (take k (drop (c * k) l₀)))
-      ∙ omega (arith, length-parts c (omega (arith, suc-mul c k)), length-compacted ms n (take k (drop (c * k) l₀)) (omega (arith, part-long (c * k) k l₀ (omega (arith, suc-mul c k)))), part-long (c * k) k l₀ (omega (arith, suc-mul c k)), suc-mul c k)
+      let part : List ℕ = take k (drop (c * k) l₀) in
+      let long : length part ≡ k = part-long (c * k) k l₀ (omega (arith, suc-mul c k)) in
+      length-append (compactedParts ms n k c l₀) (compacted ms n part)
+      ∙ omega (arith, length-parts c (omega (arith, suc-mul c k)), length-compacted ms n part (omega (arith, long)), long, suc-mul c k)
 
   -- the column c is lent, and comes back compacted
   module _ (l : List ℕ) (c : ℕ) (h : c * k + k ≤ length l₀) (e : Done ms n k l₀ l c) where

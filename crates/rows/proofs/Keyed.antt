@@ -157,7 +157,8 @@ module _ {A : Type 0} (key : A → ℕ) where
   older-first none [] e n t m h = refl
   older-first none (x ∷ xs) e n t m h = pick (older-first none xs (rises-rest x xs e) n) (eqb (key x) n) refl t
     where
-      pick : (member n (map key xs) ≡ true → (m : ℕ) → m < n → firstWith key none (olderOf xs n) m ≡ firstWith key none xs m) → (b : Bool) → eqb (key x) n ≡ b → eqb n (key x) || member n (map key xs) ≡ true
+      pick : (member n (map key xs) ≡ true → (m : ℕ) → m < n → firstWith key none (olderOf xs n) m ≡ firstWith key none xs m)
+          → (b : Bool) → eqb (key x) n ≡ b → eqb n (key x) || member n (map key xs) ≡ true
           → firstWith key none (cond b xs (olderOf xs n)) m ≡ cond (eqb (key x) m) x (firstWith key none xs m)
       pick ih true q t = let z : key x ≡ n = eqb-true (key x) n q in rw (ne-eqb (key x) m (λ p. omega arith)) refl
       pick ih false q t =
@@ -170,7 +171,8 @@ module _ {A : Type 0} (key : A → ℕ) where
   older-key [] e n m t u = clash t refl
   older-key (x ∷ xs) e n m t u = pick (older-key xs (rises-rest x xs e) n m) (eqb (key x) n) refl t u
     where
-      pick : (member n (map key xs) ≡ true → member m (map key (olderOf xs n)) ≡ true → (m < n) × (member m (map key xs) ≡ true)) → (b : Bool) → eqb (key x) n ≡ b → eqb n (key x) || member n (map key xs) ≡ true
+      pick : (member n (map key xs) ≡ true → member m (map key (olderOf xs n)) ≡ true → (m < n) × (member m (map key xs) ≡ true))
+          → (b : Bool) → eqb (key x) n ≡ b → eqb n (key x) || member n (map key xs) ≡ true
           → member m (map key (cond b xs (olderOf xs n))) ≡ true → (m < n) × (eqb m (key x) || member m (map key xs) ≡ true)
       pick ih true q t u =
           let z : key x ≡ n = eqb-true (key x) n q in

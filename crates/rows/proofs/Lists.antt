@@ -84,7 +84,9 @@ module _ {A : Type 0} where
     pub distinct-filter : (p : A → Bool) (xs : List A) → distinct (map key xs) ≡ true → distinct (map key (filter p xs)) ≡ true
     unfolding distinct filter
     distinct-filter p [] e = e
-    distinct-filter p (x ∷ xs) e = pick (distinct-filter p xs (and-r (not (member (key x) (map key xs))) (distinct (map key xs)) e)) (not-t _ (and-l (not (member (key x) (map key xs))) (distinct (map key xs)) e)) (p x)
+    distinct-filter p (x ∷ xs) e =
+        let new = and-l (not (member (key x) (map key xs))) (distinct (map key xs)) e in
+        pick (distinct-filter p xs (and-r (not (member (key x) (map key xs))) (distinct (map key xs)) e)) (not-t _ new) (p x)
       where
         pick : distinct (map key (filter p xs)) ≡ true → member (key x) (map key xs) ≡ false → (b : Bool) → distinct (map key (cond b (x ∷ filter p xs) (filter p xs))) ≡ true
         pick ih fr true = rw (ih, false-of (member (key x) (map key (filter p xs))) (λ t. clash (picked-sub p xs (key x) t) fr)) refl

@@ -1,19 +1,17 @@
 -- What the searches of the lent words find, where they represent a state: the slots of its rows and requests.
 use Prim.Native.Nat.{ℕ, _+_}
 use mathlib.Core.Bool.{true}
-use mathlib.Core.List.{List, _∷_, _++_}
+use mathlib.Core.List.{List}
 use mathlib.Core.Path.{_≡_, ap, sym, subst, _∙_}
 use native.Mathlib.Omega.{arith}
 use lib.ListN.{length, getD, take, drop}
-use Rattle.rows.specs.declared.Row.{Row}
-use Rattle.rows.specs.declared.Request.{Request}
 use Rattle.rows.specs.declared.Found.{Found}
 use Rattle.rows.specs.Lists.{rises, slotWith}
 use Rattle.rows.specs.Tables.{State}
 use Rattle.rows.specs.contracts.Represents.{Represents}
 use Rattle.rows.specs.contracts.Slots.{foundSlot, requestSlot, openSlot}
 use Rattle.rows.specs.Layout.{rowSlot}
-use Rattle.rows.specs.contracts.Searches.{Ascending, LastAt}
+use Rattle.rows.specs.contracts.Searches.{Ascending, LastAt, LastAtIfAscending}
 use Rattle.rows.proofs.Searches.{Keys, last-slot, keys-rise, keys-part}
 use Rattle.rows.proofs.Slots.{represented-well, row-words-at, request-words-at}
 
@@ -33,15 +31,17 @@ module _ {st : State} {t : List ℕ} (rep : Represents t st) where
   -- ---- what a search among so many of them finds
   -- by halves, over keys that rise
   halves : {A : Type 0} (key : A → ℕ) (l : List ℕ) (xs : List A) → Keys key l xs → rises key xs ≡ true → (k n : ℕ) (r : Found) → k ≡ length xs
-      → (Ascending k l → LastAt l k n r) → r ≡ foundSlot (slotWith key xs n)
+      → LastAtIfAscending l k n r → r ≡ foundSlot (slotWith key xs n)
   halves key l xs ks up k n r e p =
       last-slot key l n xs r ks (subst (λ (m : ℕ). LastAt l m n r) e (p (subst (λ (m : ℕ). Ascending m l) (sym e) (keys-rise key l xs ks up))))
 
-  pub row-search : (k n : ℕ) (r : Found) → k ≡ length (st .rows) → (Ascending k (take 1024 (drop 0 t)) → LastAt (take 1024 (drop 0 t)) k n r) → r ≡ foundSlot (rowSlot (st .rows) n)
+  pub row-search : (k n : ℕ) (r : Found) → k ≡ length (st .rows) → LastAtIfAscending (take 1024 (drop 0 t)) k n r
+      → r ≡ foundSlot (rowSlot (st .rows) n)
   unfolding rowSlot
   row-search = halves (λ r. r .number) (take 1024 (drop 0 t)) (st .rows) row-keys (represented-well rep .rows-rise)
 
-  pub request-search : (k q : ℕ) (r : Found) → k ≡ length (st .requests) → (Ascending k (take 128 (drop 10240 t)) → LastAt (take 128 (drop 10240 t)) k q r) → r ≡ foundSlot (requestSlot (st .requests) q)
+  pub request-search : (k q : ℕ) (r : Found) → k ≡ length (st .requests) → LastAtIfAscending (take 128 (drop 10240 t)) k q r
+      → r ≡ foundSlot (requestSlot (st .requests) q)
   unfolding requestSlot
   request-search = halves (λ v. v .number) (take 128 (drop 10240 t)) (st .requests) request-keys (represented-well rep .requests-rise)
 

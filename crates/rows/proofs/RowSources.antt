@@ -85,7 +85,8 @@ shape-sources vs r rs (registered e) =
 shape-sources vs r rs (held e) =
     let s : isNode (rowOf rs (r .source) .place) ≡ true = search (and-l, and-r) in
     let v : eqb (r .via) 0 || isSubdirectory (rowOf rs (r .via) .kind) ≡ true = search (and-l, and-r) in
-    (inr (node-there rs (r .source) s), ⊎-elim (λ z. inl (eqb-true (r .via) 0 z)) (λ z. inr (subdirectory-there rs (r .via) z)) (or-cases (eqb (r .via) 0) (isSubdirectory (rowOf rs (r .via) .kind)) v))
+    let either = or-cases (eqb (r .via) 0) (isSubdirectory (rowOf rs (r .via) .kind)) v in
+    (inr (node-there rs (r .source) s), ⊎-elim (λ z. inl (eqb-true (r .via) 0 z)) (λ z. inr (subdirectory-there rs (r .via) z)) either)
 shape-sources vs r rs (port-end e) =
     let s : isOperation (rowOf rs (r .source) .kind) ≡ true = search (and-l, and-r) in
     let v : eqb (r .via) 0 ≡ true = search (and-l, and-r) in

@@ -16,7 +16,7 @@ use Rattle.rows.specs.declared.Found.{Found}
 use Rattle.rows.specs.declared.Found.the-variants.{At, Nothing}
 use Rattle.rows.specs.Lists.{rises, member, some, slotWith}
 use Rattle.rows.specs.Layout.{leading}
-use Rattle.rows.specs.contracts.Slots.{Within, foundSlot}
+use Rattle.rows.specs.contracts.Slots.{foundSlot}
 use Rattle.rows.specs.contracts.Searches.{Ascending, LastAt}
 use Rattle.rows.proofs.Bools.{pos-some, member-here, member-there}
 use Rattle.rows.proofs.Keyed.{rises-rest, rises-older}
@@ -138,7 +138,8 @@ module _ {A : Type 0} (key : A → ℕ) where
       (λ g. keys-rise l xs (ks .1) (rises-rest key x xs up) i j lt g) (eq-or-lt-of-le (le-of-suc-le-suc h))
 
   -- the keys in a part of the words, known where each stands
-  pub keys-part : (t : List ℕ) (a k : ℕ) (xs : List A) → length xs ≤ k → ((new : List A) (x : A) (old : List A) → xs ≡ new ++ (x ∷ old) → getD t (a + length old) 0 ≡ key x) → Keys (take k (drop a t)) xs
+  pub keys-part : (t : List ℕ) (a k : ℕ) (xs : List A) → length xs ≤ k
+      → ((new : List A) (x : A) (old : List A) → xs ≡ new ++ (x ∷ old) → getD t (a + length old) 0 ≡ key x) → Keys (take k (drop a t)) xs
   keys-part t a k xs few at = along [] xs refl
     where
       along : (new old : List A) → xs ≡ new ++ old → Keys (take k (drop a t)) old

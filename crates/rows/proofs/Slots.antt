@@ -1,18 +1,17 @@
 -- The slots of rows and requests: slots of sources, and what the words of a slot are. Passes on the laws over any key and those of the words.
 use Prim.Native.Nat.{ℕ, zero, suc, _+_, _*_, _<_, _≤_, zero-le, suc-le-suc}
-use mathlib.Core.Bool.{Bool, true, false, cond, _&&_}
+use mathlib.Core.Bool.{Bool, true, false, _&&_}
 use mathlib.Core.List.{List, [], _∷_, _++_, map}
 use mathlib.Core.Path.{_≡_, refl, ap, sym, subst, _∙_}
 use mathlib.Core.Logic.{_⊎_, inl, inr}
 use native.Mathlib.Omega.{arith}
 use borrow.Author.Tests.{ne-eqb}
-use lib.Dec.{eqb}
 use lib.ListN.{length, getD, take, drop, length-append, length-take}
 use Rattle.rows.specs.declared.Row.{Row}
-use Rattle.rows.specs.Lists.{filter, firstWith, rises, laid, member, all, some, nonzero, slotWith}
+use Rattle.rows.specs.Lists.{filter, rises, laid, member, all, some, nonzero}
 use Rattle.rows.specs.Tables.{State, noRow, rowOf, numbers, sources}
 use Rattle.rows.specs.declared.Found.{Found}
-use Rattle.rows.specs.declared.Found.the-variants.{At, Nothing}
+use Rattle.rows.specs.declared.Found.the-variants.{At}
 use Rattle.rows.specs.Limits.{rowSlots, requestSlots}
 use Rattle.rows.specs.Layout.{requestsAt, rowSlot, sourceSlot, rowWord, rowField, rowsIn, requestsIn, rawRow}
 use Rattle.rows.specs.contracts.Represents.{sourcesOlder, Represents}
@@ -23,10 +22,13 @@ use Rattle.rows.proofs.Keyed.{olderOf, first-none, rises-rest}
 use Rattle.rows.proofs.RowSources.{Among}
 use Rattle.rows.proofs.LayoutColumns.{laid-at}
 use Rattle.rows.proofs.Searches.{leading-le}
-pub use Rattle.rows.proofs.KeySlots.{found-at, found-nothing, at-below, slot-le, slot-there, none-slot, slot-none, slot-member, slot-older, slot-found, cut-first, rises-old, slot-kept, slot-number, older-slot, slot-zero, each-cut, Cut, cut-at}
+pub use Rattle.rows.proofs.KeySlots.{found-at, found-nothing, at-below, slot-le, slot-there, none-slot, slot-none, slot-member, slot-older, slot-found}
+pub use Rattle.rows.proofs.KeySlots.{cut-first, rises-old, slot-kept, slot-number, older-slot, slot-zero, each-cut, Cut, cut-at}
 unfoldable pub use Rattle.rows.proofs.KeySlots.{newerOf}
-pub use Rattle.rows.proofs.RepresentedWords.{Well, well-open, represented-well, represented-length, represented-rows, represented-requests, represented-next, represented-row, represented-request}
-pub use Rattle.rows.proofs.RequestSlots.{RequestWords, request-of-words, request-words-at, request-words, request-read, raw-request, open-words, raw-open, request-found, request-absent, open-found, open-absent}
+pub use Rattle.rows.proofs.RepresentedWords.{Well, well-open, represented-well, represented-length, represented-rows}
+pub use Rattle.rows.proofs.RepresentedWords.{represented-requests, represented-next, represented-row, represented-request}
+pub use Rattle.rows.proofs.RequestSlots.{RequestWords, request-of-words, request-words-at, request-words, request-read, raw-request}
+pub use Rattle.rows.proofs.RequestSlots.{open-words, raw-open, request-found, request-absent, open-found, open-absent}
 
 -- ---- slots in use, of any words
 pub rows-most : (t : List ℕ) → rowsIn t ≤ 1024
@@ -146,7 +148,8 @@ number-of-row rs n i e =
 -- the slots of its sources are those among all rows, and at most its own
 module _ (st : State) (w : Well st) (n i : ℕ) (e : rowSlot (st .rows) n ≡ suc i) where
   slots-kept : (f : Row → ℕ)
-      → ((new : List Row) (r : Row) (old : List Row) → rises (λ r. r .number) (new ++ (r ∷ old)) ≡ true → sourcesOlder (new ++ (r ∷ old)) ≡ true → (sourceSlot old (f r) ≡ rowSlot (new ++ (r ∷ old)) (f r)) × (sourceSlot old (f r) ≤ length old))
+      → ((new : List Row) (r : Row) (old : List Row) → rises (λ r. r .number) (new ++ (r ∷ old)) ≡ true → sourcesOlder (new ++ (r ∷ old)) ≡ true
+      → (sourceSlot old (f r) ≡ rowSlot (new ++ (r ∷ old)) (f r)) × (sourceSlot old (f r) ≤ length old))
       → (sourceSlot (olderOf (λ r. r .number) (st .rows) n) (f (rowOf (st .rows) n)) ≡ rowSlot (st .rows) (f (rowOf (st .rows) n)))
       × (sourceSlot (olderOf (λ r. r .number) (st .rows) n) (f (rowOf (st .rows) n)) ≤ i)
   slots-kept f law =

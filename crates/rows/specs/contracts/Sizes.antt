@@ -1,5 +1,5 @@
 -- Sizes and columns of the lent words, named in contracts as in code (src/layout.rt; an underscore there is a hyphen here), and that they are those of the definitions.
-use Prim.Native.Nat.{ℕ, _+_, _*_}
+use Prim.Native.Nat.{ℕ, _*_}
 use mathlib.Core.List.{List}
 use mathlib.Core.Path.{_≡_, refl}
 use lib.ListN.{length}

@@ -16,10 +16,13 @@ same-length c = search needs
 
 returns : tie.Need-returns
 returns c =
-    let s = c .before .before .before .before .before .before .before .before .before .before in
-    let moved = c .before .before .before .before .before .before .gather in
-    let cleared = c .before .before .clear in
-    compacted-is (now (s .args .marks)) (s .args .count) (moved .result) (now (s .args .column)) (moved .last .0) (cleared .last .0) (moved .ensures .1 .0) (moved .ensures .1 .1) (cleared .ensures)
+    let cleared = c .before .before in
+    let gathered = cleared .before .before .before .before in
+    let start = gathered .before .before .before .before in
+    let moved = gathered .gather in
+    let ended = cleared .clear in
+    compacted-is (now (start .args .marks)) (start .args .count) (moved .result) (now (start .args .column)) (moved .last .0) (ended .last .0)
+    (moved .ensures .1 .0) (moved .ensures .1 .1) (ended .ensures)
 
 pub compact-column-spec : {M : Type 1} → statement M
 compact-column-spec = tie.close (tie.spec gather-requires clear-requires same-length returns)

@@ -1,7 +1,6 @@
 -- `find::leading_in` meets its contract: before the loop's position no word is 0.
 use borrow.Author.Needs.{needs}
-use Prim.Native.Nat.{ℕ, _≤_, _<_, _-_, _+_}
-use native.Mathlib.Omega.{arith}
+use Prim.Native.Nat.{ℕ, _≤_, _<_, _-_}
 use mathlib.Core.Path.{_≡_, sym}
 use borrow.Author.Count.{below-more}
 use denote.Ref.{now}

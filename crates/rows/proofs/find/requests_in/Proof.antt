@@ -4,7 +4,7 @@ use native.Mathlib.Omega.{arith}
 use denote.Ref.{now}
 use lib.ListN.{drop, length-take}
 use Rattle.rows.specs.Limits.{rowSlots, requestSlots}
-use Rattle.rows.specs.Layout.{rowColumns, requestsAt, rowsIn, requestsIn}
+use Rattle.rows.specs.Layout.{rowColumns, requestsAt, requestsIn}
 use Rattle.rows.proofs.find.requests_in.Statement.{statement}
 use Rattle.rows.proofs.find.requests_in.Tie as tie
 

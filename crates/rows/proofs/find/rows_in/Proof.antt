@@ -3,8 +3,8 @@ use borrow.Author.Needs.{needs}
 use native.Mathlib.Omega.{arith}
 use denote.Ref.{now}
 use lib.ListN.{drop, length-take}
-use Rattle.rows.specs.Limits.{rowSlots, requestSlots}
-use Rattle.rows.specs.Layout.{rowColumns, requestsAt, rowsIn, requestsIn}
+use Rattle.rows.specs.Limits.{rowSlots}
+use Rattle.rows.specs.Layout.{rowsIn}
 use Rattle.rows.proofs.find.rows_in.Statement.{statement}
 use Rattle.rows.proofs.find.rows_in.Tie as tie
 

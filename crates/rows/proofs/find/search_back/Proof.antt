@@ -1,7 +1,6 @@
 -- `find::search_back` meets its contract: from the loop's position on the number does not stand.
 use borrow.Author.Needs.{needs}
-use Prim.Native.Nat.{ℕ, _≤_, _<_, _-_, _+_}
-use native.Mathlib.Omega.{arith}
+use Prim.Native.Nat.{_≤_, _-_}
 use denote.Ref.{now}
 use Rattle.rows.specs.contracts.Slots.{Within}
 use Rattle.rows.proofs.Searches.{FreeFrom, back-more, back-hit, back-none}

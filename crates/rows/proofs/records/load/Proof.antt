@@ -59,8 +59,9 @@ loop-less c = search needs
 
 loop-again : tie.Need-loop-again Inv-loop μ-loop
 loop-again c =
-    let l = c .before .before .before .before .loop in
-    let p = c .before .before .before .before .before .args .p .now in
+    let turn = c .before .before .before .before in
+    let l = turn .loop in
+    let p = turn .before .args .p .now in
     (search needs, simp length-set (l .inv .1), through-read (l .ps) p (l .i) (omega (arith, l .inv .1)) (l .inv .2))
 
 returns : tie.Need-returns Inv-loop μ-loop

@@ -32,4 +32,15 @@ returns : tie.Need-returns
 returns c = refl
 
 pub request-of-spec : {M : Type 1} → statement M
-request-of-spec = tie.close (tie.spec element-copy-out-t5 element-copy-out-t8 element-copy-out-t11 element-copy-out-t14 element-copy-out-t5-2 element-copy-out-t14-2 element-copy-out-t11-2 element-copy-out-t8-2 returns)
+request-of-spec =
+    tie.close
+    (tie.spec
+    element-copy-out-t5
+    element-copy-out-t8
+    element-copy-out-t11
+    element-copy-out-t14
+    element-copy-out-t5-2
+    element-copy-out-t14-2
+    element-copy-out-t11-2
+    element-copy-out-t8-2
+    returns)

@@ -38,4 +38,17 @@ returns : tie.Need-returns
 returns c = refl
 
 pub row-of-spec : {M : Type 1} → statement M
-row-of-spec = tie.close (tie.spec element-copy-out-t4 element-copy-out-t7 element-copy-out-t10 element-copy-out-t13 element-copy-out-t16 element-copy-out-t19 element-copy-out-t22 element-copy-out-t25 element-copy-out-t28 element-copy-out-t31 returns)
+row-of-spec =
+    tie.close
+    (tie.spec
+    element-copy-out-t4
+    element-copy-out-t7
+    element-copy-out-t10
+    element-copy-out-t13
+    element-copy-out-t16
+    element-copy-out-t19
+    element-copy-out-t22
+    element-copy-out-t25
+    element-copy-out-t28
+    element-copy-out-t31
+    returns)
