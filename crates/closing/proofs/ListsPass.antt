@@ -29,8 +29,7 @@ use Rattle.changes.specs.contracts.Marks.{tested, marksOf}
 use Rattle.changes.proofs.Keep.{length-tested}
 use Rattle.closing.specs.Closing.{oldestListing, returned, listedIn, leaves, trimmed}
 use Rattle.closing.specs.contracts.Marks.{RowCount, RowsMarked, RequestsMarked}
-use Rattle.closing.specs.contracts.Lists.{slotMarks, among, backRow, itemsBack, WentBack, itemsOut, trimmedAll, partlySettled, SettledTo, listsSettled}
-use Rattle.closing.specs.contracts.Lists.{SlotsMarked, InSlot, ItemsStand, SendsBack, ItemsLeave}
+use Rattle.closing.specs.contracts.Lists.{slotMarks, among, backRow, itemsBack, WentBack, itemsOut, trimmedAll, partlySettled, SettledTo, listsSettled, SlotsMarked, InSlot, ItemsStand, SendsBack, ItemsLeave}
 use Rattle.closing.proofs.Lookups.{returned-keeps, returned-same}
 use Rattle.closing.proofs.ListsMarks.{getD-pad, tested-at}
 use Rattle.closing.proofs.ListsBack.{marks-map}

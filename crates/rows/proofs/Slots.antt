@@ -22,13 +22,10 @@ use Rattle.rows.proofs.Keyed.{olderOf, first-none, rises-rest}
 use Rattle.rows.proofs.RowSources.{Among}
 use Rattle.rows.proofs.LayoutColumns.{laid-at}
 use Rattle.rows.proofs.Searches.{leading-le}
-pub use Rattle.rows.proofs.KeySlots.{found-at, found-nothing, at-below, slot-le, slot-there, none-slot, slot-none, slot-member, slot-older, slot-found}
-pub use Rattle.rows.proofs.KeySlots.{cut-first, rises-old, slot-kept, slot-number, older-slot, slot-zero, each-cut, Cut, cut-at}
+pub use Rattle.rows.proofs.KeySlots.{found-at, found-nothing, at-below, slot-le, slot-there, none-slot, slot-none, slot-member, slot-older, slot-found, cut-first, rises-old, slot-kept, slot-number, older-slot, slot-zero, each-cut, Cut, cut-at}
 unfoldable pub use Rattle.rows.proofs.KeySlots.{newerOf}
-pub use Rattle.rows.proofs.RepresentedWords.{Well, well-open, represented-well, represented-length, represented-rows}
-pub use Rattle.rows.proofs.RepresentedWords.{represented-requests, represented-next, represented-row, represented-request}
-pub use Rattle.rows.proofs.RequestSlots.{RequestWords, request-of-words, request-words-at, request-words, request-read, raw-request}
-pub use Rattle.rows.proofs.RequestSlots.{open-words, raw-open, request-found, request-absent, open-found, open-absent}
+pub use Rattle.rows.proofs.RepresentedWords.{Well, well-open, represented-well, represented-length, represented-rows, represented-requests, represented-next, represented-row, represented-request}
+pub use Rattle.rows.proofs.RequestSlots.{RequestWords, request-of-words, request-words-at, request-words, request-read, raw-request, open-words, raw-open, request-found, request-absent, open-found, open-absent}
 
 -- ---- slots in use, of any words
 pub rows-most : (t : List ℕ) → rowsIn t ≤ 1024

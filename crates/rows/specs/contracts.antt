@@ -4,3 +4,4 @@ pub mod Represents
 pub mod Slots
 pub mod Searches
 pub mod Finds
+pub mod OfState

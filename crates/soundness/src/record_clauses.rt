@@ -20,7 +20,7 @@ ghost use Rattle.rows.specs.Tables.{noProcess};
 ghost use Rattle.rows.specs.Sound.{recordInRange, processPlaced, placedFrom};
 ghost use Rattle.rows.specs.Layout.{recordsIn};
 ghost use Rattle.rows.specs.contracts.Sizes.{ROWS, REQUESTS, PROCESSES, IsTables, IsRecords};
-ghost use Rattle.soundness_rows.specs.contracts.OfState.{OfRows, TestsTables};
+ghost use Rattle.rows.specs.contracts.OfState.{OfRows, TestsTables};
 ghost use Rattle.soundness.specs.contracts.Laid.{before};
 ghost use Rattle.soundness.specs.contracts.Clauses.{allOfNext};
 

@@ -16,7 +16,7 @@ ghost use Prim.Native.Nat.{_≤_};
 ghost use Rattle.rows.specs.Sound.{sound};
 ghost use Rattle.rows.specs.Layout.{soundWords};
 ghost use Rattle.rows.specs.contracts.Sizes.{ROWS, REQUESTS, IsTables, IsRecords};
-ghost use Rattle.soundness_rows.specs.contracts.OfState.{Tests};
+ghost use Rattle.rows.specs.contracts.OfState.{Tests};
 ghost use Rattle.soundness_rows.specs.contracts.Seen.{SourcesOlder};
 ghost use Rattle.soundness.specs.contracts.Clauses.{TestsRest};
 

@@ -12,8 +12,7 @@ use Rattle.rows.specs.declared.Process.{Process}
 use Rattle.rows.specs.declared.Request.{Request}
 use Rattle.rows.specs.Lists.{between, some}
 use Rattle.rows.specs.Limits.{processes, nodes, greatestOperation}
-use Rattle.rows.specs.Codes.{operation, subdirectory, clientEnd, serverEnd, isClient, isServer, withSystem, inClist, isNode, isClist, isSystem, isEnd, isCopied, isOperation}
-use Rattle.rows.specs.Codes.{isSubdirectory, ownerOf}
+use Rattle.rows.specs.Codes.{operation, subdirectory, clientEnd, serverEnd, isClient, isServer, withSystem, inClist, isNode, isClist, isSystem, isEnd, isCopied, isOperation, isSubdirectory, ownerOf}
 use Rattle.rows.specs.Tables.{isListed, rowOf}
 use Rattle.rows.specs.Sound.{objectInRange, placeInRange, isOpening, isRegistered, isHeld, isPortEnd, isLentCopy, sourceRight, hasRightSources, sourceOf, viaOf}
 use Rattle.soundness_rows.specs.contracts.Seen.{Seen}

@@ -24,11 +24,10 @@ ghost use Rattle.rows.specs.Tables.{requestOf, lists};
 ghost use Rattle.rows.specs.Sound.{endPaired};
 ghost use Rattle.rows.specs.Layout.{requestAt, recordsIn};
 ghost use Rattle.rows.specs.contracts.Sizes.{ROWS, REQUESTS, IsTables, IsRecords};
-ghost use Rattle.soundness_rows.specs.contracts.OfState.{OfRequests, Tests};
+ghost use Rattle.rows.specs.contracts.OfState.{OfRequests, Tests};
 ghost use Rattle.soundness_rows.specs.contracts.AtSlot.{OfRowAt, OfRowAmong, OfSources, OfSlot};
 ghost use Rattle.soundness_rows.specs.contracts.Seen.{SaysOfLoan, SourcesBefore, SourcesOlder, slotRow};
-ghost use Rattle.soundness_rows.specs.contracts.Clauses.{fieldsInRange, sourceClauses, pairedAbove, pairedBelow};
-ghost use Rattle.soundness_rows.specs.contracts.Clauses.{allOfRows};
+ghost use Rattle.soundness_rows.specs.contracts.Clauses.{fieldsInRange, sourceClauses, pairedAbove, pairedBelow, allOfRows};
 
 // What the request that a row bears says: its port, and whether it lists the row.
 pub struct Loan {

@@ -11,12 +11,11 @@ use Rattle.rows.specs.declared.Process.{Process}
 use Rattle.rows.specs.Lists.{if_then_else_, any, all, member, distinct, some, nonzero}
 use Rattle.rows.specs.Codes.{isSystem}
 use Rattle.rows.specs.Tables.{State, rowOf, isListed, numbers, lists}
-use Rattle.rows.specs.Sound.{numbersApart, fetchedInRange, portStands, portsStand, requestersListed, itemsApart, mayBeListed, itemsLent, onePerPort, isFetched, olderFetched, same}
-use Rattle.rows.specs.Sound.{systemHolds}
+use Rattle.rows.specs.Sound.{numbersApart, fetchedInRange, portStands, portsStand, requestersListed, itemsApart, mayBeListed, itemsLent, onePerPort, isFetched, olderFetched, same, systemHolds}
 use Rattle.rows.specs.Layout.{requestAt, rowSlot}
 use Rattle.rows.specs.contracts.Sizes.{ROWS}
 use Rattle.rows.specs.contracts.Represents.{Represents}
-use Rattle.soundness_rows.specs.contracts.OfState.{OfRows}
+use Rattle.rows.specs.contracts.OfState.{OfRows}
 
 -- the word of a slot plus 1 in the column that starts at c
 unfoldable pub wordAt : List ℕ → ℕ → ℕ → ℕ
@@ -120,8 +119,8 @@ abbrev pub listedOnce : List ℕ → List Row → Request → Bool
 listedOnce listing rs v = isFetched v || not (anyListed listing (itemSlots rs v))
 
 -- the listing with its items listed too
-abbrev pub withItems : List ℕ → List Row → Request → List ℕ
-withItems listing rs v = listAll (listingCode (isFetched v)) (itemSlots rs v) listing
+abbrev pub listingWith : List ℕ → List Row → Request → List ℕ
+listingWith listing rs v = listAll (listingCode (isFetched v)) (itemSlots rs v) listing
 
 -- ---- who holds
 -- where the column of rows' places starts

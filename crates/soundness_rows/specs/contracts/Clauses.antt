@@ -6,8 +6,7 @@ use Rattle.rows.specs.declared.Row.{Row}
 use Rattle.rows.specs.declared.Request.{Request}
 use Rattle.rows.specs.declared.Process.{Process}
 use Rattle.rows.specs.Tables.{State, rowOf}
-use Rattle.rows.specs.Sound.{sourceOf, viaOf, objectInRange, objectsInRange, rightInRange, rightsInRange, placeInRange, placesInRange, isOpening, isRegistered, isHeld, sourceRight, sourcesRight}
-use Rattle.rows.specs.Sound.{depthRight, depthsRight, copyMatches, copiesMatch, isPairedWith, endPaired, endsPaired, copyListed, copiesListed}
+use Rattle.rows.specs.Sound.{sourceOf, viaOf, objectInRange, objectsInRange, rightInRange, rightsInRange, placeInRange, placesInRange, isOpening, isRegistered, isHeld, sourceRight, sourcesRight, depthRight, depthsRight, copyMatches, copiesMatch, isPairedWith, endPaired, endsPaired, copyListed, copiesListed}
 
 -- ---- of one row, old the older ones
 -- its own fields

@@ -8,7 +8,7 @@ use lib.ListN.{take}
 use Rattle.rows.specs.Tables.{noProcess}
 use Rattle.rows.specs.Sound.{placedFrom}
 use Rattle.rows.specs.Layout.{recordsIn}
-use Rattle.soundness_rows.specs.contracts.OfState.{OfRows}
+use Rattle.rows.specs.contracts.OfState.{OfRows}
 use Rattle.rows.proofs.ProcessRecords.{length-in}
 use Rattle.soundness.proofs.RecordClauses.{placed-more, taken-all}
 use Rattle.soundness.proofs.record_clauses.processes_placed.Statement.{statement}

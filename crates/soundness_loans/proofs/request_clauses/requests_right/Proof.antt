@@ -10,7 +10,7 @@ use lib.ListN.{length}
 use Rattle.soundness_loans.specs.contracts.Clauses.{requestRight}
 use Rattle.rows.specs.declared.Process.{Process}
 use Rattle.rows.specs.declared.Request.{Request}
-use Rattle.soundness_rows.specs.contracts.OfState.{OfRows}
+use Rattle.rows.specs.contracts.OfState.{OfRows}
 use Rattle.rows.specs.Layout.{requestsTo, recordsIn}
 use Rattle.rows.specs.Lists.{all}
 use Rattle.soundness_loans.proofs.RequestClauses.{requests-read, all-next}
