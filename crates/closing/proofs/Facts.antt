@@ -94,7 +94,7 @@ module _ (st : State) (s : Sound st) where
   -- a copy is listed by the open request that it bears
   pub copy-listed : (n : ℕ) → Stands st n → some (rowOf (st .rows) n .request) ≡ true → lists n (requestOf (st .requests) (rowOf (st .rows) n .request)) ≡ true
   unfolding copiesListed rowOf copyListed numbers
-  copy-listed n t k = pick (all-first (λ r. r .number) noRow (copyListed (st .requests)) (st .rows) n (s .copies-listed) t)
+  copy-listed n t k = pick (all-first (λ r. r .number) noRow (copyListed (st .requests)) (st .rows) n (s .loans .copies-listed) t)
     where
       r : Row
       r = rowOf (st .rows) n
@@ -110,7 +110,7 @@ module _ (st : State) (s : Sound st) where
   unfolding itemsLent requestOf lists
   listed-right q t e l =
       all-at (λ e. mayBeListed v (rowOf (st .rows) e)) (nonzero (v .items))
-      (all-first (λ v. v .number) noRequest (λ v. all (λ e. mayBeListed v (rowOf (st .rows) e)) (nonzero (v .items))) (st .requests) q (s .items-lent) t) e (member-nonzero (v .items) e ∙ l)
+      (all-first (λ v. v .number) noRequest (λ v. all (λ e. mayBeListed v (rowOf (st .rows) e)) (nonzero (v .items))) (st .requests) q (s .loans .items-lent) t) e (member-nonzero (v .items) e ∙ l)
     where
       v : Request
       v = requestOf (st .requests) q

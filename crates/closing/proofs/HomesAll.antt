@@ -70,7 +70,7 @@ module _ (g : List ℕ) (from : List Process) where
   homed-next st sd e to i so =
       subst (λ (x : Process). some (x .through) ≡ true → member (x .through) (numbers (st .rows)) ≡ true)
       (ap (λ (ps : List Process). getD ps i noProcess) e ∙ sym (so .left i (omega arith)))
-      (placed-there (st .rows) 1 (st .processes) (sound-open st sd .processes-placed) i)
+      (placed-there (st .rows) 1 (st .processes) (sound-open st sd .placed .processes-placed) i)
 
   pub homed-turn : (to : List Process) (i : ℕ) (y : Process) → i < length to → y ≡ homed g (getD to i noProcess) → HomedTo g from to i → HomedTo g from (set to i y) (i + 1)
   homed-turn to i y h e so =

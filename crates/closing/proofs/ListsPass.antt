@@ -55,18 +55,18 @@ module _ (st : State) (s : Sound st) (new : List Request) (v : Request) (old : L
   pub asker-low : v .asker ≤ 64
   unfolding requestersListed recordsFit processes
   asker-low =
-      listed-low 64 (st .processes) (v .asker) (eqb-true (length (st .processes)) 64 (s .records-fit))
-      (all-cut (λ v. isListed (st .processes) (v .asker)) new v old (subst (λ (l : List Request). all (λ v. isListed (st .processes) (v .asker)) l ≡ true) cut (s .requesters-listed)))
+      listed-low 64 (st .processes) (v .asker) (eqb-true (length (st .processes)) 64 (s .placed .records-fit))
+      (all-cut (λ v. isListed (st .processes) (v .asker)) new v old (subst (λ (l : List Request). all (λ v. isListed (st .processes) (v .asker)) l ≡ true) cut (s .loans .requesters-listed)))
 
   pub items-stand : all (λ e. member e (numbers (st .rows))) (nonzero (v .items)) ≡ true
   unfolding itemsLent numbers rowOf
   items-stand =
       all-mono (λ e. mayBeListed v (rowOf (st .rows) e)) (λ e. member e (numbers (st .rows))) (λ e h. first-there (λ r. r .number) noRow (mayBeListed v) (no-row-listed v) (st .rows) e h) (nonzero (v .items))
-      (all-cut (λ v. all (λ e. mayBeListed v (rowOf (st .rows) e)) (nonzero (v .items))) new v old (subst (λ (l : List Request). all (λ v. all (λ e. mayBeListed v (rowOf (st .rows) e)) (nonzero (v .items))) l ≡ true) cut (s .items-lent)))
+      (all-cut (λ v. all (λ e. mayBeListed v (rowOf (st .rows) e)) (nonzero (v .items))) new v old (subst (λ (l : List Request). all (λ v. all (λ e. mayBeListed v (rowOf (st .rows) e)) (nonzero (v .items))) l ≡ true) cut (s .loans .items-lent)))
 
   pub requests-rise : rises (λ v. v .number) (v ∷ old) ≡ true
   unfolding requestsRise
-  requests-rise = rises-old (λ v. v .number) new (v ∷ old) (subst (λ (l : List Request). rises (λ v. v .number) l ≡ true) cut (s .requests-rise))
+  requests-rise = rises-old (λ v. v .number) new (v ∷ old) (subst (λ (l : List Request). rises (λ v. v .number) l ≡ true) cut (s .numbers .requests-rise))
 
 -- ---- one request, over the older ones
 or-swap : (a b : Bool) → a || b ≡ b || a

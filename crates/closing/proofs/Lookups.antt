@@ -154,14 +154,14 @@ module _ (g : List ℕ) (f : Request → Bool) (st : State) where
       first-map (λ r. r .number) noRow (returned f (st .requests)) number-kept (nothing-returned f (st .requests)) (filter (λ r. not (member (r .number) g)) (st .rows)) n
       ∙ ap (returned f (st .requests)) (first-filter (λ r. r .number) noRow (λ m. not (member m g)) (st .rows) n (ap not h))
 
-  pub rows-rise-kept : rowsRise st ≡ true → rowsRise (settled g f st) ≡ true
+  pub rows-rise-kept : rowsRise (st .rows) ≡ true → rowsRise (settled g f st .rows) ≡ true
   unfolding rowsRise settled
   rows-rise-kept e =
       rises-map (λ r. r .number) (returned f (st .requests)) number-kept (filter (λ r. not (member (r .number) g)) (st .rows))
       ∙ rises-filter (λ r. r .number) (λ r. not (member (r .number) g)) (st .rows) e .0
 
   -- what holds of all rows holds, changed by the return, of those left
-  pub all-left : (P Q : Row → Bool) → rowsRise st ≡ true
+  pub all-left : (P Q : Row → Bool) → rowsRise (st .rows) ≡ true
       → ((n : ℕ) → Stands st n → member n g ≡ false → P (rowOf (st .rows) n) ≡ true → Q (returned f (st .requests) (rowOf (st .rows) n)) ≡ true)
       → all P (st .rows) ≡ true → all Q (settled g f st .rows) ≡ true
   unfolding rowsRise rowOf numbers
@@ -172,7 +172,7 @@ module _ (g : List ℕ) (f : Request → Bool) (st : State) where
           ap Q (row-after n (left-not-gone n t)) ∙ h n (left-stood n t) (left-not-gone n t) (all-first (λ r. r .number) noRow P (st .rows) n a (left-stood n t))
 
   -- of each row with the older ones
-  pub each-left : (F H : Row → List Row → Bool) → rowsRise st ≡ true
+  pub each-left : (F H : Row → List Row → Bool) → rowsRise (st .rows) ≡ true
       → ((n : ℕ) → Stands st n → member n g ≡ false → F (rowOf (st .rows) n) (olderOf (λ r. r .number) (st .rows) n) ≡ true
       → H (returned f (st .requests) (rowOf (st .rows) n)) (olderOf (λ r. r .number) (settled g f st .rows) n) ≡ true)
       → each F (st .rows) ≡ true → each H (settled g f st .rows) ≡ true
@@ -185,11 +185,11 @@ module _ (g : List ℕ) (f : Request → Bool) (st : State) where
           ∙ h n (left-stood n t) (left-not-gone n t) (each-first (λ r. r .number) noRow F (st .rows) a n (left-stood n t))
 
   -- a row older than n is found among the older ones as in the whole table, before and after
-  pub older-before : rowsRise st ≡ true → (n m : ℕ) → Stands st n → m < n → rowOf (olderOf (λ r. r .number) (st .rows) n) m ≡ rowOf (st .rows) m
+  pub older-before : rowsRise (st .rows) ≡ true → (n m : ℕ) → Stands st n → m < n → rowOf (olderOf (λ r. r .number) (st .rows) n) m ≡ rowOf (st .rows) m
   unfolding rowsRise rowOf numbers
   older-before e n m t lt = older-first (λ r. r .number) noRow (st .rows) e n t m lt
 
-  pub older-after : rowsRise st ≡ true → (n m : ℕ) → Stands st n → member n g ≡ false → m < n → member m g ≡ false
+  pub older-after : rowsRise (st .rows) ≡ true → (n m : ℕ) → Stands st n → member n g ≡ false → m < n → member m g ≡ false
       → rowOf (olderOf (λ r. r .number) (settled g f st .rows) n) m ≡ returned f (st .requests) (rowOf (st .rows) m)
   unfolding rowsRise rowOf numbers
   older-after e n m t h lt k =

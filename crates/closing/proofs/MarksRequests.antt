@@ -57,7 +57,7 @@ module _ {st : State} {t : List ℕ} (rep : Represents t st) (sd : sound st ≡ 
   port-there : member (v .port) (numbers (st .rows)) ≡ true
   unfolding portsStand portStands
   port-there =
-      let stands : all (portStands (st .rows)) (new ++ (v ∷ old)) ≡ true = subst (λ (l : List Request). all (portStands (st .rows)) l ≡ true) cut (sound-open st sd .ports-stand) in
+      let stands : all (portStands (st .rows)) (new ++ (v ∷ old)) ≡ true = subst (λ (l : List Request). all (portStands (st .rows)) l ≡ true) cut (sound-open st sd .loans .ports-stand) in
       let here : portStands (st .rows) v ≡ true =
       subst (λ (x : Request). portStands (st .rows) x ≡ true) (first-cut (λ v. v .number) noRequest new v old up)
       (all-first (λ v. v .number) noRequest (portStands (st .rows)) (new ++ (v ∷ old)) (v .number) stands (member-cut (λ v. v .number) new v old up)) in

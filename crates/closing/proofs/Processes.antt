@@ -40,11 +40,11 @@ module _ (g : List ℕ) where
 
 -- ---- the records' clauses
 module _ (g : List ℕ) (f : Request → Bool) (st : State) where
-  pub records-fit-kept : recordsFit st ≡ true → recordsFit (settled g f st) ≡ true
+  pub records-fit-kept : recordsFit (st .processes) ≡ true → recordsFit (settled g f st .processes) ≡ true
   unfolding recordsFit settled
   records-fit-kept e = ap (λ n. eqb n processes) (length-map (st .processes) (homed g)) ∙ e
 
-  pub records-in-range-kept : recordsInRange st ≡ true → recordsInRange (settled g f st) ≡ true
+  pub records-in-range-kept : recordsInRange (st .processes) ≡ true → recordsInRange (settled g f st .processes) ≡ true
   unfolding recordsInRange settled homed
   records-in-range-kept e = all-map recordInRange (homed g) (st .processes) ∙ all-mono recordInRange (λ x. recordInRange (homed g x)) (λ x h. pick x h (some (x .through) && member (x .through) g) refl) (st .processes) e
     where

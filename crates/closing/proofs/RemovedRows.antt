@@ -56,7 +56,7 @@ module _ (seed : Row → Bool) (qs : List ℕ) (st : State) (s : Sound st) (c : 
   unfolding rowsRise
   law n t =
       let m : List ℕ = marked seed (st .rows) in
-      marked-closed seed (st .rows) (s .rows-rise) (sources-older st s) n t
+      marked-closed seed (st .rows) (s .numbers .rows-rise) (sources-older st s) n t
       ∙ ap (λ b. seed (rowOf (st .rows) n) || b) (any-source m (false-of _ (λ u. let (lo, hi) = row-below st s 0 (marked-stands seed (st .rows) 0 u) in omega arith)) (rowOf (st .rows) n))
 
   pub closable-closed : Closed (marked seed (st .rows)) (closes qs (marked seed (st .rows))) st

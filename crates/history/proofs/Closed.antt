@@ -75,7 +75,7 @@ module _ (h h′ : History) (st : State) (f : Noted → Bool) (seed : Row → Bo
   gone = marked seed (st .rows)
 
   standing-rises : rising (standing h) ≡ true
-  standing-rises = ap rising (sym (i .rows)) ∙ view-rises (st .rows) ∙ (unfold rowsRise in s .rows-rise)
+  standing-rises = ap rising (sym (i .rows)) ∙ view-rises (st .rows) ∙ (unfold rowsRise in s .numbers .rows-rise)
 
   standing-left : standing h′ ≡ filter (λ r. not (member (r .number) gone)) (standing h)
   unfolding standing

@@ -37,7 +37,7 @@ listed-there : (st : State) → Sound st → all (λ v. all (λ e. member e (num
 unfolding itemsLent
 listed-there st s =
     all-mono (λ v. all (λ e. mayBeListed v (rowOf (st .rows) e)) (nonzero (v .items))) (λ v. all (λ e. member e (numbers (st .rows))) (nonzero (v .items)))
-    (λ v t. all-mono (λ e. mayBeListed v (rowOf (st .rows) e)) (λ e. member e (numbers (st .rows))) (λ e u. row-there (mayBeListed v) (no-row-listed v) (st .rows) e u) (nonzero (v .items)) t) (st .requests) (s .items-lent)
+    (λ v t. all-mono (λ e. mayBeListed v (rowOf (st .rows) e)) (λ e. member e (numbers (st .rows))) (λ e u. row-there (mayBeListed v) (no-row-listed v) (st .rows) e u) (nonzero (v .items)) t) (st .requests) (s .loans .items-lent)
 
 module _ (rs rs′ : List Row) (same : (e : ℕ) → member e (numbers rs) ≡ true → rowOf rs′ e .kind ≡ rowOf rs e .kind) where
   loans-same : (vs : List Request) → all (λ v. all (λ e. member e (numbers rs)) (nonzero (v .items))) vs ≡ true → loansIn rs′ vs ≡ loansIn rs vs

@@ -110,7 +110,7 @@ module _ (h h′ : History) (st : State) (g : List ℕ) (f : Request → Bool) (
       ∙ ap not
       (
       ap (λ b. b && not (closedNumber h′ n)) (sym (ap (λ vs. member n (map (λ v. v .number) vs)) asked ∙ and-l _ (not (closedNumber h n)) (sym (open-numbers h st i n) ∙ t)))
-      ∙ sym (open-numbers h′ (settled g f st) i′ n) ∙ remaining-numbers f g (st .requests) (unfold requestsRise in s .requests-rise) n t
+      ∙ sym (open-numbers h′ (settled g f st) i′ n) ∙ remaining-numbers f g (st .requests) (unfold requestsRise in s .numbers .requests-rise) n t
       )
       ∙ Bool·not-not (f (requestOf (st .requests) n))
 
@@ -125,7 +125,7 @@ module _ (h h′ : History) (st : State) (g : List ℕ) (f : Request → Bool) (
 
       as-closed : all (λ v. same (closedNumber h′ (v .number)) (f v)) (st .requests) ≡ true
       as-closed =
-          all-found (λ v. v .number) noRequest (λ v. same (closedNumber h′ (v .number)) (f v)) (st .requests) (unfold requestsRise in s .requests-rise)
+          all-found (λ v. v .number) noRequest (λ v. same (closedNumber h′ (v .number)) (f v)) (st .requests) (unfold requestsRise in s .numbers .requests-rise)
           (λ n t. same-eq _ _ (ap (closedNumber h′) (first-key (λ v. v .number) noRequest (st .requests) n t) ∙ (unfold requestOf in closed-now n t)))
 
 -- ---- the calls that close

@@ -128,7 +128,7 @@ listed-end rs e v t = and-r (member e (nonzero (v .items))) (isEnd (rowOf rs e .
 -- ---- the requests that had e on loan and close, in the history and in the tables
 module _ (h h′ : History) (st : State) (g : List ℕ) (f : Request → Bool) (i : Inv h st) (l : Lends h st) (s : Sound st) (i′ : Inv h′ (settled g f st)) (asked : h′ .requests ≡ h .requests) (e : ℕ) where
   rise : rises (λ v. v .number) (st .requests) ≡ true
-  rise = unfold requestsRise in s .requests-rise
+  rise = unfold requestsRise in s .numbers .requests-rise
 
   had : (n : ℕ) → any (λ o. eqb (o .request) n && eqb (o .lent) e) (h .loans) ≡ member n (map (λ v. v .number) (st .requests)) && member e (endsListed (st .rows) (requestOf (st .requests) n))
   had n = ap (any (λ o. eqb (o .request) n && eqb (o .lent) e)) (sym (l .lends)) ∙ on-loan (st .rows) n e (st .requests) rise

@@ -75,7 +75,7 @@ next-spoken st k after h l = made-spoken st (st .next) after (omega arith)
 request-ranged : (st : State) → Sound st → all (λ v. leb (v .number) greatestNumber) (st .requests) ≡ true
 unfolding nextInRange
 request-ranged st s =
-    let (lo, hi) = between-range 1 (suc greatestNumber) (st .next) (s .next-in-range) in
+    let (lo, hi) = between-range 1 (suc greatestNumber) (st .next) (s .numbers .next-in-range) in
     all-mono (λ v. ltb (v .number) (st .next)) (λ v. leb (v .number) greatestNumber) (λ v e. let lt = ltb-true (v .number) (st .next) e in le-leb (v .number) greatestNumber (omega arith)) (st .requests) (requests-below st s)
 
 -- also where none is found

@@ -87,7 +87,7 @@ module _ (st : State) (s : Sound st) where
   unfolding rowOf numbers placesInRange placeInRange
   end-held n t k =
       let r = rowOf (st .rows) n in
-      pick (isNode (r .place)) (end-at st s n t k .no-node) (isClist (r .place)) (isListed (st .processes) (ownerOf (r .place))) (isSystem (r .place)) (all-first (λ r. r .number) noRow (placeInRange (st .processes)) (st .rows) n (s .places-in-range) t)
+      pick (isNode (r .place)) (end-at st s n t k .no-node) (isClist (r .place)) (isListed (st .processes) (ownerOf (r .place))) (isSystem (r .place)) (all-first (λ r. r .number) noRow (placeInRange (st .processes)) (st .rows) n (s .rows .places-in-range) t)
     where
       pick : (a : Bool) → a ≡ false → (b c d : Bool) → a || ((b && c) || d) ≡ true → b || d ≡ true
       pick true z b c d e = clash refl z
@@ -147,8 +147,8 @@ module _ (st : State) (s : Sound st) where
     ends-are : endsOf c (st .rows) ≡ rowOf (st .rows) (suc c) ∷ rowOf (st .rows) c ∷ []
     unfolding endsOf rowOf numbers rowsRise
     ends-are =
-        filter-agree _ _ (st .rows) (agree-found (λ r. r .number) noRow (λ r. isEnd (r .kind) && eqb (r .object) c) (λ r. eqb (r .number) c || eqb (r .number) (suc c)) (st .rows) (s .rows-rise) is-end-of)
-        ∙ pick-two (λ r. r .number) noRow (st .rows) c (suc c) (omega arith) (s .rows-rise) t server-there
+        filter-agree _ _ (st .rows) (agree-found (λ r. r .number) noRow (λ r. isEnd (r .kind) && eqb (r .object) c) (λ r. eqb (r .number) c || eqb (r .number) (suc c)) (st .rows) (s .numbers .rows-rise) is-end-of)
+        ∙ pick-two (λ r. r .number) noRow (st .rows) c (suc c) (omega arith) (s .numbers .rows-rise) t server-there
 
     pub two-ends : TwoEnds (st .rows) c
     two-ends =

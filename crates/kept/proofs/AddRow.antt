@@ -29,7 +29,7 @@ use Rattle.calls.specs.Rules.{rowsFull, numbersSpent, withNewRows}
 pub none-lists : (st : State) → Sound st → (e : ℕ) → member e (numbers (st .rows)) ≡ false → all (λ v. not (lists e v)) (st .requests) ≡ true
 unfolding itemsLent lists
 none-lists st s e f =
-    all-mono (λ v. all (λ e. mayBeListed v (rowOf (st .rows) e)) (nonzero (v .items))) (λ v. not (some e && member e (v .items))) listed (st .requests) (s .items-lent)
+    all-mono (λ v. all (λ e. mayBeListed v (rowOf (st .rows) e)) (nonzero (v .items))) (λ v. not (some e && member e (v .items))) listed (st .requests) (s .loans .items-lent)
   where
     listed : (v : Request) → all (λ e. mayBeListed v (rowOf (st .rows) e)) (nonzero (v .items)) ≡ true → not (some e && member e (v .items)) ≡ true
     listed v a =
@@ -96,19 +96,19 @@ pub added-none : (st : State) → Sound st → Added st [] (st .next)
 unfolding rowsRise nextInRange between rowsFit sourcesRight depthsRight copiesMatch all
 added-none st s =
     record {
-      rise = s .rows-rise;
+      rise = s .numbers .rows-rise;
       below = rows-top st s;
       later = omega arith;
-      counted = leb-true (st .next) (suc greatestNumber) (and-r (leb 1 (st .next)) (leb (st .next) (suc greatestNumber)) (s .next-in-range));
-      fit = leb-true (length (st .rows)) rowSlots (s .rows-fit);
+      counted = leb-true (st .next) (suc greatestNumber) (and-r (leb 1 (st .next)) (leb (st .next) (suc greatestNumber)) (s .numbers .next-in-range));
+      fit = leb-true (length (st .rows)) rowSlots (s .numbers .rows-fit);
       new-numbers = refl;
       objects = refl;
       rights = refl;
       places = refl;
       away = refl;
-      sources = s .sources-right;
-      depths = s .depths-right;
-      copies = s .copies-match;
+      sources = s .rows .sources-right;
+      depths = s .rows .depths-right;
+      copies = s .rows .copies-match;
       unborne = refl;
     }
 
@@ -143,7 +143,7 @@ module _ (st : State) (s : Sound st) (new : List Row) (a : all (λ r. leb (st .n
   apart-kept =
       all-and {A = Request} (λ v. ltb (v .number) (st .next)) (λ v. not (member (v .number) (numbers (st .rows)))) (λ v. not (member (v .number) (numbers (new ++ st .rows))))
       (λ v b t. rw (number-before (st .next) (st .rows) new a (v .number) (ltb-true (v .number) (st .next) b)) t)
-      (st .requests) (requests-below st s) (s .numbers-apart)
+      (st .requests) (requests-below st s) (s .numbers .numbers-apart)
 
   pair-kept : (r : Row) → endPaired (st .rows) r ≡ true → endPaired (new ++ st .rows) r ≡ true
   unfolding endPaired isPairedWith isEnd isClient isServer clientEnd serverEnd noRow
@@ -179,43 +179,58 @@ added-sound st s new n a paired =
     let requests : topOf (λ v. v .number) (st .requests) < st .next = requests-top st s in
     let some : 0 < st .next = next-some st s in
     record {
-      rows-rise = a .rise;
-      requests-rise = s .requests-rise;
-      numbers-apart = apart-kept st s new (a .new-numbers);
-      below-next =
-          and-i (ltb (topOf (λ r. r .number) (new ++ st .rows)) n) (ltb (topOf (λ v. v .number) (st .requests)) n) (lt-ltb (topOf (λ r. r .number) (new ++ st .rows)) n (a .below))
-          (lt-ltb (topOf (λ v. v .number) (st .requests)) n (omega arith));
-      next-in-range = and-i (leb 1 n) (leb n (suc greatestNumber)) (le-leb 1 n (omega arith)) (le-leb n (suc greatestNumber) (a .counted));
-      rows-fit = le-leb (length (new ++ st .rows)) rowSlots (a .fit);
-      requests-fit = s .requests-fit;
-      records-fit = s .records-fit;
-      objects-in-range = all-append (objectInRange (st .processes)) new (st .rows) (a .objects) (s .objects-in-range);
-      rights-in-range = all-append rightInRange new (st .rows) (a .rights) (s .rights-in-range);
-      places-in-range = all-append (placeInRange (st .processes)) new (st .rows) (a .places) (s .places-in-range);
-      fetched-in-range = s .fetched-in-range;
-      sources-right = a .sources;
-      depths-right = a .depths;
-      copies-match = a .copies;
-      records-in-range = s .records-in-range;
-      ends-paired =
-          all-append (endPaired (new ++ st .rows)) new (st .rows) paired
-          (all-mono (endPaired (st .rows)) (endPaired (new ++ st .rows)) (pair-kept st s new (a .new-numbers)) (st .rows) (s .ends-paired));
-      ports-stand = all-mono (portStands (st .rows)) (portStands (new ++ st .rows)) (port-stands-kept st s new (a .new-numbers)) (st .requests) (s .ports-stand);
-      requesters-listed = s .requesters-listed;
-      items-few = s .items-few;
-      items-apart = s .items-apart;
-      items-lent =
-          all-mono (λ v. all (λ e. mayBeListed v (rowOf (st .rows) e)) (nonzero (v .items))) (λ v. all (λ e. mayBeListed v (rowOf (new ++ st .rows) e)) (nonzero (v .items)))
-          (items-kept st s new (a .new-numbers)) (st .requests) (s .items-lent);
-      one-per-port = s .one-per-port;
-      copies-listed =
-          all-append (copyListed (st .requests)) new (st .rows)
-          (all-mono (λ r. eqb (r .request) 0) (copyListed (st .requests)) (λ r t. or-l (eqb (r .request) 0) _ t) new (a .unborne))
-          (s .copies-listed);
-      older-fetched = s .older-fetched;
-      system-holds =
-          all-append (λ r. same (isSystem (r .place)) (awaitsFetch (st .requests) (r .number))) new (st .rows) (new-away st s new (a .new-numbers) (a .away)) (s .system-holds);
-      processes-placed = placed-still st s (new ++ st .rows) (λ e p hi k at. row-before (st .next) (st .rows) new (a .new-numbers) e (row-below st s e (subdirectory-there (st .rows) e k) .1));
+      numbers =
+          record {
+            rows-rise = a .rise;
+            requests-rise = s .numbers .requests-rise;
+            numbers-apart = apart-kept st s new (a .new-numbers);
+            below-next =
+                and-i (ltb (topOf (λ r. r .number) (new ++ st .rows)) n) (ltb (topOf (λ v. v .number) (st .requests)) n) (lt-ltb (topOf (λ r. r .number) (new ++ st .rows)) n (a .below))
+                (lt-ltb (topOf (λ v. v .number) (st .requests)) n (omega arith));
+            next-in-range = and-i (leb 1 n) (leb n (suc greatestNumber)) (le-leb 1 n (omega arith)) (le-leb n (suc greatestNumber) (a .counted));
+            rows-fit = le-leb (length (new ++ st .rows)) rowSlots (a .fit);
+            requests-fit = s .numbers .requests-fit;
+          };
+      rows =
+          record {
+            objects-in-range = all-append (objectInRange (st .processes)) new (st .rows) (a .objects) (s .rows .objects-in-range);
+            rights-in-range = all-append rightInRange new (st .rows) (a .rights) (s .rows .rights-in-range);
+            places-in-range = all-append (placeInRange (st .processes)) new (st .rows) (a .places) (s .rows .places-in-range);
+            sources-right = a .sources;
+            depths-right = a .depths;
+            copies-match = a .copies;
+            ends-paired =
+                all-append (endPaired (new ++ st .rows)) new (st .rows) paired
+                (all-mono (endPaired (st .rows)) (endPaired (new ++ st .rows)) (pair-kept st s new (a .new-numbers)) (st .rows) (s .rows .ends-paired));
+          };
+      loans =
+          record {
+            fetched-in-range = s .loans .fetched-in-range;
+            ports-stand = all-mono (portStands (st .rows)) (portStands (new ++ st .rows)) (port-stands-kept st s new (a .new-numbers)) (st .requests) (s .loans .ports-stand);
+            requesters-listed = s .loans .requesters-listed;
+            items-few = s .loans .items-few;
+            items-apart = s .loans .items-apart;
+            items-lent =
+                all-mono (λ v. all (λ e. mayBeListed v (rowOf (st .rows) e)) (nonzero (v .items))) (λ v. all (λ e. mayBeListed v (rowOf (new ++ st .rows) e)) (nonzero (v .items)))
+                (items-kept st s new (a .new-numbers)) (st .requests) (s .loans .items-lent);
+            one-per-port = s .loans .one-per-port;
+            copies-listed =
+                all-append (copyListed (st .requests)) new (st .rows)
+                (all-mono (λ r. eqb (r .request) 0) (copyListed (st .requests)) (λ r t. or-l (eqb (r .request) 0) _ t) new (a .unborne))
+                (s .loans .copies-listed);
+          };
+      holders =
+          record {
+            older-fetched = s .holders .older-fetched;
+            system-holds =
+                all-append (λ r. same (isSystem (r .place)) (awaitsFetch (st .requests) (r .number))) new (st .rows) (new-away st s new (a .new-numbers) (a .away)) (s .holders .system-holds);
+          };
+      placed =
+          record {
+            records-fit = s .placed .records-fit;
+            records-in-range = s .placed .records-in-range;
+            processes-placed = placed-still st s (new ++ st .rows) (λ e p hi k at. row-before (st .next) (st .rows) new (a .new-numbers) e (row-below st s e (subdirectory-there (st .rows) e k) .1));
+          };
     }
 
 -- room for k more rows, and numbers for them

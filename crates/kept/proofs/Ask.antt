@@ -16,33 +16,48 @@ use Rattle.kept.proofs.AskRequests.{requests-rise, numbers-apart, below
 asked-sound : (st : State) (s : Sound st) (p c : ℕ) (is : List Item) → AskAllowed st p c is → Sound (askedState st p c is)
 asked-sound st s p c is a =
     record {
-      rows-rise = rows-rise st s p c is a;
-      requests-rise = requests-rise st s p c is a;
-      numbers-apart = numbers-apart st s p c is a;
-      below-next = below-next st s p c is a;
-      next-in-range = next-in-range st s p c is a;
-      rows-fit = rows-fit st s p c is a;
-      requests-fit = requests-fit st s p c is a;
-      records-fit = unfold recordsFit in s .records-fit;
-      objects-in-range = objects-in-range st s p c is a;
-      rights-in-range = rights-in-range st s p c is a;
-      places-in-range = places-in-range st s p c is a;
-      fetched-in-range = fetched-in-range st s p c is a;
-      sources-right = sources-right st s p c is a;
-      depths-right = depths-right st s p c is a;
-      copies-match = copies-match st s p c is a;
-      records-in-range = unfold recordsInRange in s .records-in-range;
-      ends-paired = ends-paired st s p c is a;
-      ports-stand = ports-stand st s p c is a;
-      requesters-listed = requesters-listed st s p c is a;
-      items-few = items-few st s p c is a;
-      items-apart = items-apart st s p c is a;
-      items-lent = items-lent st s p c is a;
-      one-per-port = one-per-port st s p c is a;
-      copies-listed = copies-listed st s p c is a;
-      older-fetched = older-fetched st s p c is a;
-      system-holds = system-holds st s p c is a;
-      processes-placed = processes-placed st s p c is a;
+      numbers =
+          record {
+            rows-rise = rows-rise st s p c is a;
+            requests-rise = requests-rise st s p c is a;
+            numbers-apart = numbers-apart st s p c is a;
+            below-next = below-next st s p c is a;
+            next-in-range = next-in-range st s p c is a;
+            rows-fit = rows-fit st s p c is a;
+            requests-fit = requests-fit st s p c is a;
+          };
+      rows =
+          record {
+            objects-in-range = objects-in-range st s p c is a;
+            rights-in-range = rights-in-range st s p c is a;
+            places-in-range = places-in-range st s p c is a;
+            sources-right = sources-right st s p c is a;
+            depths-right = depths-right st s p c is a;
+            copies-match = copies-match st s p c is a;
+            ends-paired = ends-paired st s p c is a;
+          };
+      loans =
+          record {
+            fetched-in-range = fetched-in-range st s p c is a;
+            ports-stand = ports-stand st s p c is a;
+            requesters-listed = requesters-listed st s p c is a;
+            items-few = items-few st s p c is a;
+            items-apart = items-apart st s p c is a;
+            items-lent = items-lent st s p c is a;
+            one-per-port = one-per-port st s p c is a;
+            copies-listed = copies-listed st s p c is a;
+          };
+      holders =
+          record {
+            older-fetched = older-fetched st s p c is a;
+            system-holds = system-holds st s p c is a;
+          };
+      placed =
+          record {
+            records-fit = unfold recordsFit in s .placed .records-fit;
+            records-in-range = unfold recordsInRange in s .placed .records-in-range;
+            processes-placed = processes-placed st s p c is a;
+          };
     }
 
 -- the definition's tables are those of the closed form

@@ -91,7 +91,7 @@ module _ (st : State) (s : Sound st) (p c : ℕ) (is : List Item) (a : AskAllowe
   next-unused : member (st .next) (map (λ v. v .number) (st .requests)) ≡ false
   next-unused =
       false-of (member (st .next) (map (λ v. v .number) (st .requests))) λ t.
-      let (lo, hi) = rises-range (λ v. v .number) (st .requests) (unfold requestsRise in s .requests-rise) (st .next) t in
+      let (lo, hi) = rises-range (λ v. v .number) (st .requests) (unfold requestsRise in s .numbers .requests-rise) (st .next) t in
       let top = requests-top st s in
       omega arith
 

@@ -50,18 +50,18 @@ module _ (st : State) (s : Sound st) (p c : ℕ) (is : List Item) (a : AskAllowe
   requests-all P h e = and-i (P (asked st p c is)) (all P (st .requests)) h e
 
   of-requests : (P : Request → Bool) → ((n : ℕ) → member n (map (λ v. v .number) (st .requests)) ≡ true → P (requestOf (st .requests) n) ≡ true) → all P (st .requests) ≡ true
-  of-requests P h = unfold requestOf in all-found (λ v. v .number) noRequest P (st .requests) (unfold requestsRise in s .requests-rise) h
+  of-requests P h = unfold requestOf in all-found (λ v. v .number) noRequest P (st .requests) (unfold requestsRise in s .numbers .requests-rise) h
 
   -- ---- numbers
-  pub requests-rise : requestsRise (askedState st p c is) ≡ true
+  pub requests-rise : requestsRise (askedState st p c is .requests) ≡ true
   unfolding requestsRise newRequest
-  requests-rise = rises-cons (λ v. v .number) (asked st p c is) (st .requests) (requests-top st s) (s .requests-rise)
+  requests-rise = rises-cons (λ v. v .number) (asked st p c is) (st .requests) (requests-top st s) (s .numbers .requests-rise)
 
-  pub numbers-apart : numbersApart (askedState st p c is) ≡ true
+  pub numbers-apart : numbersApart (askedState st p c is .rows) (askedState st p c is .requests) ≡ true
   unfolding numbersApart
   numbers-apart =
       requests-all (λ v. not (member (v .number) (numbers (askedRows st c is)))) (unfold newRequest in ap not fresh)
-      (all-and (λ v. ltb (v .number) (st .next)) (λ v. not (member (v .number) (numbers (st .rows)))) (λ v. not (member (v .number) (numbers (askedRows st c is)))) older (st .requests) (requests-below st s) (s .numbers-apart))
+      (all-and (λ v. ltb (v .number) (st .next)) (λ v. not (member (v .number) (numbers (st .rows)))) (λ v. not (member (v .number) (numbers (askedRows st c is)))) older (st .requests) (requests-below st s) (s .numbers .numbers-apart))
     where
       fresh : member (st .next) (numbers (askedRows st c is)) ≡ false
       fresh = old-number st s p c is a (st .next) (omega arith) ∙ false-of (member (st .next) (numbers (st .rows))) (λ t. let (lo, hi) = row-below st s (st .next) t in omega arith)
@@ -69,27 +69,27 @@ module _ (st : State) (s : Sound st) (p c : ℕ) (is : List Item) (a : AskAllowe
       older : (v : Request) → ltb (v .number) (st .next) ≡ true → not (member (v .number) (numbers (st .rows))) ≡ true → not (member (v .number) (numbers (askedRows st c is))) ≡ true
       older v t e = let lt = ltb-true (v .number) (st .next) t in ap not (old-number st s p c is a (v .number) (omega arith)) ∙ e
 
-  pub below-next : belowNext (askedState st p c is) ≡ true
+  pub below-next : belowNext (askedState st p c is .next) (askedState st p c is .rows) (askedState st p c is .requests) ≡ true
   unfolding belowNext topOf newRequest
   below-next =
       and-i (ltb (topOf (λ r. r .number) (askedRows st c is)) (suc (st .next) + length (copies st is))) (ltb (st .next) (suc (st .next) + length (copies st is)))
       (lt-ltb (topOf (λ r. r .number) (askedRows st c is)) (suc (st .next) + length (copies st is)) (rows-top′ st s p c is a))
       (lt-ltb (st .next) (suc (st .next) + length (copies st is)) (omega arith))
 
-  pub next-in-range : nextInRange (askedState st p c is) ≡ true
+  pub next-in-range : nextInRange (askedState st p c is .next) ≡ true
   unfolding nextInRange between
   next-in-range =
       let room = a .numbers-room in
       and-i (leb 1 (suc (st .next) + length (copies st is))) (leb (suc (st .next) + length (copies st is)) (suc greatestNumber))
       (le-leb 1 (suc (st .next) + length (copies st is)) (omega arith)) (le-leb (suc (st .next) + length (copies st is)) (suc greatestNumber) (omega arith))
 
-  pub requests-fit : requestsFit (askedState st p c is) ≡ true
+  pub requests-fit : requestsFit (askedState st p c is .requests) ≡ true
   unfolding requestsFit
   requests-fit = let room = a .requests-room in le-leb (suc (length (st .requests))) requestSlots (omega arith)
 
-  pub fetched-in-range : fetchedInRange (askedState st p c is) ≡ true
+  pub fetched-in-range : fetchedInRange (askedState st p c is .requests) ≡ true
   unfolding fetchedInRange
-  fetched-in-range = requests-all (λ v. leb (v .fetched) 1) (unfold newRequest in refl) (s .fetched-in-range)
+  fetched-in-range = requests-all (λ v. leb (v .fetched) 1) (unfold newRequest in refl) (s .loans .fetched-in-range)
 
   -- ---- the port and the requester
   -- the other end of port c has number c + 1
@@ -97,12 +97,12 @@ module _ (st : State) (s : Sound st) (p c : ℕ) (is : List Item) (a : AskAllowe
   unfolding isPairedWith
   server-older = row-below st s (suc c) (end-there (st .rows) (suc c) (and-l (isEnd (rowOf (st .rows) (suc c) .kind)) _ (client-paired st s c (a .client)))) .1
 
-  pub ports-stand : portsStand (askedState st p c is) ≡ true
+  pub ports-stand : portsStand (askedState st p c is .rows) (askedState st p c is .requests) ≡ true
   unfolding portsStand
   ports-stand =
       requests-all (portStands (askedRows st c is))
       (unfold portStands newRequest in and-i (isClient (rowOf (askedRows st c is) c .kind)) (ltb (suc c) (st .next)) (client c (a .client)) (lt-ltb (suc c) (st .next) server-older))
-      (all-mono (portStands (st .rows)) (portStands (askedRows st c is)) older (st .requests) (s .ports-stand))
+      (all-mono (portStands (st .rows)) (portStands (askedRows st c is)) older (st .requests) (s .loans .ports-stand))
     where
       client : (e : ℕ) → isClient (rowOf (st .rows) e .kind) ≡ true → isClient (rowOf (askedRows st c is) e .kind) ≡ true
       client e t = old-passes st s p c is a (λ r. isClient (r .kind)) (unfold noRow isClient clientEnd in refl) (λ r. unfold withPlace in refl) e t
@@ -113,16 +113,16 @@ module _ (st : State) (s : Sound st) (p c : ℕ) (is : List Item) (a : AskAllowe
           and-i (isClient (rowOf (askedRows st c is) (v .port) .kind)) (ltb (suc (v .port)) (v .number))
           (client (v .port) (and-l (isClient (rowOf (st .rows) (v .port) .kind)) (ltb (suc (v .port)) (v .number)) e)) (and-r (isClient (rowOf (st .rows) (v .port) .kind)) (ltb (suc (v .port)) (v .number)) e)
 
-  pub requesters-listed : requestersListed (askedState st p c is) ≡ true
+  pub requesters-listed : requestersListed (askedState st p c is .processes) (askedState st p c is .requests) ≡ true
   unfolding requestersListed
-  requesters-listed = requests-all (λ v. isListed (st .processes) (v .asker)) (unfold newRequest in a .caller) (s .requesters-listed)
+  requesters-listed = requests-all (λ v. isListed (st .processes) (v .asker)) (unfold newRequest in a .caller) (s .loans .requesters-listed)
 
-  pub one-per-port : onePerPort (askedState st p c is) ≡ true
+  pub one-per-port : onePerPort (askedState st p c is .requests) ≡ true
   unfolding onePerPort distinct newRequest
-  one-per-port = and-i (not (member c (map (λ v. v .port) (st .requests)))) (distinct (map (λ v. v .port) (st .requests))) (ap not unused) (s .one-per-port)
+  one-per-port = and-i (not (member c (map (λ v. v .port) (st .requests)))) (distinct (map (λ v. v .port) (st .requests))) (ap not unused) (s .loans .one-per-port)
     where
       positive : all (λ v. some (v .number)) (st .requests) ≡ true
-      positive = of-requests (λ v. some (v .number)) (λ n t. rw (number n t) (pos-some n (rises-range (λ v. v .number) (st .requests) (unfold requestsRise in s .requests-rise) n t .0)))
+      positive = of-requests (λ v. some (v .number)) (λ n t. rw (number n t) (pos-some n (rises-range (λ v. v .number) (st .requests) (unfold requestsRise in s .numbers .requests-rise) n t .0)))
         where
           number : (n : ℕ) → member n (map (λ v. v .number) (st .requests)) ≡ true → requestOf (st .requests) n .number ≡ n
           number n t = unfold requestOf in first-key (λ v. v .number) noRequest (st .requests) n t
@@ -138,30 +138,30 @@ module _ (st : State) (s : Sound st) (p c : ℕ) (is : List Item) (a : AskAllowe
   unfolding newRequest
   its-listed = nonzero-pad mostItems (listed st is (suc (st .next))) ∙ nonzero-all (listed st is (suc (st .next))) (listed-some st is (a .rows-some) (suc (st .next)) (omega arith))
 
-  pub items-few : itemsFew (askedState st p c is) ≡ true
+  pub items-few : itemsFew (askedState st p c is .requests) ≡ true
   unfolding itemsFew newRequest
   items-few =
       let few = a .few in
       let l = listed-length st is (suc (st .next)) in
-      requests-all (λ v. eqb (length (v .items)) mostItems) (eq-eqb (length (asked st p c is .items)) mostItems (length-pad 0 mostItems (listed st is (suc (st .next))) (omega arith))) (s .items-few)
+      requests-all (λ v. eqb (length (v .items)) mostItems) (eq-eqb (length (asked st p c is .items)) mostItems (length-pad 0 mostItems (listed st is (suc (st .next))) (omega arith))) (s .loans .items-few)
 
-  pub items-apart : itemsApart (askedState st p c is) ≡ true
+  pub items-apart : itemsApart (askedState st p c is .requests) ≡ true
   unfolding itemsApart
-  items-apart = requests-all (λ v. distinct (nonzero (v .items))) (ap distinct its-listed ∙ listed-apart st is (a .rows-apart) (suc (st .next)) older) (s .items-apart)
+  items-apart = requests-all (λ v. distinct (nonzero (v .items))) (ap distinct its-listed ∙ listed-apart st is (a .rows-apart) (suc (st .next)) older) (s .loans .items-apart)
     where
       older : all (λ i. ltb (i .row) (suc (st .next))) is ≡ true
       older =
           all-mono (λ i. not (notHeld st p (i .row))) (λ i. ltb (i .row) (suc (st .next)))
           (λ i h. let (lo, hi) = row-below st s (i .row) (held-there st p (i .row) (not-t (notHeld st p (i .row)) h)) in lt-ltb (i .row) (suc (st .next)) (omega arith)) is (a .held)
 
-  pub items-lent : itemsLent (askedState st p c is) ≡ true
+  pub items-lent : itemsLent (askedState st p c is .rows) (askedState st p c is .requests) ≡ true
   unfolding itemsLent
   items-lent =
       requests-all (λ v. all (λ e. mayBeListed v (rowOf (askedRows st c is) e)) (nonzero (v .items)))
       (ap (all (λ e. mayBeListed (asked st p c is) (rowOf (askedRows st c is) e))) its-listed
       ∙ all-of-member (λ e. mayBeListed (asked st p c is) (rowOf (askedRows st c is) e)) (listed st is (suc (st .next))) (λ e t. lent e (listed-cases st is (suc (st .next)) e t)))
       (all-mono (λ v. all (λ e. mayBeListed v (rowOf (st .rows) e)) (nonzero (v .items))) (λ v. all (λ e. mayBeListed v (rowOf (askedRows st c is) e)) (nonzero (v .items)))
-      (λ v. all-mono (λ e. mayBeListed v (rowOf (st .rows) e)) (λ e. mayBeListed v (rowOf (askedRows st c is) e)) (older v) (nonzero (v .items))) (st .requests) (s .items-lent))
+      (λ v. all-mono (λ e. mayBeListed v (rowOf (st .rows) e)) (λ e. mayBeListed v (rowOf (askedRows st c is) e)) (older v) (nonzero (v .items))) (st .requests) (s .loans .items-lent))
     where
       older : (v : Request) (e : ℕ) → mayBeListed v (rowOf (st .rows) e) ≡ true → mayBeListed v (rowOf (askedRows st c is) e) ≡ true
       older v e t = old-passes st s p c is a (mayBeListed v) (no-row-listed v) (λ r. unfold mayBeListed withPlace in refl) e t
@@ -177,9 +177,9 @@ module _ (st : State) (s : Sound st) (p c : ℕ) (is : List Item) (a : AskAllowe
           (rw (bears-stacked st c (st .next) (copies st is) (suc (st .next)) (lentRows st is) e lo hi, pos-some (st .next) (next-some st s)) (eqb-self (st .next)))
 
   -- ---- the older requests that list an end isItem are fetched
-  pub older-fetched : olderFetched (askedState st p c is) ≡ true
+  pub older-fetched : olderFetched (askedState st p c is .requests) ≡ true
   unfolding olderFetched each
-  older-fetched = and-i (olderFetchedBy (asked st p c is) (st .requests)) (each olderFetchedBy (st .requests)) (unfold olderFetchedBy in of-requests fetched-or (λ n t. pick n t (isFetched (requestOf (st .requests) n)) refl)) (s .older-fetched)
+  older-fetched = and-i (olderFetchedBy (asked st p c is) (st .requests)) (each olderFetchedBy (st .requests)) (unfold olderFetchedBy in of-requests fetched-or (λ n t. pick n t (isFetched (requestOf (st .requests) n)) refl)) (s .holders .older-fetched)
     where
       fetched-or : Request → Bool
       fetched-or w = isFetched w || not (any (λ e. lists e w) (asked st p c is .items))
@@ -196,7 +196,7 @@ module _ (st : State) (s : Sound st) (p c : ℕ) (is : List Item) (a : AskAllowe
       unshared : (w : ℕ) → member w (map (λ v. v .number) (st .requests)) ≡ true → isFetched (requestOf (st .requests) w) ≡ false
           → (e : ℕ) → (isItem st is e ≡ true) ⊎ ((suc (st .next) ≤ e) × (e < suc (st .next) + length (copies st is))) → lists e (requestOf (st .requests) w) ≡ false
       unshared w t f e (inl g) =
-          let all-fetched = listers-fetched e (st .requests) (s .older-fetched) (sym (eq-same (isSystem (rowOf (st .rows) e .place)) (awaitsFetch (st .requests) e) (held-so st s e (held-there st p e (named-held st s p c is a e g)))) ∙ in-clist e g) in
+          let all-fetched = listers-fetched e (st .requests) (s .holders .older-fetched) (sym (eq-same (isSystem (rowOf (st .rows) e .place)) (awaitsFetch (st .requests) e) (held-so st s e (held-there st p e (named-held st s p c is a e g)))) ∙ in-clist e g) in
           not-t (lists e (requestOf (st .requests) w)) (rw f at (at w t (λ w. isFetched w || not (lists e w)) all-fetched))
       unshared w t f e (inr (lo, hi)) =
           let new : member e (numbers (st .rows)) ≡ false = false-of (member e (numbers (st .rows))) (λ m. let (l, h) = row-below st s e m in omega arith) in

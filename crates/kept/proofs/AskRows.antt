@@ -59,13 +59,13 @@ module _ (st : State) (s : Sound st) (p c : ℕ) (is : List Item) (a : AskAllowe
   pub rows-top′ : topOf (λ r. r .number) (askedRows st c is) < hi
   rows-top′ = top-stacked st c (st .next) (copies st is) lo (lentRows st is) lent-top
 
-  pub rows-rise : rowsRise (askedState st p c is) ≡ true
+  pub rows-rise : rowsRise (askedState st p c is .rows) ≡ true
   unfolding rowsRise
   rows-rise =
       rises-stacked st c (st .next) (copies st is) lo (lentRows st is) lent-top
-      (rises-map (λ r. r .number) (moved (isItem st is) withSystem) (moved-number (isItem st is) withSystem) (st .rows) ∙ s .rows-rise)
+      (rises-map (λ r. r .number) (moved (isItem st is) withSystem) (moved-number (isItem st is) withSystem) (st .rows) ∙ s .numbers .rows-rise)
 
-  pub rows-fit : rowsFit (askedState st p c is) ≡ true
+  pub rows-fit : rowsFit (askedState st p c is .rows) ≡ true
   unfolding rowsFit
   rows-fit =
       let l : length (askedRows st c is) ≡ length (copies st is) + length (lentRows st is) = length-stacked st c (st .next) (copies st is) lo (lentRows st is) in
@@ -74,24 +74,24 @@ module _ (st : State) (s : Sound st) (p c : ℕ) (is : List Item) (a : AskAllowe
       le-leb (length (askedRows st c is)) rowSlots (omega arith)
 
   -- ---- fields
-  pub objects-in-range : objectsInRange (askedState st p c is) ≡ true
+  pub objects-in-range : objectsInRange (askedState st p c is .processes) (askedState st p c is .rows) ≡ true
   unfolding objectsInRange
   objects-in-range =
       rows-all (objectInRange (st .processes)) (λ n i g _ _. copy-object st s p c (a .client) (isItem st is) (none-named st s p c is a) [] n i g)
-      (objects-moved (isItem st is) withSystem (none-named st s p c is a) (st .processes) (st .rows) ∙ s .objects-in-range)
+      (objects-moved (isItem st is) withSystem (none-named st s p c is a) (st .processes) (st .rows) ∙ s .rows .objects-in-range)
 
-  pub rights-in-range : rightsInRange (askedState st p c is) ≡ true
+  pub rights-in-range : rightsInRange (askedState st p c is .rows) ≡ true
   unfolding rightsInRange
   rights-in-range =
       rows-all rightInRange (λ n i g _ _. copy-right st s p c (a .client) (isItem st is) (none-named st s p c is a) [] n i g)
-      (rights-moved (isItem st is) withSystem (none-named st s p c is a) (st .rows) ∙ s .rights-in-range)
+      (rights-moved (isItem st is) withSystem (none-named st s p c is a) (st .rows) ∙ s .rows .rights-in-range)
 
-  pub places-in-range : placesInRange (askedState st p c is) ≡ true
+  pub places-in-range : placesInRange (askedState st p c is .processes) (askedState st p c is .rows) ≡ true
   unfolding placesInRange
   places-in-range =
       rows-all (placeInRange (st .processes)) (λ n i g _ _. copy-place st s p c (a .client) (isItem st is) (none-named st s p c is a) [] n i g)
       (all-map (placeInRange (st .processes)) (moved (isItem st is) withSystem) (st .rows)
-      ∙ all-mono (placeInRange (st .processes)) (λ r. placeInRange (st .processes) (moved (isItem st is) withSystem r)) (λ r e. unfold moved in pick r (isItem st is (r .number)) e) (st .rows) (s .places-in-range))
+      ∙ all-mono (placeInRange (st .processes)) (λ r. placeInRange (st .processes) (moved (isItem st is) withSystem r)) (λ r e. unfold moved in pick r (isItem st is (r .number)) e) (st .rows) (s .rows .places-in-range))
     where
       pick : (r : Row) (b : Bool) → placeInRange (st .processes) r ≡ true → placeInRange (st .processes) (cond b (withPlace withSystem r) r) ≡ true
       pick r true e = system-in-range (st .processes) (withPlace withSystem r) (unfold withPlace in refl)
@@ -109,35 +109,35 @@ module _ (st : State) (s : Sound st) (p c : ℕ) (is : List Item) (a : AskAllowe
           rw (row-number (st .rows) n m, g, at, clist-not-node p, named-end st is n g) refl
       pick n m false g = rw (row-number (st .rows) n m, g) refl
 
-  pub sources-right : sourcesRight (askedState st p c is) ≡ true
+  pub sources-right : sourcesRight (askedState st p c is .requests) (askedState st p c is .rows) ≡ true
   unfolding sourcesRight
   sources-right =
       rows-each (sourceRight (asked st p c is ∷ st .requests))
       (λ n i rs g o. copy-source st s p c (a .client) (isItem st is) (none-named st s p c is a) (listed st is (suc (st .next))) n i g rs o)
       (sources-moved (isItem st is) withSystem (none-named st s p c is a) system-no-node (st .requests) (asked st p c is ∷ st .requests) (st .rows) may-move
-      (λ r e. ap (λ v. v .port) (request-old st s p c is a r e)) (unfold copiesListed in s .copies-listed) (s .sources-right))
+      (λ r e. ap (λ v. v .port) (request-old st s p c is a r e)) (unfold copiesListed in s .loans .copies-listed) (s .rows .sources-right))
 
-  pub depths-right : depthsRight (askedState st p c is) ≡ true
+  pub depths-right : depthsRight (askedState st p c is .rows) ≡ true
   unfolding depthsRight
   depths-right =
       rows-each depthRight (λ n i rs g o. copy-depth st s p c (a .client) (isItem st is) (none-named st s p c is a) [] n i g rs o)
-      (depths-moved (isItem st is) withSystem (none-named st s p c is a) (st .rows) ∙ s .depths-right)
+      (depths-moved (isItem st is) withSystem (none-named st s p c is a) (st .rows) ∙ s .rows .depths-right)
 
-  pub copies-match : copiesMatch (askedState st p c is) ≡ true
+  pub copies-match : copiesMatch (askedState st p c is .rows) ≡ true
   unfolding copiesMatch
   copies-match =
       rows-each copyMatches (λ n i rs g o. copy-matches st s p c (a .client) (isItem st is) (none-named st s p c is a) [] n i g rs o)
-      (copies-moved (isItem st is) withSystem (none-named st s p c is a) (st .rows) ∙ s .copies-match)
+      (copies-moved (isItem st is) withSystem (none-named st s p c is a) (st .rows) ∙ s .rows .copies-match)
 
   -- ---- ends
-  pub ends-paired : endsPaired (askedState st p c is) ≡ true
+  pub ends-paired : endsPaired (askedState st p c is .rows) ≡ true
   unfolding endsPaired
   ends-paired =
       all-mono (endPaired (lentRows st is)) (endPaired (askedRows st c is)) (λ r e. step r e) (askedRows st c is)
       (rows-all (endPaired (lentRows st is)) (λ n i g _ _. copy-paired st s p c (a .client) (isItem st is) (none-named st s p c is a) [] n i g (lentRows st is))
       (all-map (endPaired (lentRows st is)) (moved (isItem st is) withSystem) (st .rows)
       ∙ all-eq (λ r. endPaired (lentRows st is) (moved (isItem st is) withSystem r)) (endPaired (st .rows)) (paired-moved (isItem st is) withSystem (none-named st s p c is a) (st .rows)) (st .rows)
-      ∙ s .ends-paired))
+      ∙ s .rows .ends-paired))
     where
       end-of : (r b : Row) → isPairedWith r b ≡ true → isEnd (b .kind) ≡ true
       end-of r b e = unfold isPairedWith in and-l (isEnd (b .kind)) (eqb (r .object) (b .object) && eqb (r .source) (b .source)) e
@@ -152,20 +152,20 @@ module _ (st : State) (s : Sound st) (p c : ℕ) (is : List Item) (a : AskAllowe
       step r e = unfold endPaired in or-map (not (isEnd (r .kind))) (isPairedWith r (rowOf (lentRows st is) (otherEnd r))) (isPairedWith r (rowOf (askedRows st c is) (otherEnd r))) (other r) e
 
   -- ---- loans
-  pub copies-listed : copiesListed (askedState st p c is) ≡ true
+  pub copies-listed : copiesListed (askedState st p c is .requests) (askedState st p c is .rows) ≡ true
   unfolding copiesListed
   copies-listed =
       rows-all (copyListed (asked st p c is ∷ st .requests))
       (λ n i g l h. copy-listed st s p c (a .client) (isItem st is) (none-named st s p c is a) (listed st is (suc (st .next))) n i g (omega arith) (lists-copy st s p c is a n l h))
       (all-map (copyListed (asked st p c is ∷ st .requests)) (moved (isItem st is) withSystem) (st .rows)
-      ∙ all-mono (copyListed (st .requests)) (λ r. copyListed (asked st p c is ∷ st .requests) (moved (isItem st is) withSystem r)) step (st .rows) (s .copies-listed))
+      ∙ all-mono (copyListed (st .requests)) (λ r. copyListed (asked st p c is ∷ st .requests) (moved (isItem st is) withSystem r)) step (st .rows) (s .loans .copies-listed))
     where
       step : (r : Row) → copyListed (st .requests) r ≡ true → copyListed (asked st p c is ∷ st .requests) (moved (isItem st is) withSystem r) ≡ true
       step r e =
           moved-same (isItem st is) withSystem (copyListed (asked st p c is ∷ st .requests)) (λ r. unfold copyListed withPlace in refl) r
           ∙ (unfold copyListed in rw (request-old st s p c is a r e) e)
 
-  pub system-holds : systemHolds (askedState st p c is) ≡ true
+  pub system-holds : systemHolds (askedState st p c is .requests) (askedState st p c is .rows) ≡ true
   unfolding systemHolds
   system-holds =
       rows-all holds
@@ -202,7 +202,7 @@ module _ (st : State) (s : Sound st) (p c : ℕ) (is : List Item) (a : AskAllowe
           (rw (row-number (st .rows) n m, as-before n (row-below st s n m .1) g) (held-so st s n m))
 
   -- ---- processes
-  pub processes-placed : processesPlaced (askedState st p c is) ≡ true
+  pub processes-placed : processesPlaced (askedState st p c is .rows) (askedState st p c is .processes) ≡ true
   unfolding processesPlaced
   processes-placed =
       placed-still st s (askedRows st c is) stays

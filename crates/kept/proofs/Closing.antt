@@ -30,33 +30,48 @@ use Rattle.kept.proofs.ClosingRows.{below-next-kept, rows-fit-kept, obj
 settled-kept : (g : List ℕ) (f : Request → Bool) (st : State) → Sound st → Closed g f st → Sound (settled g f st)
 settled-kept g f st s c =
     record {
-      rows-rise = rows-rise-kept g f st (s .rows-rise);
-      requests-rise = requests-rise-kept g f st s;
-      numbers-apart = numbers-apart-kept g f st s;
-      below-next = below-next-kept g f st s;
-      next-in-range = unfold nextInRange settled in s .next-in-range;
-      rows-fit = rows-fit-kept g f st s;
-      requests-fit = requests-fit-kept g f st s;
-      records-fit = records-fit-kept g f st (s .records-fit);
-      objects-in-range = objects-in-range-kept g f st s;
-      rights-in-range = rights-in-range-kept g f st s;
-      places-in-range = places-in-range-kept g f st s c;
-      fetched-in-range = fetched-in-range-kept g f st s;
-      sources-right = sources-right-kept g f st s c;
-      depths-right = depths-right-kept g f st s c;
-      copies-match = copies-match-kept g f st s c;
-      records-in-range = records-in-range-kept g f st (s .records-in-range);
-      ends-paired = ends-paired-kept g f st s c;
-      ports-stand = ports-stand-kept g f st s c;
-      requesters-listed = requesters-listed-kept g f st s;
-      items-few = items-few-kept g f st s;
-      items-apart = items-apart-kept g f st s;
-      items-lent = items-lent-kept g f st s;
-      one-per-port = one-per-port-kept g f st s;
-      copies-listed = copies-listed-kept g f st s c;
-      older-fetched = older-fetched-kept g f st s;
-      system-holds = system-holds-kept g f st s c;
-      processes-placed = processes-placed-kept g f st s c;
+      numbers =
+          record {
+            rows-rise = rows-rise-kept g f st (s .numbers .rows-rise);
+            requests-rise = requests-rise-kept g f st s;
+            numbers-apart = numbers-apart-kept g f st s;
+            below-next = below-next-kept g f st s;
+            next-in-range = unfold nextInRange settled in s .numbers .next-in-range;
+            rows-fit = rows-fit-kept g f st s;
+            requests-fit = requests-fit-kept g f st s;
+          };
+      rows =
+          record {
+            objects-in-range = objects-in-range-kept g f st s;
+            rights-in-range = rights-in-range-kept g f st s;
+            places-in-range = places-in-range-kept g f st s c;
+            sources-right = sources-right-kept g f st s c;
+            depths-right = depths-right-kept g f st s c;
+            copies-match = copies-match-kept g f st s c;
+            ends-paired = ends-paired-kept g f st s c;
+          };
+      loans =
+          record {
+            fetched-in-range = fetched-in-range-kept g f st s;
+            ports-stand = ports-stand-kept g f st s c;
+            requesters-listed = requesters-listed-kept g f st s;
+            items-few = items-few-kept g f st s;
+            items-apart = items-apart-kept g f st s;
+            items-lent = items-lent-kept g f st s;
+            one-per-port = one-per-port-kept g f st s;
+            copies-listed = copies-listed-kept g f st s c;
+          };
+      holders =
+          record {
+            older-fetched = older-fetched-kept g f st s;
+            system-holds = system-holds-kept g f st s c;
+          };
+      placed =
+          record {
+            records-fit = records-fit-kept g f st (s .placed .records-fit);
+            records-in-range = records-in-range-kept g f st (s .placed .records-in-range);
+            processes-placed = processes-placed-kept g f st s c;
+          };
     }
 
 closing-kept : (seed : Row → Bool) (qs : List ℕ) (st : State) → Sound st → Closable seed qs st → Sound (closing seed qs st)

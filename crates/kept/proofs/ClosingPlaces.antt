@@ -92,7 +92,7 @@ module _ (g : List ℕ) (f : Request → Bool) (st : State) (s : Sound st) (c : 
   pub listed-end : (n : ℕ) → Stands st n → member n g ≡ false → listedIn f (st .requests) n ≡ true → isEnd (rowOf (st .rows) n .kind) ≡ true
   unfolding requestsRise listedIn mayBeListed
   listed-end n t k h =
-      let (q, o, p) = any-first (λ v. v .number) noRequest (λ w. f w && lists n w) (st .requests) (s .requests-rise) h in
+      let (q, o, p) = any-first (λ v. v .number) noRequest (λ w. f w && lists n w) (st .requests) (s .numbers .requests-rise) h in
       pick q o (unfold requestOf in p)
     where
       r : Row
@@ -122,7 +122,7 @@ module _ (g : List ℕ) (f : Request → Bool) (st : State) (s : Sound st) (c : 
   listed-clist n t h =
       let l : listedIn f (st .requests) (rowOf (st .rows) n .number) ≡ true = ap (listedIn f (st .requests)) (row-number (st .rows) n t) ∙ h in
       let asker : isListed (st .processes) (oldestListing f (rowOf (st .rows) n .number) (st .requests) .asker) ≡ true =
-      oldest-all f (rowOf (st .rows) n .number) (λ v. isListed (st .processes) (v .asker)) (st .requests) requests-positive (s .requesters-listed) l in
+      oldest-all f (rowOf (st .rows) n .number) (λ v. isListed (st .processes) (v .asker)) (st .requests) requests-positive (s .loans .requesters-listed) l in
       subst (Clist (st .processes)) (sym (returned-place f (st .requests) (rowOf (st .rows) n) requests-positive l))
       (clist st s (oldestListing f (rowOf (st .rows) n .number) (st .requests) .asker) asker)
 
@@ -142,9 +142,9 @@ module _ (g : List ℕ) (f : Request → Bool) (st : State) (s : Sound st) (c : 
           (true-or-false (listedIn f (st .requests) n))
 
   -- ---- the clauses
-  pub places-in-range-kept : placesInRange (settled g f st) ≡ true
+  pub places-in-range-kept : placesInRange (settled g f st .processes) (settled g f st .rows) ≡ true
   unfolding placesInRange
-  places-in-range-kept = unfold settled in all-left g f st (placeInRange (st .processes)) (placeInRange (map (homed g) (st .processes))) (s .rows-rise) at-row (s .places-in-range)
+  places-in-range-kept = unfold settled in all-left g f st (placeInRange (st .processes)) (placeInRange (map (homed g) (st .processes))) (s .numbers .rows-rise) at-row (s .rows .places-in-range)
     where
       in-range : (r : Row) → placeInRange (st .processes) r ≡ true → placeInRange (map (homed g) (st .processes)) r ≡ true
       in-range r e = unfold placeInRange in rw (listed-kept g (st .processes) (ownerOf (r .place))) e
@@ -156,10 +156,10 @@ module _ (g : List ℕ) (f : Request → Bool) (st : State) (s : Sound st) (c : 
           moved : (n : ℕ) → Clist (st .processes) (returned f (st .requests) (rowOf (st .rows) n) .place) → placeInRange (st .processes) (returned f (st .requests) (rowOf (st .rows) n)) ≡ true
           moved n x = unfold placeInRange in rw (x .no-node, x .owned) refl
 
-  pub system-holds-kept : systemHolds (settled g f st) ≡ true
+  pub system-holds-kept : systemHolds (settled g f st .requests) (settled g f st .rows) ≡ true
   unfolding systemHolds olderFetched
   system-holds-kept =
-      unfold settled in all-left g f st (λ r. same (isSystem (r .place)) (awaitsFetch (st .requests) (r .number))) (λ r. same (isSystem (r .place)) (awaitsFetch (remaining f g (st .requests)) (r .number))) (s .rows-rise) at-row (s .system-holds)
+      unfold settled in all-left g f st (λ r. same (isSystem (r .place)) (awaitsFetch (st .requests) (r .number))) (λ r. same (isSystem (r .place)) (awaitsFetch (remaining f g (st .requests)) (r .number))) (s .numbers .rows-rise) at-row (s .holders .system-holds)
     where
       R : ℕ → Row
       R n = returned f (st .requests) (rowOf (st .rows) n)
@@ -172,7 +172,7 @@ module _ (g : List ℕ) (f : Request → Bool) (st : State) (s : Sound st) (c : 
       at-row n t k e =
           ⊎-elim
           (λ h. let a : isSystem (R n .place) ≡ false = listed-clist n t h .no-system in
-          let b : awaitsFetch (remaining f g (st .requests)) (R n .number) ≡ false = ap (awaitsFetch (remaining f g (st .requests))) (number n t) ∙ awaits-returned f g n (st .requests) (s .older-fetched) h in
+          let b : awaitsFetch (remaining f g (st .requests)) (R n .number) ≡ false = ap (awaitsFetch (remaining f g (st .requests))) (number n t) ∙ awaits-returned f g n (st .requests) (s .holders .older-fetched) h in
           ap (λ x. same x (awaitsFetch (remaining f g (st .requests)) (R n .number))) a ∙ ap (same false) b ∙ (unfold same in refl))
           (λ h. let a : R n ≡ rowOf (st .rows) n = unlisted-same n t h in
           let b : awaitsFetch (remaining f g (st .requests)) (R n .number) ≡ awaitsFetch (st .requests) (rowOf (st .rows) n .number) =
@@ -180,9 +180,9 @@ module _ (g : List ℕ) (f : Request → Bool) (st : State) (s : Sound st) (c : 
           ap (same (isSystem (R n .place))) b ∙ ap (λ r. same (isSystem (r .place)) (awaitsFetch (st .requests) (rowOf (st .rows) n .number))) a ∙ e)
           (true-or-false (listedIn f (st .requests) n))
 
-  pub processes-placed-kept : processesPlaced (settled g f st) ≡ true
+  pub processes-placed-kept : processesPlaced (settled g f st .rows) (settled g f st .processes) ≡ true
   unfolding processesPlaced
-  processes-placed-kept = unfold settled in placed-kept g (st .rows) (settled g f st .rows) unmoved 1 (st .processes) (s .processes-placed)
+  processes-placed-kept = unfold settled in placed-kept g (st .rows) (settled g f st .rows) unmoved 1 (st .processes) (s .placed .processes-placed)
     where
       unmoved : (n : ℕ) → member n g ≡ false → isSubdirectory (rowOf (st .rows) n .kind) ≡ true → rowOf (settled g f st .rows) n ≡ rowOf (st .rows) n
       unmoved n k e =

@@ -66,20 +66,20 @@ module _ (f : Request → Bool) (g : List ℕ) where
 
 -- ---- the clauses
 module _ (g : List ℕ) (f : Request → Bool) (st : State) (s : Sound st) where
-  pub requests-rise-kept : requestsRise (settled g f st) ≡ true
+  pub requests-rise-kept : requestsRise (settled g f st .requests) ≡ true
   unfolding requestsRise settled
-  requests-rise-kept = remaining-rises f g (st .requests) (s .requests-rise)
+  requests-rise-kept = remaining-rises f g (st .requests) (s .numbers .requests-rise)
 
-  pub requests-fit-kept : requestsFit (settled g f st) ≡ true
+  pub requests-fit-kept : requestsFit (settled g f st .requests) ≡ true
   unfolding requestsFit settled
   requests-fit-kept =
-      let a : length (st .requests) ≤ requestSlots = leb-true (length (st .requests)) requestSlots (s .requests-fit) in
+      let a : length (st .requests) ≤ requestSlots = leb-true (length (st .requests)) requestSlots (s .numbers .requests-fit) in
       let b : length (remaining f g (st .requests)) ≤ length (st .requests) = length-remaining f g (st .requests) in
       le-leb (length (remaining f g (st .requests))) requestSlots (omega arith)
 
-  pub numbers-apart-kept : numbersApart (settled g f st) ≡ true
+  pub numbers-apart-kept : numbersApart (settled g f st .rows) (settled g f st .requests) ≡ true
   unfolding numbersApart
-  numbers-apart-kept = unfold settled in all-remaining f g (λ v. not (member (v .number) (numbers (st .rows)))) (λ v. not (member (v .number) (numbers (settled g f st .rows)))) at-request (st .requests) (s .numbers-apart)
+  numbers-apart-kept = unfold settled in all-remaining f g (λ v. not (member (v .number) (numbers (st .rows)))) (λ v. not (member (v .number) (numbers (settled g f st .rows)))) at-request (st .requests) (s .numbers .numbers-apart)
     where
       apart : (n : ℕ) → not (member n (numbers (st .rows))) ≡ true → not (member n (numbers (settled g f st .rows))) ≡ true
       apart n e = ap not (left-keys g f st n ∙ ap (λ b. b && not (member n g)) (not-t (member n (numbers (st .rows))) e))
@@ -87,36 +87,36 @@ module _ (g : List ℕ) (f : Request → Bool) (st : State) (s : Sound st) where
       at-request : (vs : List Request) (v : Request) → f v ≡ false → not (member (v .number) (numbers (st .rows))) ≡ true → not (member (trimmed f g vs v .number) (numbers (settled g f st .rows))) ≡ true
       at-request vs v q e = unfold trimmed in apart (v .number) e
 
-  pub fetched-in-range-kept : fetchedInRange (settled g f st) ≡ true
+  pub fetched-in-range-kept : fetchedInRange (settled g f st .requests) ≡ true
   unfolding fetchedInRange settled trimmed
-  fetched-in-range-kept = all-remaining f g (λ v. leb (v .fetched) 1) (λ v. leb (v .fetched) 1) (λ vs v q e. e) (st .requests) (s .fetched-in-range)
+  fetched-in-range-kept = all-remaining f g (λ v. leb (v .fetched) 1) (λ v. leb (v .fetched) 1) (λ vs v q e. e) (st .requests) (s .loans .fetched-in-range)
 
-  pub requesters-listed-kept : requestersListed (settled g f st) ≡ true
+  pub requesters-listed-kept : requestersListed (settled g f st .processes) (settled g f st .requests) ≡ true
   unfolding requestersListed settled trimmed
   requesters-listed-kept =
-      all-remaining f g (λ v. isListed (st .processes) (v .asker)) (λ v. isListed (map (homed g) (st .processes)) (v .asker)) (λ vs v q e. listed-kept g (st .processes) (v .asker) ∙ e) (st .requests) (s .requesters-listed)
+      all-remaining f g (λ v. isListed (st .processes) (v .asker)) (λ v. isListed (map (homed g) (st .processes)) (v .asker)) (λ vs v q e. listed-kept g (st .processes) (v .asker) ∙ e) (st .requests) (s .loans .requesters-listed)
 
-  pub items-few-kept : itemsFew (settled g f st) ≡ true
+  pub items-few-kept : itemsFew (settled g f st .requests) ≡ true
   unfolding itemsFew settled trimmed
   items-few-kept =
-      all-remaining f g (λ v. eqb (length (v .items)) mostItems) (λ v. eqb (length (v .items)) mostItems) (λ vs v q e. ap (λ n. eqb n mostItems) (length-map (v .items) (λ e. cond (leaves f g vs e) 0 e)) ∙ e) (st .requests) (s .items-few)
+      all-remaining f g (λ v. eqb (length (v .items)) mostItems) (λ v. eqb (length (v .items)) mostItems) (λ vs v q e. ap (λ n. eqb n mostItems) (length-map (v .items) (λ e. cond (leaves f g vs e) 0 e)) ∙ e) (st .requests) (s .loans .items-few)
 
-  pub items-apart-kept : itemsApart (settled g f st) ≡ true
+  pub items-apart-kept : itemsApart (settled g f st .requests) ≡ true
   unfolding itemsApart settled trimmed trim
   items-apart-kept =
-      all-remaining f g (λ v. distinct (nonzero (v .items))) (λ v. distinct (nonzero (v .items))) (λ vs v q e. distinct-trim (leaves f g vs) (v .items) e) (st .requests) (s .items-apart)
+      all-remaining f g (λ v. distinct (nonzero (v .items))) (λ v. distinct (nonzero (v .items))) (λ vs v q e. distinct-trim (leaves f g vs) (v .items) e) (st .requests) (s .loans .items-apart)
 
-  pub one-per-port-kept : onePerPort (settled g f st) ≡ true
+  pub one-per-port-kept : onePerPort (settled g f st .requests) ≡ true
   unfolding onePerPort settled
-  one-per-port-kept = ap distinct (remaining-keys f g (λ v. v .port) (λ is v. refl) (st .requests)) ∙ distinct-filter (λ v. v .port) (λ v. not (f v)) (st .requests) (s .one-per-port)
+  one-per-port-kept = ap distinct (remaining-keys f g (λ v. v .port) (λ is v. refl) (st .requests)) ∙ distinct-filter (λ v. v .port) (λ v. not (f v)) (st .requests) (s .loans .one-per-port)
 
-  pub older-fetched-kept : olderFetched (settled g f st) ≡ true
+  pub older-fetched-kept : olderFetched (settled g f st .requests) ≡ true
   unfolding olderFetched settled
-  older-fetched-kept = older-fetched-remain f g (st .requests) (s .older-fetched)
+  older-fetched-kept = older-fetched-remain f g (st .requests) (s .holders .older-fetched)
 
-  pub ports-stand-kept : Closed g f st → portsStand (settled g f st) ≡ true
+  pub ports-stand-kept : Closed g f st → portsStand (settled g f st .rows) (settled g f st .requests) ≡ true
   unfolding portsStand portStands settled trimmed withPlace
-  ports-stand-kept c = all-remaining f g (portStands (st .rows)) (portStands (settled g f st .rows)) at-request (st .requests) (s .ports-stand)
+  ports-stand-kept c = all-remaining f g (portStands (st .rows)) (portStands (settled g f st .rows)) at-request (st .requests) (s .loans .ports-stand)
     where
       at-request : (vs : List Request) (v : Request) → f v ≡ false → portStands (st .rows) v ≡ true → portStands (settled g f st .rows) (trimmed f g vs v) ≡ true
       at-request vs v q e =
@@ -124,10 +124,10 @@ module _ (g : List ℕ) (f : Request → Bool) (st : State) (s : Sound st) where
           ap (λ r. isClient (r .kind)) (row-after g f st (v .port) (c .port-stays v q)) ∙ returned-keeps (λ r. isClient (r .kind)) (λ p r. refl) f (st .requests) (rowOf (st .rows) (v .port)) in
           ap (λ b. b && ltb (suc (v .port)) (v .number)) k ∙ e
 
-  pub items-lent-kept : itemsLent (settled g f st) ≡ true
+  pub items-lent-kept : itemsLent (settled g f st .rows) (settled g f st .requests) ≡ true
   unfolding itemsLent mayBeListed settled trimmed trim withPlace leaves
   items-lent-kept =
-      all-remaining f g (λ v. all (λ e. mayBeListed v (rowOf (st .rows) e)) (nonzero (v .items))) (λ v. all (λ e. mayBeListed v (rowOf (settled g f st .rows) e)) (nonzero (v .items))) at-request (st .requests) (s .items-lent)
+      all-remaining f g (λ v. all (λ e. mayBeListed v (rowOf (st .rows) e)) (nonzero (v .items))) (λ v. all (λ e. mayBeListed v (rowOf (settled g f st .rows) e)) (nonzero (v .items))) at-request (st .requests) (s .loans .items-lent)
     where
       at-item : (vs : List Request) (v : Request) → all (λ e. mayBeListed v (rowOf (st .rows) e)) (nonzero (v .items)) ≡ true → (e : ℕ) → member e (nonzero (trim (leaves f g vs) (v .items))) ≡ true
           → mayBeListed v (rowOf (settled g f st .rows) e) ≡ true

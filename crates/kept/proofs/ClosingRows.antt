@@ -31,40 +31,40 @@ use Rattle.kept.proofs.ClosingPlaces.{listed-end, no-end-same, node-kep
 
 -- ---- ranges, sizes
 module _ (g : List ℕ) (f : Request → Bool) (st : State) (s : Sound st) where
-  pub objects-in-range-kept : objectsInRange (settled g f st) ≡ true
+  pub objects-in-range-kept : objectsInRange (settled g f st .processes) (settled g f st .rows) ≡ true
   unfolding objectsInRange objectInRange withPlace
   objects-in-range-kept =
-      unfold settled in all-left g f st (objectInRange (st .processes)) (objectInRange (map (homed g) (st .processes))) (s .rows-rise)
-      (λ n t k e. returned-keeps (objectInRange (map (homed g) (st .processes))) (λ p r. refl) f (st .requests) (rowOf (st .rows) n) ∙ listed (rowOf (st .rows) n) e) (s .objects-in-range)
+      unfold settled in all-left g f st (objectInRange (st .processes)) (objectInRange (map (homed g) (st .processes))) (s .numbers .rows-rise)
+      (λ n t k e. returned-keeps (objectInRange (map (homed g) (st .processes))) (λ p r. refl) f (st .requests) (rowOf (st .rows) n) ∙ listed (rowOf (st .rows) n) e) (s .rows .objects-in-range)
     where
       listed : (r : Row) → objectInRange (st .processes) r ≡ true → objectInRange (map (homed g) (st .processes)) r ≡ true
       listed r e = rw (listed-kept g (st .processes) (r .object)) e
 
-  pub rights-in-range-kept : rightsInRange (settled g f st) ≡ true
+  pub rights-in-range-kept : rightsInRange (settled g f st .rows) ≡ true
   unfolding rightsInRange rightInRange withPlace
   rights-in-range-kept =
-      all-left g f st rightInRange rightInRange (s .rows-rise) (λ n t k e. returned-keeps rightInRange (λ p r. refl) f (st .requests) (rowOf (st .rows) n) ∙ e) (s .rights-in-range)
+      all-left g f st rightInRange rightInRange (s .numbers .rows-rise) (λ n t k e. returned-keeps rightInRange (λ p r. refl) f (st .requests) (rowOf (st .rows) n) ∙ e) (s .rows .rights-in-range)
 
-  pub rows-fit-kept : rowsFit (settled g f st) ≡ true
+  pub rows-fit-kept : rowsFit (settled g f st .rows) ≡ true
   unfolding rowsFit settled
   rows-fit-kept =
       let left : List Row = filter (λ r. not (member (r .number) g)) (st .rows) in
-      let a : length (st .rows) ≤ rowSlots = leb-true (length (st .rows)) rowSlots (s .rows-fit) in
+      let a : length (st .rows) ≤ rowSlots = leb-true (length (st .rows)) rowSlots (s .numbers .rows-fit) in
       let b : length left ≤ length (st .rows) = length-filter (λ r. not (member (r .number) g)) (st .rows) in
       let d : length (map (returned f (st .requests)) left) ≡ length left = length-map left (returned f (st .requests)) in
       le-leb (length (map (returned f (st .requests)) left)) rowSlots (omega arith)
 
-  pub below-next-kept : belowNext (settled g f st) ≡ true
+  pub below-next-kept : belowNext (settled g f st .next) (settled g f st .rows) (settled g f st .requests) ≡ true
   unfolding belowNext rowsRise requestsRise numbers
   below-next-kept =
       unfold settled in and-i _ _ (lt-ltb (topOf (λ r. r .number) (settled g f st .rows)) (st .next) (rows (top-member (λ r. r .number) (settled g f st .rows))))
       (lt-ltb (topOf (λ v. v .number) (remaining f g (st .requests))) (st .next) (requests (top-member (λ v. v .number) (remaining f g (st .requests)))))
     where
       rows-below : topOf (λ r. r .number) (st .rows) < st .next
-      rows-below = ltb-true _ _ (and-l (ltb (topOf (λ r. r .number) (st .rows)) (st .next)) (ltb (topOf (λ v. v .number) (st .requests)) (st .next)) (s .below-next))
+      rows-below = ltb-true _ _ (and-l (ltb (topOf (λ r. r .number) (st .rows)) (st .next)) (ltb (topOf (λ v. v .number) (st .requests)) (st .next)) (s .numbers .below-next))
 
       requests-below : topOf (λ v. v .number) (st .requests) < st .next
-      requests-below = ltb-true _ _ (and-r (ltb (topOf (λ r. r .number) (st .rows)) (st .next)) (ltb (topOf (λ v. v .number) (st .requests)) (st .next)) (s .below-next))
+      requests-below = ltb-true _ _ (and-r (ltb (topOf (λ r. r .number) (st .rows)) (st .next)) (ltb (topOf (λ v. v .number) (st .requests)) (st .next)) (s .numbers .below-next))
 
       below : (m n k : ℕ) → n < k → (m ≡ 0) ⊎ (m ≤ n) → m < k
       below m n k h (inl z) = omega arith
@@ -72,12 +72,12 @@ module _ (g : List ℕ) (f : Request → Bool) (st : State) (s : Sound st) where
 
       rows : (topOf (λ r. r .number) (settled g f st .rows) ≡ 0) ⊎ Stands (settled g f st) (topOf (λ r. r .number) (settled g f st .rows)) → topOf (λ r. r .number) (settled g f st .rows) < st .next
       rows (inl z) = below _ _ _ rows-below (inl z)
-      rows (inr t) = below _ _ _ rows-below (inr (rises-range (λ r. r .number) (st .rows) (s .rows-rise) _ (left-stood g f st _ t) .1))
+      rows (inr t) = below _ _ _ rows-below (inr (rises-range (λ r. r .number) (st .rows) (s .numbers .rows-rise) _ (left-stood g f st _ t) .1))
 
       requests : (topOf (λ v. v .number) (remaining f g (st .requests)) ≡ 0) ⊎ (member (topOf (λ v. v .number) (remaining f g (st .requests))) (map (λ v. v .number) (remaining f g (st .requests))) ≡ true)
           → topOf (λ v. v .number) (remaining f g (st .requests)) < st .next
       requests (inl z) = below _ _ _ requests-below (inl z)
-      requests (inr t) = below _ _ _ requests-below (inr (rises-range (λ v. v .number) (st .requests) (s .requests-rise) _ (remaining-known f g (st .requests) _ t) .1))
+      requests (inr t) = below _ _ _ requests-below (inr (rises-range (λ v. v .number) (st .requests) (s .numbers .requests-rise) _ (remaining-known f g (st .requests) _ t) .1))
 
 -- ---- what a row says of its sources says the same where they are found alike
 same-right : (vs ws : List Request) (r : Row) (rs ss : List Row) → rowOf rs (r .source) .kind ≡ rowOf ss (r .source) .kind → isNode (rowOf rs (r .source) .place) ≡ isNode (rowOf ss (r .source) .place)
@@ -107,7 +107,7 @@ module _ (g : List ℕ) (f : Request → Bool) (st : State) (s : Sound st) (c : 
       → F (rowOf (after n) m) ≡ F (rowOf (before n) m)
   unfolding before after
   field F h n m t k lt j =
-      ap F (older-after g f st (s .rows-rise) n m t k lt j) ∙ returned-keeps F h f (st .requests) (rowOf (st .rows) m) ∙ ap F (sym (older-before g f st (s .rows-rise) n m t lt))
+      ap F (older-after g f st (s .numbers .rows-rise) n m t k lt j) ∙ returned-keeps F h f (st .requests) (rowOf (st .rows) m) ∙ ap F (sym (older-before g f st (s .numbers .rows-rise) n m t lt))
 
   of-source : {B : Type 0} (F : Row → B) → ((p : ℕ) (r : Row) → F (withPlace p r) ≡ F r) → (n : ℕ) → Stands st n → member n g ≡ false
       → F (rowOf (after n) (rowOf (st .rows) n .source)) ≡ F (rowOf (before n) (rowOf (st .rows) n .source))
@@ -117,21 +117,21 @@ module _ (g : List ℕ) (f : Request → Bool) (st : State) (s : Sound st) (c : 
       → F (rowOf (after n) (rowOf (st .rows) n .via)) ≡ F (rowOf (before n) (rowOf (st .rows) n .via))
   of-via F h n t k = field F h n (rowOf (st .rows) n .via) t k (via-lower st s n t) (c .via-stays n t k)
 
-  pub depths-right-kept : depthsRight (settled g f st) ≡ true
+  pub depths-right-kept : depthsRight (settled g f st .rows) ≡ true
   unfolding depthsRight depthRight withPlace before after
   depths-right-kept =
-      each-left g f st depthRight depthRight (s .rows-rise)
+      each-left g f st depthRight depthRight (s .numbers .rows-rise)
       (λ n t k e. returned-keeps (λ r. depthRight r (after n)) (λ p r. refl) f (st .requests) (rowOf (st .rows) n)
       ∙ same-depth (rowOf (st .rows) n) (after n) (before n) (of-source (λ r. r .depth) (λ p r. refl) n t k) (of-via (λ r. r .depth) (λ p r. refl) n t k) ∙ e)
-      (s .depths-right)
+      (s .rows .depths-right)
 
-  pub copies-match-kept : copiesMatch (settled g f st) ≡ true
+  pub copies-match-kept : copiesMatch (settled g f st .rows) ≡ true
   unfolding copiesMatch copyMatches withPlace before after
   copies-match-kept =
-      each-left g f st copyMatches copyMatches (s .rows-rise)
+      each-left g f st copyMatches copyMatches (s .numbers .rows-rise)
       (λ n t k e. returned-keeps (λ r. copyMatches r (after n)) (λ p r. refl) f (st .requests) (rowOf (st .rows) n)
       ∙ same-copy (rowOf (st .rows) n) (after n) (before n) (of-source (λ r. r .kind) (λ p r. refl) n t k) (of-source (λ r. r .object) (λ p r. refl) n t k) (of-source (λ r. r .operation) (λ p r. refl) n t k) (of-source (λ r. r .rights) (λ p r. refl) n t k) ∙ e)
-      (s .copies-match)
+      (s .rows .copies-match)
 
   -- ---- the request that a row bears
   request-open : (n : ℕ) → Stands st n → some (rowOf (st .rows) n .request) ≡ true → IsOpen st (rowOf (st .rows) n .request)
@@ -142,7 +142,7 @@ module _ (g : List ℕ) (f : Request → Bool) (st : State) (s : Sound st) (c : 
       → requestOf (remaining f g (st .requests)) (rowOf (st .rows) n .request)
       ≡ trimmed f g (olderOf (λ v. v .number) (st .requests) (rowOf (st .rows) n .request)) (requestOf (st .requests) (rowOf (st .rows) n .request))
   unfolding requestsRise
-  request-left n t k h = request-after f g (st .requests) (s .requests-rise) (rowOf (st .rows) n .request) (request-open n t h) (c .request-stays n t k h)
+  request-left n t k h = request-after f g (st .requests) (s .numbers .requests-rise) (rowOf (st .rows) n .request) (request-open n t h) (c .request-stays n t k h)
 
   -- no request has the number 0
   none-zero : (vs : List Request) → rises (λ v. v .number) vs ≡ true → (q : ℕ) → some q ≡ false → requestOf vs q ≡ noRequest
@@ -153,7 +153,7 @@ module _ (g : List ℕ) (f : Request → Bool) (st : State) (s : Sound st) (c : 
   unfolding requestsRise trimmed
   port-same n t k =
       ⊎-elim (λ h. ap (λ v. v .port) (request-left n t k h))
-      (λ h. ap (λ v. v .port) (none-zero (remaining f g (st .requests)) (remaining-rises f g (st .requests) (s .requests-rise)) (rowOf (st .rows) n .request) h ∙ sym (none-zero (st .requests) (s .requests-rise) (rowOf (st .rows) n .request) h)))
+      (λ h. ap (λ v. v .port) (none-zero (remaining f g (st .requests)) (remaining-rises f g (st .requests) (s .numbers .requests-rise)) (rowOf (st .rows) n .request) h ∙ sym (none-zero (st .requests) (s .numbers .requests-rise) (rowOf (st .rows) n .request) h)))
       (true-or-false (some (rowOf (st .rows) n .request)))
 
   -- ---- "Sources are standing, of the kind above and older"
@@ -167,8 +167,8 @@ module _ (g : List ℕ) (f : Request → Bool) (st : State) (s : Sound st) (c : 
 
       node : isNode (rowOf (after n) m .place) ≡ isNode (rowOf (before n) m .place)
       node =
-          ap (λ r. isNode (r .place)) (older-after g f st (s .rows-rise) n m t k (source-lower st s n t) (c .source-stays n t k)) ∙ node-kept g f st s c m (c .source-stays n t k)
-          ∙ ap (λ r. isNode (r .place)) (sym (older-before g f st (s .rows-rise) n m t (source-lower st s n t)))
+          ap (λ r. isNode (r .place)) (older-after g f st (s .numbers .rows-rise) n m t k (source-lower st s n t) (c .source-stays n t k)) ∙ node-kept g f st s c m (c .source-stays n t k)
+          ∙ ap (λ r. isNode (r .place)) (sym (older-before g f st (s .numbers .rows-rise) n m t (source-lower st s n t)))
 
   -- of an end, which may be moved
   moved-right : (n : ℕ) → Stands st n → member n g ≡ false → isPortEnd (before n) (rowOf (st .rows) n) ≡ true → isPortEnd (after n) (returned f (st .requests) (rowOf (st .rows) n)) ≡ true
@@ -184,9 +184,9 @@ module _ (g : List ℕ) (f : Request → Bool) (st : State) (s : Sound st) (c : 
       fits : Row → Bool → Bool → Bool
       fits x node op = isEnd (x .kind) && (not node && (op && (eqb (x .via) 0 && eqb (x .request) 0)))
 
-  pub sources-right-kept : sourcesRight (settled g f st) ≡ true
+  pub sources-right-kept : sourcesRight (settled g f st .requests) (settled g f st .rows) ≡ true
   unfolding sourcesRight before after
-  sources-right-kept = unfold settled in each-left g f st (sourceRight (st .requests)) (sourceRight (remaining f g (st .requests))) (s .rows-rise) at-row (s .sources-right)
+  sources-right-kept = unfold settled in each-left g f st (sourceRight (st .requests)) (sourceRight (remaining f g (st .requests))) (s .numbers .rows-rise) at-row (s .rows .sources-right)
     where
       port-end-right : (vs : List Request) (rs : List Row) (r : Row) → isPortEnd rs r ≡ true → sourceRight vs r rs ≡ true
       port-end-right vs rs r e = unfold sourceRight in or-r (isOpening r) _ (or-r (isRegistered rs r) _ (or-r (isHeld rs r) _ (or-l (isPortEnd rs r) (isLentCopy vs rs r) e)))
@@ -198,9 +198,9 @@ module _ (g : List ℕ) (f : Request → Bool) (st : State) (s : Sound st) (c : 
           (true-or-false (isEnd (rowOf (st .rows) n .kind)))
 
   -- ---- "Ends stand in pairs."
-  pub ends-paired-kept : endsPaired (settled g f st) ≡ true
+  pub ends-paired-kept : endsPaired (settled g f st .rows) ≡ true
   unfolding endsPaired endPaired isPairedWith otherEnd withPlace
-  ends-paired-kept = all-left g f st (endPaired (st .rows)) (endPaired (settled g f st .rows)) (s .rows-rise) at-row (s .ends-paired)
+  ends-paired-kept = all-left g f st (endPaired (st .rows)) (endPaired (settled g f st .rows)) (s .numbers .rows-rise) at-row (s .rows .ends-paired)
     where
       at-row : (n : ℕ) → Stands st n → member n g ≡ false → endPaired (st .rows) (rowOf (st .rows) n) ≡ true → endPaired (settled g f st .rows) (returned f (st .requests) (rowOf (st .rows) n)) ≡ true
       at-row n t k e = returned-keeps (endPaired (settled g f st .rows)) (λ p r. refl) f (st .requests) r ∙ pick (isEnd (r .kind)) refl e
@@ -233,9 +233,9 @@ module _ (g : List ℕ) (f : Request → Bool) (st : State) (s : Sound st) (c : 
       stays : leaves f g older n ≡ false
       stays = ap (λ b. b || listedIn f older n) k ∙ unlisted
 
-  pub copies-listed-kept : copiesListed (settled g f st) ≡ true
+  pub copies-listed-kept : copiesListed (settled g f st .requests) (settled g f st .rows) ≡ true
   unfolding copiesListed copyListed withPlace
-  copies-listed-kept = unfold settled in all-left g f st (copyListed (st .requests)) (copyListed (remaining f g (st .requests))) (s .rows-rise) at-row (s .copies-listed)
+  copies-listed-kept = unfold settled in all-left g f st (copyListed (st .requests)) (copyListed (remaining f g (st .requests))) (s .numbers .rows-rise) at-row (s .loans .copies-listed)
     where
       not-zero-positive : (q : ℕ) → (q ≡ 0 → ⊥) → 0 < q
       not-zero-positive q h = omega arith

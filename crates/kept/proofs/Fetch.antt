@@ -55,7 +55,7 @@ module _ (st : State) (s : Sound st) (p : ℕ) (v : Request) (found : requestOf 
   awaited : (e : ℕ) → goes e ≡ true → awaitsFetch (st .requests) e ≡ true
   awaited e g =
       true-of (awaitsFetch (st .requests) e) λ a.
-      clash (of-request (λ w. isFetched w || not (lists e w)) (listers-fetched e (st .requests) (unfold olderFetched in s .older-fetched) a)) (rw (unfetched, g) refl)
+      clash (of-request (λ w. isFetched w || not (lists e w)) (listers-fetched e (st .requests) (unfold olderFetched in s .holders .older-fetched) a)) (rw (unfetched, g) refl)
 
   item : (e : ℕ) → some e && member e (v .items) ≡ true → member e (nonzero (v .items)) ≡ true
   item e q = member-nonzero (v .items) e ∙ q
@@ -63,7 +63,7 @@ module _ (st : State) (s : Sound st) (p : ℕ) (v : Request) (found : requestOf 
   may-be : (e : ℕ) → goes e ≡ true → mayBeListed v (rowOf (st .rows) e) ≡ true
   may-be e g =
       all-at (λ e. mayBeListed v (rowOf (st .rows) e)) (nonzero (v .items))
-      (of-request (λ v. all (λ e. mayBeListed v (rowOf (st .rows) e)) (nonzero (v .items))) (unfold itemsLent in s .items-lent)) e (item e (unfold lists in g))
+      (of-request (λ v. all (λ e. mayBeListed v (rowOf (st .rows) e)) (nonzero (v .items))) (unfold itemsLent in s .loans .items-lent)) e (item e (unfold lists in g))
 
   -- what goes is with the system
   system-had : (n : ℕ) → member n (numbers (st .rows)) ≡ true → goes n ≡ true → rowOf (st .rows) n .place ≡ withSystem
@@ -87,16 +87,16 @@ module _ (st : State) (s : Sound st) (p : ℕ) (v : Request) (found : requestOf 
       pick n m false g = rw (row-number (st .rows) n m, g) refl
 
   positive : 0 < v .number
-  positive = rises-range (λ v. v .number) (st .requests) (unfold requestsRise in s .requests-rise) (v .number) there .0
+  positive = rises-range (λ v. v .number) (st .requests) (unfold requestsRise in s .numbers .requests-rise) (v .number) there .0
 
   -- ---- the clauses
-  rows-rise : rowsRise after ≡ true
+  rows-rise : rowsRise (after .rows) ≡ true
   unfolding rowsRise
-  rows-rise = rises-map (λ r. r .number) (moved goes (inClist p)) (moved-number goes (inClist p)) (st .rows) ∙ s .rows-rise
+  rows-rise = rises-map (λ r. r .number) (moved goes (inClist p)) (moved-number goes (inClist p)) (st .rows) ∙ s .numbers .rows-rise
 
-  requests-rise : requestsRise after ≡ true
+  requests-rise : requestsRise (after .requests) ≡ true
   unfolding requestsRise
-  requests-rise = rises-map (λ v. v .number) (nowFetched (v .number)) (now-number (v .number)) (st .requests) ∙ s .requests-rise
+  requests-rise = rises-map (λ v. v .number) (nowFetched (v .number)) (now-number (v .number)) (st .requests) ∙ s .numbers .requests-rise
 
   numbers-same : numbers rows′ ≡ numbers (st .rows)
   unfolding numbers
@@ -108,119 +108,119 @@ module _ (st : State) (s : Sound st) (p : ℕ) (v : Request) (found : requestOf 
       → all P (st .requests) ≡ true → all P requests′ ≡ true
   requests-all P h e = all-map P (nowFetched (v .number)) (st .requests) ∙ all-eq (λ w. P (nowFetched (v .number) w)) P (now-same (v .number) P h) (st .requests) ∙ e
 
-  numbers-apart : numbersApart after ≡ true
+  numbers-apart : numbersApart (after .rows) (after .requests) ≡ true
   unfolding numbersApart
-  numbers-apart = requests-all (λ v. not (member (v .number) (numbers rows′))) (λ n c a k is. refl) (rw numbers-same (s .numbers-apart))
+  numbers-apart = requests-all (λ v. not (member (v .number) (numbers rows′))) (λ n c a k is. refl) (rw numbers-same (s .numbers .numbers-apart))
 
-  below-next : belowNext after ≡ true
+  below-next : belowNext (after .next) (after .rows) (after .requests) ≡ true
   unfolding belowNext
   below-next =
       rw (top-map (λ r. r .number) noRow (moved goes (inClist p)) (moved-number goes (inClist p)) (st .rows), top-map (λ v. v .number) noRequest (nowFetched (v .number)) (now-number (v .number)) (st .requests))
-      (s .below-next)
+      (s .numbers .below-next)
 
-  rows-fit : rowsFit after ≡ true
+  rows-fit : rowsFit (after .rows) ≡ true
   unfolding rowsFit
-  rows-fit = rw (length-map (st .rows) (moved goes (inClist p))) (s .rows-fit)
+  rows-fit = rw (length-map (st .rows) (moved goes (inClist p))) (s .numbers .rows-fit)
 
-  requests-fit : requestsFit after ≡ true
+  requests-fit : requestsFit (after .requests) ≡ true
   unfolding requestsFit
-  requests-fit = rw (length-map (st .requests) (nowFetched (v .number))) (s .requests-fit)
+  requests-fit = rw (length-map (st .requests) (nowFetched (v .number))) (s .numbers .requests-fit)
 
-  objects-in-range : objectsInRange after ≡ true
+  objects-in-range : objectsInRange (after .processes) (after .rows) ≡ true
   unfolding objectsInRange
-  objects-in-range = objects-moved goes (inClist p) none-goes (st .processes) (st .rows) ∙ s .objects-in-range
+  objects-in-range = objects-moved goes (inClist p) none-goes (st .processes) (st .rows) ∙ s .rows .objects-in-range
 
-  rights-in-range : rightsInRange after ≡ true
+  rights-in-range : rightsInRange (after .rows) ≡ true
   unfolding rightsInRange
-  rights-in-range = rights-moved goes (inClist p) none-goes (st .rows) ∙ s .rights-in-range
+  rights-in-range = rights-moved goes (inClist p) none-goes (st .rows) ∙ s .rows .rights-in-range
 
-  places-in-range : placesInRange after ≡ true
+  places-in-range : placesInRange (after .processes) (after .rows) ≡ true
   unfolding placesInRange
   places-in-range =
       all-map (placeInRange (st .processes)) (moved goes (inClist p)) (st .rows)
-      ∙ all-mono (placeInRange (st .processes)) (λ r. placeInRange (st .processes) (moved goes (inClist p) r)) (λ r e. unfold moved in pick r (goes (r .number)) e) (st .rows) (s .places-in-range)
+      ∙ all-mono (placeInRange (st .processes)) (λ r. placeInRange (st .processes) (moved goes (inClist p) r)) (λ r e. unfold moved in pick r (goes (r .number)) e) (st .rows) (s .rows .places-in-range)
     where
       pick : (r : Row) (b : Bool) → placeInRange (st .processes) r ≡ true → placeInRange (st .processes) (cond b (withPlace (inClist p) r) r) ≡ true
       pick r true e = clist-in-range st s p listed (withPlace (inClist p) r) (unfold withPlace in refl)
       pick r false e = e
 
-  fetched-in-range : fetchedInRange after ≡ true
+  fetched-in-range : fetchedInRange (after .requests) ≡ true
   unfolding fetchedInRange
   fetched-in-range =
       all-map (λ v. leb (v .fetched) 1) (nowFetched (v .number)) (st .requests)
-      ∙ all-mono (λ v. leb (v .fetched) 1) (λ w. leb (nowFetched (v .number) w .fetched) 1) (λ w e. unfold nowFetched in pick w (eqb (w .number) (v .number)) e) (st .requests) (s .fetched-in-range)
+      ∙ all-mono (λ v. leb (v .fetched) 1) (λ w. leb (nowFetched (v .number) w .fetched) 1) (λ w e. unfold nowFetched in pick w (eqb (w .number) (v .number)) e) (st .requests) (s .loans .fetched-in-range)
     where
       pick : (w : Request) (b : Bool) → leb (w .fetched) 1 ≡ true → leb ((cond b (record { number = w .number; port = w .port; asker = w .asker; fetched = 1; items = w .items }) w) .fetched) 1 ≡ true
       pick w true e = refl
       pick w false e = e
 
-  sources-right : sourcesRight after ≡ true
+  sources-right : sourcesRight (after .requests) (after .rows) ≡ true
   unfolding sourcesRight
   sources-right =
       sources-moved goes (inClist p) none-goes (clist-not-node p) (st .requests) requests′ (st .rows) may-move
       (λ r _. ap (λ w. w .port) (request-now (v .number) (st .requests) (r .request) positive) ∙ now-same (v .number) (λ w. w .port) (λ n c a k is. refl) (requestOf (st .requests) (r .request)))
-      (unfold copiesListed in s .copies-listed) (s .sources-right)
+      (unfold copiesListed in s .loans .copies-listed) (s .rows .sources-right)
 
-  depths-right : depthsRight after ≡ true
+  depths-right : depthsRight (after .rows) ≡ true
   unfolding depthsRight
-  depths-right = depths-moved goes (inClist p) none-goes (st .rows) ∙ s .depths-right
+  depths-right = depths-moved goes (inClist p) none-goes (st .rows) ∙ s .rows .depths-right
 
-  copies-match : copiesMatch after ≡ true
+  copies-match : copiesMatch (after .rows) ≡ true
   unfolding copiesMatch
-  copies-match = copies-moved goes (inClist p) none-goes (st .rows) ∙ s .copies-match
+  copies-match = copies-moved goes (inClist p) none-goes (st .rows) ∙ s .rows .copies-match
 
-  ends-paired : endsPaired after ≡ true
+  ends-paired : endsPaired (after .rows) ≡ true
   unfolding endsPaired
   ends-paired =
       all-map (endPaired rows′) (moved goes (inClist p)) (st .rows)
       ∙ all-eq (λ r. endPaired rows′ (moved goes (inClist p) r)) (endPaired (st .rows)) (paired-moved goes (inClist p) none-goes (st .rows)) (st .rows)
-      ∙ s .ends-paired
+      ∙ s .rows .ends-paired
 
-  ports-stand : portsStand after ≡ true
+  ports-stand : portsStand (after .rows) (after .requests) ≡ true
   unfolding portsStand
   ports-stand =
       requests-all (portStands rows′) (λ n c a k is. unfold portStands in refl)
-      (all-eq (portStands rows′) (portStands (st .rows)) (ports-moved goes (inClist p) none-goes (st .rows)) (st .requests) ∙ s .ports-stand)
+      (all-eq (portStands rows′) (portStands (st .rows)) (ports-moved goes (inClist p) none-goes (st .rows)) (st .requests) ∙ s .loans .ports-stand)
 
-  requesters-listed : requestersListed after ≡ true
+  requesters-listed : requestersListed (after .processes) (after .requests) ≡ true
   unfolding requestersListed
-  requesters-listed = requests-all (λ v. isListed (st .processes) (v .asker)) (λ n c a k is. refl) (s .requesters-listed)
+  requesters-listed = requests-all (λ v. isListed (st .processes) (v .asker)) (λ n c a k is. refl) (s .loans .requesters-listed)
 
-  items-few : itemsFew after ≡ true
+  items-few : itemsFew (after .requests) ≡ true
   unfolding itemsFew
-  items-few = requests-all (λ v. eqb (length (v .items)) mostItems) (λ n c a k is. refl) (s .items-few)
+  items-few = requests-all (λ v. eqb (length (v .items)) mostItems) (λ n c a k is. refl) (s .loans .items-few)
 
-  items-apart : itemsApart after ≡ true
+  items-apart : itemsApart (after .requests) ≡ true
   unfolding itemsApart
-  items-apart = requests-all (λ v. distinct (nonzero (v .items))) (λ n c a k is. refl) (s .items-apart)
+  items-apart = requests-all (λ v. distinct (nonzero (v .items))) (λ n c a k is. refl) (s .loans .items-apart)
 
-  items-lent : itemsLent after ≡ true
+  items-lent : itemsLent (after .rows) (after .requests) ≡ true
   unfolding itemsLent
   items-lent =
       requests-all (λ v. all (λ e. mayBeListed v (rowOf rows′ e)) (nonzero (v .items))) (λ n c a k is. unfold mayBeListed in refl)
       (all-eq (λ v. all (λ e. mayBeListed v (rowOf rows′ e)) (nonzero (v .items))) (λ v. all (λ e. mayBeListed v (rowOf (st .rows) e)) (nonzero (v .items)))
       (λ w. all-eq (λ e. mayBeListed w (rowOf rows′ e)) (λ e. mayBeListed w (rowOf (st .rows) e)) (listed-moved goes (inClist p) none-goes (st .rows) w) (nonzero (w .items))) (st .requests)
-      ∙ s .items-lent)
+      ∙ s .loans .items-lent)
 
-  one-per-port : onePerPort after ≡ true
+  one-per-port : onePerPort (after .requests) ≡ true
   unfolding onePerPort
-  one-per-port = ap distinct (keys-map (λ v. v .port) (nowFetched (v .number)) (now-same (v .number) (λ w. w .port) (λ n c a k is. refl)) (st .requests)) ∙ s .one-per-port
+  one-per-port = ap distinct (keys-map (λ v. v .port) (nowFetched (v .number)) (now-same (v .number) (λ w. w .port) (λ n c a k is. refl)) (st .requests)) ∙ s .loans .one-per-port
 
-  copies-listed : copiesListed after ≡ true
+  copies-listed : copiesListed (after .requests) (after .rows) ≡ true
   unfolding copiesListed
   copies-listed =
       all-map (copyListed requests′) (moved goes (inClist p)) (st .rows)
       ∙ all-eq (λ r. copyListed requests′ (moved goes (inClist p) r)) (copyListed (st .requests)) step (st .rows)
-      ∙ s .copies-listed
+      ∙ s .loans .copies-listed
     where
       step : (r : Row) → copyListed requests′ (moved goes (inClist p) r) ≡ copyListed (st .requests) r
       step r =
           moved-same goes (inClist p) (copyListed requests′) (λ r. unfold copyListed withPlace in refl) r
           ∙ (unfold copyListed in rw (request-now (v .number) (st .requests) (r .request) positive, now-lists (v .number) (r .number) (requestOf (st .requests) (r .request))) refl)
 
-  older-fetched : olderFetched after ≡ true
+  older-fetched : olderFetched (after .requests) ≡ true
   unfolding olderFetched
-  older-fetched = each-map (λ w. true) olderFetchedBy olderFetchedBy (nowFetched (v .number)) (λ w ws _ _ e. step w ws e) (st .requests) (every (st .requests)) (s .older-fetched)
+  older-fetched = each-map (λ w. true) olderFetchedBy olderFetchedBy (nowFetched (v .number)) (λ w ws _ _ e. step w ws e) (st .requests) (every (st .requests)) (s .holders .older-fetched)
     where
       every : (ws : List Request) → all (λ w. true) ws ≡ true
       every ws = unfold all in elim ws [ [] ↦ refl | (w ∷ (ws → ih)) ↦ ih ]
@@ -249,7 +249,7 @@ module _ (st : State) (s : Sound st) (p : ℕ) (v : Request) (found : requestOf 
           (λ u. isFetched (nowFetched (v .number) u) || not (any (λ e. lists e (nowFetched (v .number) u)) (nowFetched (v .number) w .items)))
           (λ u q. rw (shares w u) (still u (not (any (λ e. lists e u) (w .items))) q)) ws e
 
-  system-holds : systemHolds after ≡ true
+  system-holds : systemHolds (after .requests) (after .rows) ≡ true
   unfolding systemHolds
   system-holds =
       all-map (λ r. same (isSystem (r .place)) (awaitsFetch requests′ (r .number))) (moved goes (inClist p)) (st .rows)
@@ -263,12 +263,12 @@ module _ (st : State) (s : Sound st) (p : ℕ) (v : Request) (found : requestOf 
           ∙ clist-not-system st s p listed
           ∙ sym
           (ap (awaitsFetch requests′) (moved-number goes (inClist p) (rowOf (st .rows) n) ∙ row-number (st .rows) n m)
-          ∙ fetched-now (v .number) n (st .requests) (unfold olderFetched in s .older-fetched) there (rw found unfetched) (rw found g)))
+          ∙ fetched-now (v .number) n (st .requests) (unfold olderFetched in s .holders .older-fetched) there (rw found unfetched) (rw found g)))
       pick n m false g =
           rw (moved-stays goes (inClist p) (rowOf (st .rows) n) (ap goes (row-number (st .rows) n m) ∙ g))
-          (rw (row-number (st .rows) n m, awaits-same (v .number) n (st .requests) (unfold requestsRise in s .requests-rise) (rw found g)) (held-so st s n m))
+          (rw (row-number (st .rows) n m, awaits-same (v .number) n (st .requests) (unfold requestsRise in s .numbers .requests-rise) (rw found g)) (held-so st s n m))
 
-  processes-placed : processesPlaced after ≡ true
+  processes-placed : processesPlaced (after .rows) (after .processes) ≡ true
   unfolding processesPlaced
   processes-placed =
       placed-still st s rows′ (λ e k hi sub at. row-moved goes (inClist p) none-goes (st .rows) e ∙ stays e k hi sub at)
@@ -283,33 +283,48 @@ module _ (st : State) (s : Sound st) (p : ℕ) (v : Request) (found : requestOf 
   fetched-sound : Sound after
   fetched-sound =
       record {
-        rows-rise = rows-rise;
-        requests-rise = requests-rise;
-        numbers-apart = numbers-apart;
-        below-next = below-next;
-        next-in-range = unfold nextInRange in s .next-in-range;
-        rows-fit = rows-fit;
-        requests-fit = requests-fit;
-        records-fit = unfold recordsFit in s .records-fit;
-        objects-in-range = objects-in-range;
-        rights-in-range = rights-in-range;
-        places-in-range = places-in-range;
-        fetched-in-range = fetched-in-range;
-        sources-right = sources-right;
-        depths-right = depths-right;
-        copies-match = copies-match;
-        records-in-range = unfold recordsInRange in s .records-in-range;
-        ends-paired = ends-paired;
-        ports-stand = ports-stand;
-        requesters-listed = requesters-listed;
-        items-few = items-few;
-        items-apart = items-apart;
-        items-lent = items-lent;
-        one-per-port = one-per-port;
-        copies-listed = copies-listed;
-        older-fetched = older-fetched;
-        system-holds = system-holds;
-        processes-placed = processes-placed;
+        numbers =
+            record {
+              rows-rise = rows-rise;
+              requests-rise = requests-rise;
+              numbers-apart = numbers-apart;
+              below-next = below-next;
+              next-in-range = unfold nextInRange in s .numbers .next-in-range;
+              rows-fit = rows-fit;
+              requests-fit = requests-fit;
+            };
+        rows =
+            record {
+              objects-in-range = objects-in-range;
+              rights-in-range = rights-in-range;
+              places-in-range = places-in-range;
+              sources-right = sources-right;
+              depths-right = depths-right;
+              copies-match = copies-match;
+              ends-paired = ends-paired;
+            };
+        loans =
+            record {
+              fetched-in-range = fetched-in-range;
+              ports-stand = ports-stand;
+              requesters-listed = requesters-listed;
+              items-few = items-few;
+              items-apart = items-apart;
+              items-lent = items-lent;
+              one-per-port = one-per-port;
+              copies-listed = copies-listed;
+            };
+        holders =
+            record {
+              older-fetched = older-fetched;
+              system-holds = system-holds;
+            };
+        placed =
+            record {
+              records-fit = unfold recordsFit in s .placed .records-fit;
+              records-in-range = unfold recordsInRange in s .placed .records-in-range;
+              processes-placed = processes-placed;
+            };
       }
 
 -- the request open on a port is found by its number
@@ -334,4 +349,4 @@ pub fetch-kept : (st : State) → Sound st → (p e : ℕ) → FetchAllowed st p
 unfolding handedOver handedTo moved requestsRise
 fetch-kept st s p e a =
     let t = a .serves .asked in
-    fetched-sound st s p (askedOf st e) (asked-found st (s .requests-rise) e t) (asked-there st e t) (a .unfetched) (a .serves .caller)
+    fetched-sound st s p (askedOf st e) (asked-found st (s .numbers .requests-rise) e t) (asked-there st e t) (a .unfetched) (a .serves .caller)

@@ -67,35 +67,50 @@ module _ (st : State) (s : Sound st) (p : ℕ) (l : isListed (st .processes) p �
       let qs = set ps (p - 1) x in
       let (lo, hi) = listed-range st s p l in
       record {
-        rows-rise = s .rows-rise;
-        requests-rise = s .requests-rise;
-        numbers-apart = s .numbers-apart;
-        below-next = s .below-next;
-        next-in-range = s .next-in-range;
-        rows-fit = s .rows-fit;
-        requests-fit = s .requests-fit;
-        records-fit = rw (length-set ps (p - 1) x) (s .records-fit);
-        objects-in-range = all-eq (objectInRange qs) (objectInRange ps) (object-same ps qs listed-set) (st .rows) ∙ s .objects-in-range;
-        rights-in-range = s .rights-in-range;
-        places-in-range = all-eq (placeInRange qs) (placeInRange ps) (place-same ps qs listed-set) (st .rows) ∙ s .places-in-range;
-        fetched-in-range = s .fetched-in-range;
-        sources-right = s .sources-right;
-        depths-right = s .depths-right;
-        copies-match = s .copies-match;
-        records-in-range =
-            all-set recordInRange ps (p - 1) x (s .records-in-range)
-            (or-r (recordUnused x) _ (and-i (between 1 nodes (x .prime)) (between 1 nodes (x .active)) (ap isNode e ∙ prime-node st s p l) n));
-        ends-paired = s .ends-paired;
-        ports-stand = s .ports-stand;
-        requesters-listed = all-eq (λ v. isListed qs (v .asker)) (λ v. isListed ps (v .asker)) (λ v. listed-set (v .asker)) (st .requests) ∙ s .requesters-listed;
-        items-few = s .items-few;
-        items-apart = s .items-apart;
-        items-lent = s .items-lent;
-        one-per-port = s .one-per-port;
-        copies-listed = s .copies-listed;
-        older-fetched = s .older-fetched;
-        system-holds = s .system-holds;
-        processes-placed = placed-set (st .rows) ps 1 (p - 1) p x (omega arith) (s .processes-placed) h;
+        numbers =
+            record {
+              rows-rise = s .numbers .rows-rise;
+              requests-rise = s .numbers .requests-rise;
+              numbers-apart = s .numbers .numbers-apart;
+              below-next = s .numbers .below-next;
+              next-in-range = s .numbers .next-in-range;
+              rows-fit = s .numbers .rows-fit;
+              requests-fit = s .numbers .requests-fit;
+            };
+        rows =
+            record {
+              objects-in-range = all-eq (objectInRange qs) (objectInRange ps) (object-same ps qs listed-set) (st .rows) ∙ s .rows .objects-in-range;
+              rights-in-range = s .rows .rights-in-range;
+              places-in-range = all-eq (placeInRange qs) (placeInRange ps) (place-same ps qs listed-set) (st .rows) ∙ s .rows .places-in-range;
+              sources-right = s .rows .sources-right;
+              depths-right = s .rows .depths-right;
+              copies-match = s .rows .copies-match;
+              ends-paired = s .rows .ends-paired;
+            };
+        loans =
+            record {
+              fetched-in-range = s .loans .fetched-in-range;
+              ports-stand = s .loans .ports-stand;
+              requesters-listed = all-eq (λ v. isListed qs (v .asker)) (λ v. isListed ps (v .asker)) (λ v. listed-set (v .asker)) (st .requests) ∙ s .loans .requesters-listed;
+              items-few = s .loans .items-few;
+              items-apart = s .loans .items-apart;
+              items-lent = s .loans .items-lent;
+              one-per-port = s .loans .one-per-port;
+              copies-listed = s .loans .copies-listed;
+            };
+        holders =
+            record {
+              older-fetched = s .holders .older-fetched;
+              system-holds = s .holders .system-holds;
+            };
+        placed =
+            record {
+              records-fit = rw (length-set ps (p - 1) x) (s .placed .records-fit);
+              records-in-range =
+                  all-set recordInRange ps (p - 1) x (s .placed .records-in-range)
+                  (or-r (recordUnused x) _ (and-i (between 1 nodes (x .prime)) (between 1 nodes (x .active)) (ap isNode e ∙ prime-node st s p l) n));
+              processes-placed = placed-set (st .rows) ps 1 (p - 1) p x (omega arith) (s .placed .processes-placed) h;
+            };
       }
 
 -- ---- go

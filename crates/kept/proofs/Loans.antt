@@ -105,9 +105,9 @@ module _ (q e : ℕ) where
 module _ (st : State) (s : Sound st) where
   -- what holds of each row that can be looked up holds of all
   pub of-rows : (P : Row → Bool) → ((n : ℕ) → member n (numbers (st .rows)) ≡ true → P (rowOf (st .rows) n) ≡ true) → all P (st .rows) ≡ true
-  of-rows P h = unfold numbers rowOf in all-found (λ r. r .number) noRow P (st .rows) (unfold rowsRise in s .rows-rise) h
+  of-rows P h = unfold numbers rowOf in all-found (λ r. r .number) noRow P (st .rows) (unfold rowsRise in s .numbers .rows-rise) h
 
   pub held-so : (n : ℕ) → member n (numbers (st .rows)) ≡ true → same (isSystem (rowOf (st .rows) n .place)) (awaitsFetch (st .requests) n) ≡ true
   held-so n m =
       subst (λ k. same (isSystem (rowOf (st .rows) n .place)) (awaitsFetch (st .requests) k) ≡ true) (row-number (st .rows) n m)
-      (unfold numbers rowOf in all-first (λ r. r .number) noRow (λ r. same (isSystem (r .place)) (awaitsFetch (st .requests) (r .number))) (st .rows) n (unfold systemHolds in s .system-holds) m)
+      (unfold numbers rowOf in all-first (λ r. r .number) noRow (λ r. same (isSystem (r .place)) (awaitsFetch (st .requests) (r .number))) (st .rows) n (unfold systemHolds in s .holders .system-holds) m)

@@ -96,11 +96,11 @@ module _ (st : State) (s : Sound st) where
   -- a row that is not there is not reached
   pub reaches-none : (f : Row → Bool) (n : ℕ) → member n (numbers (st .rows)) ≡ false → reaches f (st .rows) n ≡ false
   unfolding rowsRise
-  reaches-none f n h = false-of (reaches f (st .rows) n) (λ e. clash (marked-stands f (st .rows) n (marked-reaches f (st .rows) (s .rows-rise) n ∙ e)) h)
+  reaches-none f n h = false-of (reaches f (st .rows) n) (λ e. clash (marked-stands f (st .rows) n (marked-reaches f (st .rows) (s .numbers .rows-rise) n ∙ e)) h)
 
   zero-none : member 0 (numbers (st .rows)) ≡ false
   unfolding rowsRise numbers
-  zero-none = false-of (member 0 (numbers (st .rows))) (λ e. let (lo, hi) = rises-range (λ r. r .number) (st .rows) (s .rows-rise) 0 e in omega arith)
+  zero-none = false-of (member 0 (numbers (st .rows))) (λ e. let (lo, hi) = rises-range (λ r. r .number) (st .rows) (s .numbers .rows-rise) 0 e in omega arith)
 
   reaches-zero : (f : Row → Bool) → reaches f (st .rows) 0 ≡ false
   reaches-zero f = reaches-none f 0 zero-none
@@ -112,10 +112,10 @@ module _ (st : State) (s : Sound st) where
   reaches-step f n h =
       let rs = st .rows in
       let r = rowOf rs n in
-      sym (marked-reaches f rs (s .rows-rise) n)
-      ∙ marked-closed f rs (s .rows-rise) (sources-older st s) n h
+      sym (marked-reaches f rs (s .numbers .rows-rise) n)
+      ∙ marked-closed f rs (s .numbers .rows-rise) (sources-older st s) n h
       ∙ ap (λ (b : Bool). f r || b)
-      (any-eq (λ m. member m (marked f rs)) (λ m. reaches f rs m) (marked-reaches f rs (s .rows-rise)) (sources r)
+      (any-eq (λ m. member m (marked f rs)) (λ m. reaches f rs m) (marked-reaches f rs (s .numbers .rows-rise)) (sources r)
       ∙ any-sources (λ m. reaches f rs m) (reaches-zero f) r)
 
   module _ (n : ℕ) (t : member n (numbers (st .rows)) ≡ true) where
@@ -128,19 +128,19 @@ module _ (st : State) (s : Sound st) where
         let r = rowOf (st .rows) n in
         let old = olderOf (λ r. r .number) (st .rows) n in
         let over = suc (max (rowOf old (r .source) .depth) (rowOf old (r .via) .depth)) in
-        let right : eqb (r .depth) over && leb (r .depth) 12 ≡ true = each-first (λ r. r .number) noRow depthRight (st .rows) (s .depths-right) n t in
-        let (a, b) = shape-sources (st .requests) r old (shape (st .requests) r old (each-first (λ r. r .number) noRow (sourceRight (st .requests)) (st .rows) (s .sources-right) n t)) in
+        let right : eqb (r .depth) over && leb (r .depth) 12 ≡ true = each-first (λ r. r .number) noRow depthRight (st .rows) (s .rows .depths-right) n t in
+        let (a, b) = shape-sources (st .requests) r old (shape (st .requests) r old (each-first (λ r. r .number) noRow (sourceRight (st .requests)) (st .rows) (s .rows .sources-right) n t)) in
         let same : r .depth ≡ suc (max (rowOf (st .rows) (r .source) .depth) (rowOf (st .rows) (r .via) .depth))
         = eqb-true (r .depth) over (and-l (eqb (r .depth) over) (leb (r .depth) 12) right) ∙ rw (look (r .source) a, look (r .via) b) refl in
         let most : r .depth ≤ 12 = leb-true (r .depth) 12 (and-r (eqb (r .depth) over) (leb (r .depth) 12) right) in
         (omega arith, omega arith, most)
       where
         lower : (m : ℕ) → Among (olderOf (λ r. r .number) (st .rows) n) m → m < n
-        lower m (inl z) = let (lo, hi) = rises-range (λ r. r .number) (st .rows) (s .rows-rise) n t in omega arith
-        lower m (inr u) = older-key (λ r. r .number) (st .rows) (s .rows-rise) n m t u .0
+        lower m (inl z) = let (lo, hi) = rises-range (λ r. r .number) (st .rows) (s .numbers .rows-rise) n t in omega arith
+        lower m (inr u) = older-key (λ r. r .number) (st .rows) (s .numbers .rows-rise) n m t u .0
 
         look : (m : ℕ) → Among (olderOf (λ r. r .number) (st .rows) n) m → rowOf (olderOf (λ r. r .number) (st .rows) n) m ≡ rowOf (st .rows) m
-        look m a = older-first (λ r. r .number) noRow (st .rows) (s .rows-rise) n t m (lower m a)
+        look m a = older-first (λ r. r .number) noRow (st .rows) (s .numbers .rows-rise) n t m (lower m a)
 
     -- a client end has one source, its operation row
     pub client-via : isClient (rowOf (st .rows) n .kind) ≡ true → rowOf (st .rows) n .via ≡ 0

@@ -25,14 +25,14 @@ pub record Well (st : State) : Type 0 where
   pub requests-rise : rises (λ v. v .number) (st .requests) ≡ true
   pub rows-fit : length (st .rows) ≤ 1024
   pub requests-fit : length (st .requests) ≤ 128
-  pub items-few : itemsFew st ≡ true
+  pub items-few : itemsFew (st .requests) ≡ true
   pub sources-old : sourcesOlder (st .rows) ≡ true
 
 pub well-open : (st : State) → laidWell st ≡ true → Well st
 unfolding laidWell rowsRise requestsRise rowsFit requestsFit rowSlots requestSlots
 well-open st w =
-    let a : rowsFit st ≡ true = search (and-l, and-r) in
-    let b : requestsFit st ≡ true = search (and-l, and-r) in
+    let a : rowsFit (st .rows) ≡ true = search (and-l, and-r) in
+    let b : requestsFit (st .requests) ≡ true = search (and-l, and-r) in
     record {
       rows-rise = search and-l;
       requests-rise = search (and-l, and-r);

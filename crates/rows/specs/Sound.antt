@@ -12,33 +12,32 @@ use Rattle.rows.specs.Limits.{processes, nodes, greatestOperation, allRi
 use Rattle.rows.specs.Codes.{isOperation, isSubdirectory, isClient, isServer, isEnd, isCopied, inClist, isNode, isClist, isSystem, ownerOf, within}
 use Rattle.rows.specs.Tables.{State, rowOf, requestOf, isListed, numbers, depthOver, lists}
 
--- ---- "Row and request numbers rise, are never shared and are below the next number, which is at most 1,000,001."
-unfoldable pub rowsRise : State → Bool
-rowsRise st = rises (λ r. r .number) (st .rows)
+-- ==== numbers: of the next number, rows and requests
+-- "Row and request numbers rise, are never shared and are below the next number, which is at most 1,000,001."
+unfoldable pub rowsRise : List Row → Bool
+rowsRise rows = rises (λ r. r .number) rows
 
-unfoldable pub requestsRise : State → Bool
-requestsRise st = rises (λ v. v .number) (st .requests)
+unfoldable pub requestsRise : List Request → Bool
+requestsRise requests = rises (λ v. v .number) requests
 
-unfoldable pub numbersApart : State → Bool
-numbersApart st = all (λ v. not (member (v .number) (numbers (st .rows)))) (st .requests)
+unfoldable pub numbersApart : List Row → List Request → Bool
+numbersApart rows requests = all (λ v. not (member (v .number) (numbers rows))) requests
 
-unfoldable pub belowNext : State → Bool
-belowNext st = ltb (topOf (λ r. r .number) (st .rows)) (st .next) && ltb (topOf (λ v. v .number) (st .requests)) (st .next)
+unfoldable pub belowNext : ℕ → List Row → List Request → Bool
+belowNext next rows requests = ltb (topOf (λ r. r .number) rows) next && ltb (topOf (λ v. v .number) requests) next
 
-unfoldable pub nextInRange : State → Bool
-nextInRange st = between 1 (suc greatestNumber) (st .next)
+unfoldable pub nextInRange : ℕ → Bool
+nextInRange next = between 1 (suc greatestNumber) next
 
--- "At most 1,024 rows and 128 open requests stand"; "It has 64 records"
-unfoldable pub rowsFit : State → Bool
-rowsFit st = leb (length (st .rows)) rowSlots
+-- "At most 1,024 rows and 128 open requests stand"
+unfoldable pub rowsFit : List Row → Bool
+rowsFit rows = leb (length rows) rowSlots
 
-unfoldable pub requestsFit : State → Bool
-requestsFit st = leb (length (st .requests)) requestSlots
+unfoldable pub requestsFit : List Request → Bool
+requestsFit requests = leb (length requests) requestSlots
 
-unfoldable pub recordsFit : State → Bool
-recordsFit st = eqb (length (st .processes)) processes
-
--- ---- "All fields are in range; processes that are places or managers are listed (of a node, being in range is all that is asked)."
+-- ==== rows: of rows, requests and processes
+-- "All fields are in range; processes that are places or managers are listed (of a node, being in range is all that is asked)."
 -- an operation row names a listed manager and an operation, a subdirectory row a node, an end its port; a field that a kind does not use is 0
 unfoldable pub objectInRange : List Process → Row → Bool
 objectInRange ps r =
@@ -47,26 +46,23 @@ objectInRange ps r =
     || ((isClient (r .kind) && (eqb (r .object) (r .number) && eqb (r .operation) 0))
     || (isServer (r .kind) && (eqb (suc (r .object)) (r .number) && eqb (r .operation) 0))))
 
-unfoldable pub objectsInRange : State → Bool
-objectsInRange st = all (objectInRange (st .processes)) (st .rows)
+unfoldable pub objectsInRange : List Process → List Row → Bool
+objectsInRange ps rows = all (objectInRange ps) rows
 
 -- "Ends have rights 0."
 unfoldable pub rightInRange : Row → Bool
 rightInRange r = leb (r .rights) (if isEnd (r .kind) then 0 else allRights)
 
-unfoldable pub rightsInRange : State → Bool
-rightsInRange st = all rightInRange (st .rows)
+unfoldable pub rightsInRange : List Row → Bool
+rightsInRange rows = all rightInRange rows
 
 unfoldable pub placeInRange : List Process → Row → Bool
 placeInRange ps r = isNode (r .place) || ((isClist (r .place) && isListed ps (ownerOf (r .place))) || isSystem (r .place))
 
-unfoldable pub placesInRange : State → Bool
-placesInRange st = all (placeInRange (st .processes)) (st .rows)
+unfoldable pub placesInRange : List Process → List Row → Bool
+placesInRange ps rows = all (placeInRange ps) rows
 
-unfoldable pub fetchedInRange : State → Bool
-fetchedInRange st = all (λ v. leb (v .fetched) 1) (st .requests)
-
--- ---- "Only opening and registered rows are in nodes." "Sources are standing, of the kind above and older":
+-- "Only opening and registered rows are in nodes." "Sources are standing, of the kind above and older":
 -- each row is one of five (open point 26); rs are the older rows, among which a source is looked up
 unfoldable pub isOpening : Row → Bool
 isOpening r = isNode (r .place) && (isCopied (r .kind) && (eqb (r .source) 0 && (eqb (r .via) 0 && eqb (r .request) 0)))
@@ -95,17 +91,17 @@ isLentCopy vs rs r =
 unfoldable pub sourceRight : List Request → Row → List Row → Bool
 sourceRight vs r rs = isOpening r || (isRegistered rs r || (isHeld rs r || (isPortEnd rs r || isLentCopy vs rs r)))
 
-unfoldable pub sourcesRight : State → Bool
-sourcesRight st = each (sourceRight (st .requests)) (st .rows)
+unfoldable pub sourcesRight : List Request → List Row → Bool
+sourcesRight vs rows = each (sourceRight vs) rows
 
--- ---- "depths are right"; "at most 12"
+-- "depths are right"; "at most 12"
 unfoldable pub depthRight : Row → List Row → Bool
 depthRight r rs = eqb (r .depth) (depthOver rs (r .source) (r .via)) && leb (r .depth) greatestDepth
 
-unfoldable pub depthsRight : State → Bool
-depthsRight st = each depthRight (st .rows)
+unfoldable pub depthsRight : List Row → Bool
+depthsRight rows = each depthRight rows
 
--- ---- "a copy has its row's kind and object, and rights within it" (of held, registered and lent rows, open point 28)
+-- "a copy has its row's kind and object, and rights within it" (of held, registered and lent rows, open point 28)
 unfoldable pub copyMatches : Row → List Row → Bool
 copyMatches r rs =
     let s = rowOf rs (r .source) in
@@ -113,20 +109,10 @@ copyMatches r rs =
     || (isEnd (r .kind)
     || (eqb (r .kind) (s .kind) && (eqb (r .object) (s .object) && (eqb (r .operation) (s .operation) && within (r .rights) (s .rights)))))
 
-unfoldable pub copiesMatch : State → Bool
-copiesMatch st = each copyMatches (st .rows)
+unfoldable pub copiesMatch : List Row → Bool
+copiesMatch rows = each copyMatches rows
 
--- ---- "unused records are 0"
-unfoldable pub recordUnused : Process → Bool
-recordUnused x = eqb (x .prime) 0 && (eqb (x .active) 0 && eqb (x .through) 0)
-
-unfoldable pub recordInRange : Process → Bool
-recordInRange x = recordUnused x || (between 1 nodes (x .prime) && between 1 nodes (x .active))
-
-unfoldable pub recordsInRange : State → Bool
-recordsInRange st = all recordInRange (st .processes)
-
--- ---- "Ends stand in pairs." Client n, server n + 1, with the same source (open point 29)
+-- "Ends stand in pairs." Client n, server n + 1, with the same source (open point 29)
 unfoldable pub isPairedWith : Row → Row → Bool
 isPairedWith a b = isEnd (b .kind) && (eqb (a .object) (b .object) && eqb (a .source) (b .source))
 
@@ -137,44 +123,50 @@ otherEnd r = if isClient (r .kind) then suc (r .number) else pred (r .number)
 unfoldable pub endPaired : List Row → Row → Bool
 endPaired rs r = not (isEnd (r .kind)) || isPairedWith r (rowOf rs (otherEnd r))
 
-unfoldable pub endsPaired : State → Bool
-endsPaired st = all (endPaired (st .rows)) (st .rows)
+unfoldable pub endsPaired : List Row → Bool
+endsPaired rows = all (endPaired rows) rows
 
--- ---- "Each open request is newer than its standing port and its ends, has a listed requester and at most 4 items, none twice, only ends and copies as above; a port has one at most."
+-- ==== loans: of rows, requests and processes
+-- "All fields are in range"
+unfoldable pub fetchedInRange : List Request → Bool
+fetchedInRange requests = all (λ v. leb (v .fetched) 1) requests
+
+-- "Each open request is newer than its standing port and its ends, has a listed requester and at most 4 items, none twice, only ends and copies as above; a port has one at most."
 unfoldable pub portStands : List Row → Request → Bool
 portStands rs v = isClient (rowOf rs (v .port) .kind) && ltb (suc (v .port)) (v .number)
 
-unfoldable pub portsStand : State → Bool
-portsStand st = all (portStands (st .rows)) (st .requests)
+unfoldable pub portsStand : List Row → List Request → Bool
+portsStand rows requests = all (portStands rows) requests
 
-unfoldable pub requestersListed : State → Bool
-requestersListed st = all (λ v. isListed (st .processes) (v .asker)) (st .requests)
+unfoldable pub requestersListed : List Process → List Request → Bool
+requestersListed ps requests = all (λ v. isListed ps (v .asker)) requests
 
 -- the list has four places, 0 for an item that is not there
-unfoldable pub itemsFew : State → Bool
-itemsFew st = all (λ v. eqb (length (v .items)) mostItems) (st .requests)
+unfoldable pub itemsFew : List Request → Bool
+itemsFew requests = all (λ v. eqb (length (v .items)) mostItems) requests
 
-unfoldable pub itemsApart : State → Bool
-itemsApart st = all (λ v. distinct (nonzero (v .items))) (st .requests)
+unfoldable pub itemsApart : List Request → Bool
+itemsApart requests = all (λ v. distinct (nonzero (v .items))) requests
 
 -- an end older than the request, or a copy that bears its number
 unfoldable pub mayBeListed : Request → Row → Bool
 mayBeListed v r = (isEnd (r .kind) && ltb (r .number) (v .number)) || (some (r .request) && eqb (r .request) (v .number))
 
-unfoldable pub itemsLent : State → Bool
-itemsLent st = all (λ v. all (λ e. mayBeListed v (rowOf (st .rows) e)) (nonzero (v .items))) (st .requests)
+unfoldable pub itemsLent : List Row → List Request → Bool
+itemsLent rows requests = all (λ v. all (λ e. mayBeListed v (rowOf rows e)) (nonzero (v .items))) requests
 
-unfoldable pub onePerPort : State → Bool
-onePerPort st = distinct (map (λ v. v .port) (st .requests))
+unfoldable pub onePerPort : List Request → Bool
+onePerPort requests = distinct (map (λ v. v .port) requests)
 
--- ---- "A copy is newer than the open request whose number it bears, and listed there."
+-- "A copy is newer than the open request whose number it bears, and listed there."
 unfoldable pub copyListed : List Request → Row → Bool
 copyListed vs r = eqb (r .request) 0 || (ltb (r .request) (r .number) && lists (r .number) (requestOf vs (r .request)))
 
-unfoldable pub copiesListed : State → Bool
-copiesListed st = all (copyListed (st .requests)) (st .rows)
+unfoldable pub copiesListed : List Request → List Row → Bool
+copiesListed vs rows = all (copyListed vs) rows
 
--- ---- "Where several requests list an end, all but the newest are fetched."
+-- ==== holders: of rows and requests
+-- "Where several requests list an end, all but the newest are fetched."
 unfoldable pub isFetched : Request → Bool
 isFetched v = eqb (v .fetched) 1
 
@@ -182,10 +174,10 @@ isFetched v = eqb (v .fetched) 1
 unfoldable pub olderFetchedBy : Request → List Request → Bool
 olderFetchedBy v vs = all (λ w. isFetched w || not (any (λ e. lists e w) (v .items))) vs
 
-unfoldable pub olderFetched : State → Bool
-olderFetched st = each olderFetchedBy (st .requests)
+unfoldable pub olderFetched : List Request → Bool
+olderFetched requests = each olderFetchedBy requests
 
--- ---- "The system holds exactly those copies and ends whose newest request is not fetched."
+-- "The system holds exactly those copies and ends whose newest request is not fetched."
 -- the newest request that lists e is there and not fetched
 unfoldable pub awaitsFetch : List Request → ℕ → Bool
 awaitsFetch [] e = false
@@ -194,10 +186,25 @@ awaitsFetch (v ∷ vs) e = if lists e v then not (isFetched v) else awaitsFetch 
 unfoldable pub same : Bool → Bool → Bool
 same a b = (a && b) || (not a && not b)
 
-unfoldable pub systemHolds : State → Bool
-systemHolds st = all (λ r. same (isSystem (r .place)) (awaitsFetch (st .requests) (r .number))) (st .rows)
+unfoldable pub systemHolds : List Request → List Row → Bool
+systemHolds vs rows = all (λ r. same (isSystem (r .place)) (awaitsFetch vs (r .number))) rows
 
--- ---- "Every process is in its prime node through none, or in the node of a subdirectory row of its c-list."
+-- ==== processes: of rows and processes
+-- "It has 64 records"
+unfoldable pub recordsFit : List Process → Bool
+recordsFit ps = eqb (length ps) processes
+
+-- "unused records are 0"
+unfoldable pub recordUnused : Process → Bool
+recordUnused x = eqb (x .prime) 0 && (eqb (x .active) 0 && eqb (x .through) 0)
+
+unfoldable pub recordInRange : Process → Bool
+recordInRange x = recordUnused x || (between 1 nodes (x .prime) && between 1 nodes (x .active))
+
+unfoldable pub recordsInRange : List Process → Bool
+recordsInRange ps = all recordInRange ps
+
+-- "Every process is in its prime node through none, or in the node of a subdirectory row of its c-list."
 unfoldable pub processPlaced : List Row → ℕ → Process → Bool
 processPlaced rs p x =
     let r = rowOf rs (x .through) in
@@ -208,20 +215,62 @@ unfoldable pub placedFrom : List Row → ℕ → List Process → Bool
 placedFrom rs p [] = true
 placedFrom rs p (x ∷ xs) = processPlaced rs p x && placedFrom rs (suc p) xs
 
-unfoldable pub processesPlaced : State → Bool
-processesPlaced st = placedFrom (st .rows) 1 (st .processes)
+unfoldable pub processesPlaced : List Row → List Process → Bool
+processesPlaced rows ps = placedFrom rows 1 ps
 
--- ---- all of it
-unfoldable pub clauses : List (State → Bool)
-clauses =
-    rowsRise ∷ requestsRise ∷ numbersApart ∷ belowNext ∷ nextInRange
-    ∷ rowsFit ∷ requestsFit ∷ recordsFit
-    ∷ objectsInRange ∷ rightsInRange ∷ placesInRange ∷ fetchedInRange
-    ∷ sourcesRight ∷ depthsRight ∷ copiesMatch
-    ∷ recordsInRange ∷ endsPaired
-    ∷ portsStand ∷ requestersListed ∷ itemsFew ∷ itemsApart ∷ itemsLent ∷ onePerPort
-    ∷ copiesListed ∷ olderFetched ∷ systemHolds ∷ processesPlaced
+-- ==== all of it, part by part: a part reads the lists that it names
+unfoldable pub numberClauses : ℕ → List Row → List Request → List Bool
+numberClauses next rows requests =
+    rowsRise rows
+    ∷ requestsRise requests
+    ∷ numbersApart rows requests
+    ∷ belowNext next rows requests
+    ∷ nextInRange next
+    ∷ rowsFit rows
+    ∷ requestsFit requests
+    ∷ []
+
+unfoldable pub rowClauses : List Row → List Request → List Process → List Bool
+rowClauses rows requests ps =
+    objectsInRange ps rows
+    ∷ rightsInRange rows
+    ∷ placesInRange ps rows
+    ∷ sourcesRight requests rows
+    ∷ depthsRight rows
+    ∷ copiesMatch rows
+    ∷ endsPaired rows
+    ∷ []
+
+unfoldable pub loanClauses : List Row → List Request → List Process → List Bool
+loanClauses rows requests ps =
+    fetchedInRange requests
+    ∷ portsStand rows requests
+    ∷ requestersListed ps requests
+    ∷ itemsFew requests
+    ∷ itemsApart requests
+    ∷ itemsLent rows requests
+    ∷ onePerPort requests
+    ∷ copiesListed requests rows
+    ∷ []
+
+unfoldable pub holderClauses : List Row → List Request → List Bool
+holderClauses rows requests = olderFetched requests ∷ systemHolds requests rows ∷ []
+
+unfoldable pub processClauses : List Row → List Process → List Bool
+processClauses rows ps = recordsFit ps ∷ recordsInRange ps ∷ processesPlaced rows ps ∷ []
+
+unfoldable pub every : List Bool → Bool
+every bs = all (λ b. b) bs
+
+-- the parts of a state
+unfoldable pub parts : State → List Bool
+parts st =
+    every (numberClauses (st .next) (st .rows) (st .requests))
+    ∷ every (rowClauses (st .rows) (st .requests) (st .processes))
+    ∷ every (loanClauses (st .rows) (st .requests) (st .processes))
+    ∷ every (holderClauses (st .rows) (st .requests))
+    ∷ every (processClauses (st .rows) (st .processes))
     ∷ []
 
 unfoldable pub sound : State → Bool
-sound st = all (λ clause. clause st) clauses
+sound st = every (parts st)

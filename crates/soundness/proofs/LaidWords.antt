@@ -161,7 +161,7 @@ at-place P k (suc m) f i h =
     (λ ge. let e : m * k + (i - m * k) ≡ i = omega arith in subst P e (f m (i - m * k) (omega arith) (omega (arith, suc-mul m k)))) (lt-or-ge i (m * k))
 
 module _ (t p : List ℕ) where
-  items-read : itemsFew (stateOf t p) ≡ true
+  items-read : itemsFew (stateOf t p .requests) ≡ true
   unfolding itemsFew stateOf requestAt mostItems
   items-read = rw (requests-list t (requestsIn t)) (all-to (requestAt t) (λ v. eqb (length (v .items)) 4) (requestsIn t) (λ i. refl))
 

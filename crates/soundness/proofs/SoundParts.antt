@@ -21,80 +21,95 @@ use Rattle.soundness.proofs.LaidWords.{laid-represents, represented-row
 
 -- ---- the groups
 abbrev pub ofNext : State → Bool
-ofNext st = nextInRange st && belowNext st
+ofNext st = nextInRange (st .next) && belowNext (st .next) (st .rows) (st .requests)
 
 abbrev pub ofRows : State → Bool
 ofRows st =
-    objectsInRange st
-    && (rightsInRange st && (placesInRange st && (sourcesRight st && (depthsRight st && (copiesMatch st && (endsPaired st && copiesListed st))))))
+    objectsInRange (st .processes) (st .rows)
+    && (rightsInRange (st .rows) && (placesInRange (st .processes) (st .rows) && (sourcesRight (st .requests) (st .rows) && (depthsRight (st .rows) && (copiesMatch (st .rows) && (endsPaired (st .rows) && copiesListed (st .requests) (st .rows)))))))
 
 abbrev pub ofRequests : State → Bool
 ofRequests st =
-    numbersApart st && (fetchedInRange st && (portsStand st && (requestersListed st && (itemsApart st && (itemsLent st && onePerPort st)))))
+    numbersApart (st .rows) (st .requests) && (fetchedInRange (st .requests) && (portsStand (st .rows) (st .requests) && (requestersListed (st .processes) (st .requests) && (itemsApart (st .requests) && (itemsLent (st .rows) (st .requests) && onePerPort (st .requests))))))
 
 abbrev pub ofHolders : State → Bool
-ofHolders st = olderFetched st && systemHolds st
+ofHolders st = olderFetched (st .requests) && systemHolds (st .requests) (st .rows)
 
 -- each follows from soundness
 module _ (st : State) (e : sound st ≡ true) where
   sound-next : ofNext st ≡ true
-  sound-next = let s = sound-open st e in rw (s .next-in-range, s .below-next) refl
+  sound-next = let s = sound-open st e in rw (s .numbers .next-in-range, s .numbers .below-next) refl
 
   sound-rows : ofRows st ≡ true
   sound-rows =
       let s = sound-open st e in
-      rw (s .objects-in-range, s .rights-in-range, s .places-in-range, s .sources-right, s .depths-right, s .copies-match, s .ends-paired, s .copies-listed) refl
+      rw (s .rows .objects-in-range, s .rows .rights-in-range, s .rows .places-in-range, s .rows .sources-right, s .rows .depths-right, s .rows .copies-match, s .rows .ends-paired, s .loans .copies-listed) refl
 
   sound-requests : ofRequests st ≡ true
   sound-requests =
       let s = sound-open st e in
-      rw (s .numbers-apart, s .fetched-in-range, s .ports-stand, s .requesters-listed, s .items-apart, s .items-lent, s .one-per-port) refl
+      rw (s .numbers .numbers-apart, s .loans .fetched-in-range, s .loans .ports-stand, s .loans .requesters-listed, s .loans .items-apart, s .loans .items-lent, s .loans .one-per-port) refl
 
   sound-holders : ofHolders st ≡ true
-  sound-holders = let s = sound-open st e in rw (s .older-fetched, s .system-holds) refl
+  sound-holders = let s = sound-open st e in rw (s .holders .older-fetched, s .holders .system-holds) refl
 
 -- and soundness from all of them
-module _ (st : State) {t : List ℕ} (rep : Represents t st) (fit : recordsFit st ≡ true) (next : ofNext st ≡ true) (records : recordsInRange st ≡ true)
+module _ (st : State) {t : List ℕ} (rep : Represents t st) (fit : recordsFit (st .processes) ≡ true) (next : ofNext st ≡ true) (records : recordsInRange (st .processes) ≡ true)
     (rows : ofRows st ≡ true) (requests : ofRequests st ≡ true) (holders : ofHolders st ≡ true) where
-  all-clauses : processesPlaced st ≡ true → Sound st
+  all-clauses : processesPlaced (st .rows) (st .processes) ≡ true → Sound st
   unfolding laidWell
   all-clauses placed =
-      let well : rowsRise st && (requestsRise st && (rowsFit st && (requestsFit st && (itemsFew st && _)))) ≡ true = rep .well in
-      let later : depthsRight st && (copiesMatch st && (endsPaired st && copiesListed st)) ≡ true = search and-r in
+      let well : rowsRise (st .rows) && (requestsRise (st .requests) && (rowsFit (st .rows) && (requestsFit (st .requests) && (itemsFew (st .requests) && _)))) ≡ true = rep .well in
+      let later : depthsRight (st .rows) && (copiesMatch (st .rows) && (endsPaired (st .rows) && copiesListed (st .requests) (st .rows))) ≡ true = search and-r in
       record {
-        rows-rise = search and-l;
-        requests-rise = search (and-l, and-r);
-        numbers-apart = search and-l;
-        below-next = search (and-l, and-r);
-        next-in-range = search and-l;
-        rows-fit = search (and-l, and-r);
-        requests-fit = search (and-l, and-r);
-        records-fit = fit;
-        objects-in-range = search and-l;
-        rights-in-range = search (and-l, and-r);
-        places-in-range = search (and-l, and-r);
-        fetched-in-range = search (and-l, and-r);
-        sources-right = search (and-l, and-r);
-        depths-right = search and-l;
-        copies-match = search (and-l, and-r);
-        records-in-range = records;
-        ends-paired = search (and-l, and-r);
-        ports-stand = search (and-l, and-r);
-        requesters-listed = search (and-l, and-r);
-        items-few = search (and-l, and-r);
-        items-apart = search (and-l, and-r);
-        items-lent = search (and-l, and-r);
-        one-per-port = search (and-l, and-r);
-        copies-listed = search (and-l, and-r);
-        older-fetched = search and-l;
-        system-holds = search (and-l, and-r);
-        processes-placed = placed;
+        numbers =
+            record {
+              rows-rise = search and-l;
+              requests-rise = search (and-l, and-r);
+              numbers-apart = search and-l;
+              below-next = search (and-l, and-r);
+              next-in-range = search and-l;
+              rows-fit = search (and-l, and-r);
+              requests-fit = search (and-l, and-r);
+            };
+        rows =
+            record {
+              objects-in-range = search and-l;
+              rights-in-range = search (and-l, and-r);
+              places-in-range = search (and-l, and-r);
+              sources-right = search (and-l, and-r);
+              depths-right = search and-l;
+              copies-match = search (and-l, and-r);
+              ends-paired = search (and-l, and-r);
+            };
+        loans =
+            record {
+              fetched-in-range = search (and-l, and-r);
+              ports-stand = search (and-l, and-r);
+              requesters-listed = search (and-l, and-r);
+              items-few = search (and-l, and-r);
+              items-apart = search (and-l, and-r);
+              items-lent = search (and-l, and-r);
+              one-per-port = search (and-l, and-r);
+              copies-listed = search (and-l, and-r);
+            };
+        holders =
+            record {
+              older-fetched = search and-l;
+              system-holds = search (and-l, and-r);
+            };
+        placed =
+            record {
+              records-fit = fit;
+              records-in-range = records;
+              processes-placed = placed;
+            };
       }
 
 -- the tests of the groups, each of which may take those before it as given
-module _ (st : State) {t : List ℕ} (rep : Represents t st) (fit : recordsFit st ≡ true) where
-  pub groups-sound : (rows requests holders placed : Bool) → rows ≡ ofRows st → requests ≡ ofRequests st → (itemsLent st ≡ true → holders ≡ ofHolders st) → placed ≡ processesPlaced st
-      → ofNext st ≡ true → recordsInRange st ≡ true → rows && (requests && (holders && placed)) ≡ sound st
+module _ (st : State) {t : List ℕ} (rep : Represents t st) (fit : recordsFit (st .processes) ≡ true) where
+  pub groups-sound : (rows requests holders placed : Bool) → rows ≡ ofRows st → requests ≡ ofRequests st → (itemsLent (st .rows) (st .requests) ≡ true → holders ≡ ofHolders st) → placed ≡ processesPlaced (st .rows) (st .processes)
+      → ofNext st ≡ true → recordsInRange (st .processes) ≡ true → rows && (requests && (holders && placed)) ≡ sound st
   groups-sound rows requests holders placed er eq eh ep next records = bool-eq (rows && (requests && (holders && placed))) (sound st) forth back
     where
       forth : rows && (requests && (holders && placed)) ≡ true → sound st ≡ true
@@ -107,18 +122,18 @@ module _ (st : State) {t : List ℕ} (rep : Represents t st) (fit : recordsFit s
 
       back : sound st ≡ true → rows && (requests && (holders && placed)) ≡ true
       back e =
-          rw (er ∙ sound-rows st e, eq ∙ sound-requests st e, eh (sound-open st e .items-lent) ∙ sound-holders st e, ep ∙ sound-open st e .processes-placed) refl
+          rw (er ∙ sound-rows st e, eq ∙ sound-requests st e, eh (sound-open st e .loans .items-lent) ∙ sound-holders st e, ep ∙ sound-open st e .placed .processes-placed) refl
 
 -- the plain clauses come first
-pub clauses-sound : (st : State) (next records tables : Bool) → next ≡ ofNext st → records ≡ recordsInRange st → (ofNext st ≡ true → recordsInRange st ≡ true → tables ≡ sound st) → next && (records && tables) ≡ sound st
+pub clauses-sound : (st : State) (next records tables : Bool) → next ≡ ofNext st → records ≡ recordsInRange (st .processes) → (ofNext st ≡ true → recordsInRange (st .processes) ≡ true → tables ≡ sound st) → next && (records && tables) ≡ sound st
 clauses-sound st next records tables en er et =
     bool-eq (next && (records && tables)) (sound st)
     (λ e.
     let rest : records && tables ≡ true = and-r next (records && tables) e in
     sym (et (sym en ∙ and-l next (records && tables) e) (sym er ∙ and-l records tables rest)) ∙ and-r records tables rest)
-    (λ e. rw (en ∙ sound-next st e, er ∙ sound-open st e .records-in-range, et (sound-next st e) (sound-open st e .records-in-range) ∙ e) refl)
+    (λ e. rw (en ∙ sound-next st e, er ∙ sound-open st e .placed .records-in-range, et (sound-next st e) (sound-open st e .placed .records-in-range) ∙ e) refl)
 
-pub records-fit : (st : State) (p : List ℕ) → length p ≡ 192 → st .processes ≡ recordsIn p → recordsFit st ≡ true
+pub records-fit : (st : State) (p : List ℕ) → length p ≡ 192 → st .processes ≡ recordsIn p → recordsFit (st .processes) ≡ true
 unfolding recordsFit processes
 records-fit st p long e = eq-eqb (length (st .processes)) 64 (ap length e ∙ length-in 64 p long)
 

@@ -41,7 +41,7 @@ pub fn last_of(column: &[u32], k: usize) -> u32
 // Ruled out: a next number of 1,000,002; one that a row or a request has.
 pub fn next_sound(t: &[u32], n: usize, m: usize) -> bool
     requires { ⌜ IsTables (now t) × (n ≤ ROWS) × (m ≤ REQUESTS) ⌝ }
-    ensures { λ r. ⌜ ((st : State) → Represents (now (t .entry)) st → n ≡ length (st .rows) → m ≡ length (st .requests) → r ≡ (nextInRange st && belowNext st)) ⌝ }
+    ensures { λ r. ⌜ ((st : State) → Represents (now (t .entry)) st → n ≡ length (st .rows) → m ≡ length (st .requests) → r ≡ (nextInRange (st .next) && belowNext (st .next) (st .rows) (st .requests))) ⌝ }
 {
     let next = t[NEXT];
     let row = last_of(&t[NUMBER..KIND], n);
@@ -77,7 +77,7 @@ pub fn record_in_range(x: Process) -> bool
 // Ruled out: yes where the last record is out of range; no for a record that is not used.
 pub fn records_sound(p: &[u32]) -> bool
     requires { ⌜ IsRecords (now p) ⌝ }
-    ensures { λ r. ⌜ ((st : State) → st .processes ≡ recordsIn (now (p .entry)) → r ≡ recordsInRange st) ⌝ }
+    ensures { λ r. ⌜ ((st : State) → st .processes ≡ recordsIn (now (p .entry)) → r ≡ recordsInRange (st .processes)) ⌝ }
 {
     let mut in_range = true;
     let mut i = 0;
@@ -108,7 +108,7 @@ pub fn process_placed(t: &[u32], n: usize, q: u32, x: Process) -> bool
 // Ruled out: yes where process 64 is not in its place; the records counted from 0.
 pub fn processes_placed(t: &[u32], p: &[u32], n: usize) -> bool
     requires { ⌜ IsTables (now t) × IsRecords (now p) × (n ≤ ROWS) ⌝ }
-    ensures { λ r. ⌜ ((st : State) → Represents (now (t .entry)) st → st .processes ≡ recordsIn (now (p .entry)) → n ≡ length (st .rows) → r ≡ processesPlaced st) ⌝ }
+    ensures { λ r. ⌜ ((st : State) → Represents (now (t .entry)) st → st .processes ≡ recordsIn (now (p .entry)) → n ≡ length (st .rows) → r ≡ processesPlaced (st .rows) (st .processes)) ⌝ }
 {
     let mut placed = true;
     let mut i = 0;

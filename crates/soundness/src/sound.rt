@@ -26,7 +26,7 @@ fn tables_sound(t: &[u32], p: &[u32], n: usize, m: usize) -> bool
     requires sizes { ⌜ IsTables (now t) × IsRecords (now p) × (n ≤ ROWS) × (m ≤ REQUESTS) ⌝ }
     requires sources { ⌜ ((i : ℕ) → i < n → getD (now t) (SOURCE + i) 0 ≤ i) ⌝ }
     requires vias { ⌜ ((i : ℕ) → i < n → getD (now t) (VIA + i) 0 ≤ i) ⌝ }
-    ensures { λ r. ⌜ ((st : State) → Represents (now (t .entry)) st → st .processes ≡ recordsIn (now (p .entry)) → n ≡ length (st .rows) → m ≡ length (st .requests) → nextInRange st && belowNext st ≡ true → recordsInRange st ≡ true → r ≡ sound st) ⌝ }
+    ensures { λ r. ⌜ ((st : State) → Represents (now (t .entry)) st → st .processes ≡ recordsIn (now (p .entry)) → n ≡ length (st .rows) → m ≡ length (st .requests) → nextInRange (st .next) && belowNext (st .next) (st .rows) (st .requests) ≡ true → recordsInRange (st .processes) ≡ true → r ≡ sound st) ⌝ }
 {
     let rows = rows_sound(t, p, n, m);
     let requests = requests_sound(t, p, n, m);

@@ -136,7 +136,7 @@ awaits-is (v ∷ vs) e = pick (awaits-is vs e) (lists e v) (isFetched v)
     pick ih true false = refl
     pick ih false f = ih
 
-pub held-rows : {st : State} {t : List ℕ} → Represents t st → (l : List ℕ) → ((e : ℕ) → listingOf (st .requests) e ≡ codeAt l (rowSlot (st .rows) e)) → systemHolds st ≡ heldTo t l (length (st .rows))
+pub held-rows : {st : State} {t : List ℕ} → Represents t st → (l : List ℕ) → ((e : ℕ) → listingOf (st .requests) e ≡ codeAt l (rowSlot (st .rows) e)) → systemHolds (st .requests) (st .rows) ≡ heldTo t l (length (st .rows))
 unfolding systemHolds all heldTo codeAt rowSlot
 held-rows {st} {t} rep l codes = along [] (st .rows) refl
   where
@@ -161,7 +161,7 @@ lent-at F t (suc m) h j lt =
     ⊎-elim (λ e. ap (λ (k : ℕ). F (requestAt t k)) e ∙ and-l (F (requestAt t m)) (all F (requestsTo t m)) h)
     (λ less. lent-at F t m (and-r (F (requestAt t m)) (all F (requestsTo t m)) h) j less) (eq-or-lt-of-le (le-of-suc-le-suc lt))
 
-pub items-lent : {st : State} {t : List ℕ} → Represents t st → itemsLent st ≡ true → (j : ℕ) → j < length (st .requests) → Lent st (requestAt t j)
+pub items-lent : {st : State} {t : List ℕ} → Represents t st → itemsLent (st .rows) (st .requests) ≡ true → (j : ℕ) → j < length (st .requests) → Lent st (requestAt t j)
 unfolding itemsLent
 items-lent {st} {t} rep h j lt =
     lent-at (λ v. all (λ e. mayBeListed v (rowOf (st .rows) e)) (nonzero (v .items))) t (length (st .requests))
@@ -179,12 +179,12 @@ listing-next {st} {t} rep whole j l l′ older r pos lent e d p =
 
 -- all requests are listed, and the rows looked at
 pub holders-end : {st : State} {t : List ℕ} → Represents t st → (n m : ℕ) → n ≡ length (st .rows) → m ≡ length (st .requests) → (j : ℕ) → j ≤ 0 → (l : List ℕ) (older held : Bool)
-    → Listing (st .rows) (requestsTo t m) (requestsTo t j) l older → held ≡ heldTo t l n → older && held ≡ olderFetched st && systemHolds st
+    → Listing (st .rows) (requestsTo t m) (requestsTo t j) l older → held ≡ heldTo t l n → older && held ≡ olderFetched (st .requests) && systemHolds (st .requests) (st .rows)
 unfolding requestsTo
 holders-end {st} {t} rep n m e d j h l older held p q =
     let none : j ≡ 0 = omega arith in
     let whole : requestsTo t m ≡ st .requests = ap (requestsTo t) d ∙ requests-read rep in
     let (a, b) = listing-end (st .rows) (requestsTo t m) l older (subst (λ (k : ℕ). Listing (st .rows) (requestsTo t m) (requestsTo t k) l older) none p) in
-    let first : older ≡ olderFetched st = a ∙ ap (fetchedAfter (λ x. false)) whole ∙ sym (older-after st) in
-    let second : held ≡ systemHolds st = q ∙ ap (heldTo t l) e ∙ sym (held-rows rep l (λ x. ap (λ (vs : List Request). listingOf vs x) (sym whole) ∙ b x)) in
+    let first : older ≡ olderFetched (st .requests) = a ∙ ap (fetchedAfter (λ x. false)) whole ∙ sym (older-after st) in
+    let second : held ≡ systemHolds (st .requests) (st .rows) = q ∙ ap (heldTo t l) e ∙ sym (held-rows rep l (λ x. ap (λ (vs : List Request). listingOf vs x) (sym whole) ∙ b x)) in
     λ i. first i && second i

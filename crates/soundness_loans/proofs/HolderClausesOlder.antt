@@ -86,7 +86,7 @@ after-is L (v ∷ vs) =
     mix true false c d = refl
     mix false b c d = refl
 
-pub older-after : (st : State) → olderFetched st ≡ fetchedAfter (λ e. false) (st .requests)
+pub older-after : (st : State) → olderFetched (st .requests) ≡ fetchedAfter (λ e. false) (st .requests)
 unfolding olderFetched all
 older-after st = sym (after-is (λ e. false) (st .requests) ∙ ap (λ (b : Bool). b && each olderFetchedBy (st .requests)) (free (st .requests)))
   where

@@ -113,7 +113,7 @@ unfolding requestsTo
 ports-next rep u j marks marks′ right r s e h free mark p = rw (add-one j, free, mark) (ports-turn rep (requestsTo u j) marks right (requestAt u j) s e h p)
 
 -- ---- the clauses joined
-each-right : (st : State) → all (requestRight st) (st .requests) ≡ numbersApart st && (fetchedInRange st && (requestersListed st && (itemsApart st && itemsLent st)))
+each-right : (st : State) → all (requestRight st) (st .requests) ≡ numbersApart (st .rows) (st .requests) && (fetchedInRange (st .requests) && (requestersListed (st .processes) (st .requests) && (itemsApart (st .requests) && itemsLent (st .rows) (st .requests))))
 unfolding requestRight numbersApart fetchedInRange requestersListed itemsApart itemsLent
 each-right st =
     all-both apart (λ v. fetched v && (asked v && (once v && lent v))) vs
@@ -140,11 +140,11 @@ each-right st =
     lent v = all (λ e. mayBeListed v (rowOf (st .rows) e)) (nonzero (v .items))
 
 pub requests-joined : (st : State) → all (requestRight st) (st .requests) && portsRight (st .rows) (st .requests)
-    ≡ numbersApart st && (fetchedInRange st && (portsStand st && (requestersListed st && (itemsApart st && (itemsLent st && onePerPort st)))))
+    ≡ numbersApart (st .rows) (st .requests) && (fetchedInRange (st .requests) && (portsStand (st .rows) (st .requests) && (requestersListed (st .processes) (st .requests) && (itemsApart (st .requests) && (itemsLent (st .rows) (st .requests) && onePerPort (st .requests))))))
 unfolding portsRight portsStand onePerPort
 requests-joined st =
     ap (λ (b : Bool). b && portsRight (st .rows) (st .requests)) (each-right st)
-    ∙ join (numbersApart st) (fetchedInRange st) (portsStand st) (requestersListed st) (itemsApart st) (itemsLent st) (onePerPort st)
+    ∙ join (numbersApart (st .rows) (st .requests)) (fetchedInRange (st .requests)) (portsStand (st .rows) (st .requests)) (requestersListed (st .processes) (st .requests)) (itemsApart (st .requests)) (itemsLent (st .rows) (st .requests)) (onePerPort (st .requests))
   where
     join : (a b c d e f g : Bool) → (a && (b && (d && (e && f)))) && (c && g) ≡ a && (b && (c && (d && (e && (f && g)))))
     join false b c d e f g = refl

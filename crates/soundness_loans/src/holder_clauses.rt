@@ -131,7 +131,7 @@ fn rows_held(t: &[u32], n: usize, listing: &[u8; ROWS]) -> bool
 // Ruled out: an older request that is not fetched lists an item too; a row waits with the system that no request lists.
 pub fn holders_sound(t: &[u32], n: usize, m: usize) -> bool
     requires { ⌜ IsTables (now t) × (n ≤ ROWS) × (m ≤ REQUESTS) ⌝ }
-    ensures { λ r. ⌜ ((st : State) → Represents (now (t .entry)) st → n ≡ length (st .rows) → m ≡ length (st .requests) → itemsLent st ≡ true → r ≡ (olderFetched st && systemHolds st)) ⌝ }
+    ensures { λ r. ⌜ ((st : State) → Represents (now (t .entry)) st → n ≡ length (st .rows) → m ≡ length (st .requests) → itemsLent (st .rows) (st .requests) ≡ true → r ≡ (olderFetched (st .requests) && systemHolds (st .requests) (st .rows))) ⌝ }
 {
     let mut listing = [0u8; ROWS];
     let mut older = true;

@@ -212,7 +212,7 @@ fn ports_right(t: &[u32], n: usize, m: usize) -> bool
 // Ruled out: a request on a port that another is open on passes; a copy that bears another request's number may be listed.
 pub fn requests_sound(t: &[u32], p: &[u32], n: usize, m: usize) -> bool
     requires { ⌜ IsTables (now t) × IsRecords (now p) × (n ≤ ROWS) × (m ≤ REQUESTS) ⌝ }
-    ensures { λ r. ⌜ ((st : State) → Represents (now (t .entry)) st → st .processes ≡ recordsIn (now (p .entry)) → n ≡ length (st .rows) → m ≡ length (st .requests) → r ≡ (numbersApart st && (fetchedInRange st && (portsStand st && (requestersListed st && (itemsApart st && (itemsLent st && onePerPort st))))))) ⌝ }
+    ensures { λ r. ⌜ ((st : State) → Represents (now (t .entry)) st → st .processes ≡ recordsIn (now (p .entry)) → n ≡ length (st .rows) → m ≡ length (st .requests) → r ≡ (numbersApart (st .rows) (st .requests) && (fetchedInRange (st .requests) && (portsStand (st .rows) (st .requests) && (requestersListed (st .processes) (st .requests) && (itemsApart (st .requests) && (itemsLent (st .rows) (st .requests) && onePerPort (st .requests)))))))) ⌝ }
 {
     let right = requests_right(t, p, n, m);
     let ports = ports_right(t, n, m);

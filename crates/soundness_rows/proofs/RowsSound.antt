@@ -58,7 +58,7 @@ fields-same ps x y s = rw (s .number, s .kind, s .object, s .operation, s .right
 
 -- all rows
 pub rows-joined : (st : State) → each (rowSound st) (st .rows)
-    ≡ objectsInRange st && (rightsInRange st && (placesInRange st && (sourcesRight st && (depthsRight st && (copiesMatch st && (endsPaired st && copiesListed st))))))
+    ≡ objectsInRange (st .processes) (st .rows) && (rightsInRange (st .rows) && (placesInRange (st .processes) (st .rows) && (sourcesRight (st .requests) (st .rows) && (depthsRight (st .rows) && (copiesMatch (st .rows) && (endsPaired (st .rows) && copiesListed (st .requests) (st .rows)))))))
 unfolding rowSound objectsInRange rightsInRange placesInRange sourcesRight depthsRight copiesMatch endsPaired copiesListed
 rows-joined st =
     each-join (λ y old. objectInRange (st .processes) y) _ (st .rows) (each-all (objectInRange (st .processes)) (st .rows))

@@ -193,7 +193,7 @@ pub fn rows_sound(t: &[u32], p: &[u32], n: usize, m: usize) -> bool
     requires sizes { ⌜ IsTables (now t) × IsRecords (now p) × (n ≤ ROWS) × (m ≤ REQUESTS) ⌝ }
     requires sources { ⌜ ((i : ℕ) → i < n → getD (now t) (SOURCE + i) 0 ≤ i) ⌝ }
     requires vias { ⌜ ((i : ℕ) → i < n → getD (now t) (VIA + i) 0 ≤ i) ⌝ }
-    ensures { λ r. ⌜ ((st : State) → Represents (now (t .entry)) st → st .processes ≡ recordsIn (now (p .entry)) → n ≡ length (st .rows) → m ≡ length (st .requests) → r ≡ objectsInRange st && (rightsInRange st && (placesInRange st && (sourcesRight st && (depthsRight st && (copiesMatch st && (endsPaired st && copiesListed st))))))) ⌝ }
+    ensures { λ r. ⌜ ((st : State) → Represents (now (t .entry)) st → st .processes ≡ recordsIn (now (p .entry)) → n ≡ length (st .rows) → m ≡ length (st .requests) → r ≡ objectsInRange (st .processes) (st .rows) && (rightsInRange (st .rows) && (placesInRange (st .processes) (st .rows) && (sourcesRight (st .requests) (st .rows) && (depthsRight (st .rows) && (copiesMatch (st .rows) && (endsPaired (st .rows) && copiesListed (st .requests) (st .rows)))))))) ⌝ }
 {
     let mut i = 0;
     while i < n {

@@ -56,13 +56,13 @@ module _ (st : State) (s : Sound st) where
   unfolding belowNext
   rows-top =
       ltb-true (topOf (λ r. r .number) (st .rows)) (st .next)
-      (and-l (ltb (topOf (λ r. r .number) (st .rows)) (st .next)) (ltb (topOf (λ v. v .number) (st .requests)) (st .next)) (s .below-next))
+      (and-l (ltb (topOf (λ r. r .number) (st .rows)) (st .next)) (ltb (topOf (λ v. v .number) (st .requests)) (st .next)) (s .numbers .below-next))
 
   pub requests-top : topOf (λ v. v .number) (st .requests) < st .next
   unfolding belowNext
   requests-top =
       ltb-true (topOf (λ v. v .number) (st .requests)) (st .next)
-      (and-r (ltb (topOf (λ r. r .number) (st .rows)) (st .next)) (ltb (topOf (λ v. v .number) (st .requests)) (st .next)) (s .below-next))
+      (and-r (ltb (topOf (λ r. r .number) (st .rows)) (st .next)) (ltb (topOf (λ v. v .number) (st .requests)) (st .next)) (s .numbers .below-next))
 
   pub next-some : 0 < st .next
   next-some = let h = rows-top in omega arith
@@ -71,12 +71,12 @@ module _ (st : State) (s : Sound st) where
   pub row-below : (n : ℕ) → member n (numbers (st .rows)) ≡ true → (0 < n) × (n < st .next)
   unfolding rowsRise numbers
   row-below n t =
-      let (lo, hi) = rises-range (λ r. r .number) (st .rows) (s .rows-rise) n t in
+      let (lo, hi) = rises-range (λ r. r .number) (st .rows) (s .numbers .rows-rise) n t in
       let h = rows-top in (lo, omega arith)
 
   pub requests-between : all (λ v. some (v .number) && ltb (v .number) (st .next)) (st .requests) ≡ true
   unfolding requestsRise
-  requests-between = rises-between (λ v. v .number) (st .next) (st .requests) (s .requests-rise) requests-top
+  requests-between = rises-between (λ v. v .number) (st .next) (st .requests) (s .numbers .requests-rise) requests-top
 
   pub requests-below : all (λ v. ltb (v .number) (st .next)) (st .requests) ≡ true
   requests-below = all-mono (λ v. some (v .number) && ltb (v .number) (st .next)) (λ v. ltb (v .number) (st .next)) (λ v e. and-r (some (v .number)) (ltb (v .number) (st .next)) e) (st .requests) requests-between
@@ -88,16 +88,16 @@ clist-there rs p e t = row-there (λ r. eqb (r .place) (inClist p)) (clist-no-ro
 module _ (st : State) (s : Sound st) (e : ℕ) (t : member e (numbers (st .rows)) ≡ true) where
   pub row-object : objectInRange (st .processes) (rowOf (st .rows) e) ≡ true
   unfolding objectsInRange rowOf numbers
-  row-object = all-first (λ r. r .number) noRow (objectInRange (st .processes)) (st .rows) e (s .objects-in-range) t
+  row-object = all-first (λ r. r .number) noRow (objectInRange (st .processes)) (st .rows) e (s .rows .objects-in-range) t
 
   pub row-right : rightInRange (rowOf (st .rows) e) ≡ true
   unfolding rightsInRange rowOf numbers
-  row-right = all-first (λ r. r .number) noRow rightInRange (st .rows) e (s .rights-in-range) t
+  row-right = all-first (λ r. r .number) noRow rightInRange (st .rows) e (s .rows .rights-in-range) t
 
   -- the other end of an end
   pub paired-at : isEnd (rowOf (st .rows) e .kind) ≡ true → isPairedWith (rowOf (st .rows) e) (rowOf (st .rows) (otherEnd (rowOf (st .rows) e))) ≡ true
   unfolding endsPaired rowOf endPaired numbers
-  paired-at k = pick (all-first (λ r. r .number) noRow (endPaired (st .rows)) (st .rows) e (s .ends-paired) t)
+  paired-at k = pick (all-first (λ r. r .number) noRow (endPaired (st .rows)) (st .rows) e (s .rows .ends-paired) t)
     where
       pick : not (isEnd (rowOf (st .rows) e .kind)) || isPairedWith (rowOf (st .rows) e) (rowOf (st .rows) (otherEnd (rowOf (st .rows) e))) ≡ true
           → isPairedWith (rowOf (st .rows) e) (rowOf (st .rows) (otherEnd (rowOf (st .rows) e))) ≡ true
@@ -222,15 +222,15 @@ pub placed-still : (st : State) → Sound st → (rs : List Row) → ((e p : ℕ
     → placedFrom rs 1 (st .processes) ≡ true
 unfolding recordsFit processes processesPlaced
 placed-still st s rs h =
-    let l : length (st .processes) ≡ 64 = eqb-true (length (st .processes)) 64 (s .records-fit) in
-    placed-stays (st .rows) rs h 1 (st .processes) (omega arith) (s .processes-placed)
+    let l : length (st .processes) ≡ 64 = eqb-true (length (st .processes)) 64 (s .placed .records-fit) in
+    placed-stays (st .rows) rs h 1 (st .processes) (omega arith) (s .placed .processes-placed)
 
 -- ---- a listed process
 module _ (st : State) (s : Sound st) (p : ℕ) (l : isListed (st .processes) p ≡ true) where
   pub listed-range : (0 < p) × (p ≤ 64)
   unfolding recordsFit processes
   listed-range =
-      let fits : length (st .processes) ≡ 64 = eqb-true (length (st .processes)) 64 (s .records-fit) in
+      let fits : length (st .processes) ≡ 64 = eqb-true (length (st .processes)) 64 (s .placed .records-fit) in
       let (lo, hi) = listed-has-record (st .processes) p l in (lo, omega arith)
 
   pub clist-is : isClist (inClist p) ≡ true
@@ -255,7 +255,7 @@ module _ (st : State) (s : Sound st) (p : ℕ) (l : isListed (st .processes) p �
   record-at : (q : ℕ) → recordInRange (processAt (st .processes) q) ≡ true
   unfolding recordsInRange recordInRange recordUnused processAt noProcess
   record-at zero = refl
-  record-at (suc i) = all-getD recordInRange (st .processes) (s .records-in-range) i noProcess refl
+  record-at (suc i) = all-getD recordInRange (st .processes) (s .placed .records-in-range) i noProcess refl
 
   nodes-right : (x : Process) → some (x .prime) ≡ true → recordInRange x ≡ true → between 1 nodes (x .prime) && between 1 nodes (x .active) ≡ true
   unfolding recordInRange recordUnused
@@ -275,4 +275,4 @@ module _ (st : State) (s : Sound st) (p : ℕ) (l : isListed (st .processes) p �
     where
       go : (q : ℕ) → (0 < q) × (q ≤ 64) → processPlaced (st .rows) q (processAt (st .processes) q) ≡ true
       go zero (h, h′) = absurd (omega arith)
-      go (suc i) h = placed-from (st .rows) (st .processes) 1 (s .processes-placed) i (suc i) (omega arith)
+      go (suc i) h = placed-from (st .rows) (st .processes) 1 (s .placed .processes-placed) i (suc i) (omega arith)

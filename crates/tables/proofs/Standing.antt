@@ -27,17 +27,17 @@ module _ (st : State) (s : Sound st) (n : ℕ) (t : member n (numbers (st .rows)
 
   right : sourceRight (st .requests) (rowOf (st .rows) n) older ≡ true
   unfolding sourcesRight rowOf numbers older
-  right = each-first (λ r. r .number) noRow (sourceRight (st .requests)) (st .rows) (s .sources-right) n t
+  right = each-first (λ r. r .number) noRow (sourceRight (st .requests)) (st .rows) (s .rows .sources-right) n t
 
   -- what is among the older rows has a lower number
   lower : (m : ℕ) → Among older m → m < n
   unfolding rowsRise numbers older
-  lower m (inl z) = let (lo, hi) = rises-range (λ r. r .number) (st .rows) (s .rows-rise) n t in omega arith
-  lower m (inr u) = older-key (λ r. r .number) (st .rows) (s .rows-rise) n m t u .0
+  lower m (inl z) = let (lo, hi) = rises-range (λ r. r .number) (st .rows) (s .numbers .rows-rise) n t in omega arith
+  lower m (inr u) = older-key (λ r. r .number) (st .rows) (s .numbers .rows-rise) n m t u .0
 
   look-older : (m : ℕ) → m < n → rowOf older m ≡ rowOf (st .rows) m
   unfolding rowsRise rowOf numbers older
-  look-older m h = older-first (λ r. r .number) noRow (st .rows) (s .rows-rise) n t m h
+  look-older m h = older-first (λ r. r .number) noRow (st .rows) (s .numbers .rows-rise) n t m h
 
   -- the sources are 0 or older
   pub source-lower : (rowOf (st .rows) n .source) < n
@@ -54,7 +54,7 @@ module _ (st : State) (s : Sound st) (n : ℕ) (t : member n (numbers (st .rows)
 
   copied : copyMatches (rowOf (st .rows) n) older ≡ true
   unfolding copiesMatch rowOf numbers older
-  copied = each-first (λ r. r .number) noRow copyMatches (st .rows) (s .copies-match) n t
+  copied = each-first (λ r. r .number) noRow copyMatches (st .rows) (s .rows .copies-match) n t
 
   pub standing-copy : copyMatches (rowOf (st .rows) n) (st .rows) ≡ true
   unfolding copyMatches
@@ -83,7 +83,7 @@ sources-older st s =
     (λ r rs e.
     let (a, b) = shape-sources (st .requests) r rs (shape (st .requests) r rs e) in
     kept-one (λ s. member s (numbers rs)) (r .source) (r .via ∷ []) a (kept-one (λ s. member s (numbers rs)) (r .via) [] b refl))
-    (st .rows) (s .sources-right)
+    (st .rows) (s .rows .sources-right)
 
 pub via-listed : (r : Row) → some (r .via) ≡ true → member (r .via) (sources r) ≡ true
 unfolding sources nonzero filter
@@ -155,7 +155,7 @@ pub nodes-stay : (st : State) → Sound st → (f : Row → Bool)
     → (n : ℕ) → isNode (rowOf (st .rows) n .place) ≡ true → member n (marked f (st .rows)) ≡ false
 unfolding rowsRise
 nodes-stay st s f seed n e =
-    false-of _ (λ m. clash e (not-t (isNode (rowOf (st .rows) n .place)) (marked-least f (λ n. not (isNode (rowOf (st .rows) n .place))) (st .rows) (s .rows-rise) closed n m)))
+    false-of _ (λ m. clash e (not-t (isNode (rowOf (st .rows) n .place)) (marked-least f (λ n. not (isNode (rowOf (st .rows) n .place))) (st .rows) (s .numbers .rows-rise) closed n m)))
   where
     closed : (n : ℕ) → member n (numbers (st .rows)) ≡ true
         → f (rowOf (st .rows) n) || any (λ m. not (isNode (rowOf (st .rows) m .place))) (sources (rowOf (st .rows) n)) ≡ true

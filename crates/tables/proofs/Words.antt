@@ -24,29 +24,29 @@ use Rattle.rows.proofs.RepresentedWords.{long-words, row-at, request-at, next-a
 pub sound-represents : (st : State) → Sound st → Represents (wordsOf st) st
 unfolding laidWell
 sound-represents st s =
-    record { well = rw (s .rows-rise, s .requests-rise, s .rows-fit, s .requests-fit, s .items-few) (sources-older st s); words = refl }
+    record { well = rw (s .numbers .rows-rise, s .numbers .requests-rise, s .numbers .rows-fit, s .numbers .requests-fit, s .loans .items-few) (sources-older st s); words = refl }
 
 module _ (st : State) (s : Sound st) where
   few-rows : length (st .rows) ≤ rowSlots
   unfolding rowsFit
-  few-rows = leb-true (length (st .rows)) rowSlots (s .rows-fit)
+  few-rows = leb-true (length (st .rows)) rowSlots (s .numbers .rows-fit)
 
   few-requests : length (st .requests) ≤ requestSlots
   unfolding requestsFit
-  few-requests = leb-true (length (st .requests)) requestSlots (s .requests-fit)
+  few-requests = leb-true (length (st .requests)) requestSlots (s .numbers .requests-fit)
 
   long-processes : length (recordsOf (st .processes)) ≡ processesLength
   unfolding recordsFit processesLength
-  long-processes = length-records (st .processes) ∙ ap (λ (n : ℕ). 3 * n) (eqb-true (length (st .processes)) processes (s .records-fit))
+  long-processes = length-records (st .processes) ∙ ap (λ (n : ℕ). 3 * n) (eqb-true (length (st .processes)) processes (s .placed .records-fit))
 
   -- ---- read back
   rows-read : rowsTo (wordsOf st) (rowsIn (wordsOf st)) (rowsIn (wordsOf st)) ≡ st .rows
   unfolding rowsRise sourcesRight
-  rows-read = rw (rows-in st few-rows few-requests (s .rows-rise)) (rows-back (wordsOf st) (st .rows) few-rows (row-at st few-rows few-requests) (st .requests) (s .rows-rise) (s .sources-right))
+  rows-read = rw (rows-in st few-rows few-requests (s .numbers .rows-rise)) (rows-back (wordsOf st) (st .rows) few-rows (row-at st few-rows few-requests) (st .requests) (s .numbers .rows-rise) (s .rows .sources-right))
 
   requests-read : requestsTo (wordsOf st) (requestsIn (wordsOf st)) ≡ st .requests
   unfolding requestsRise itemsFew
-  requests-read = rw (requests-in st few-rows few-requests (s .requests-rise)) (requests-back (wordsOf st) (st .requests) few-requests (request-at st few-rows few-requests) (s .items-few))
+  requests-read = rw (requests-in st few-rows few-requests (s .numbers .requests-rise)) (requests-back (wordsOf st) (st .requests) few-requests (request-at st few-rows few-requests) (s .loans .items-few))
 
   pub state-words : stateOf (wordsOf st) (recordsOf (st .processes)) ≡ st
   unfolding stateOf

@@ -111,33 +111,48 @@ good-sound fs g =
     let none = opened-requests fs in
     let roots = opened-all fs isRoot (row-root fs) g in
     record {
-      rows-rise = counted-rises (openedFrom empty fs .rows) c;
-      requests-rise = rw none refl;
-      numbers-apart = rw none refl;
-      below-next = rw (none, lt-ltb (topOf (λ r. r .number) (openedFrom empty fs .rows)) (openedFrom empty fs .next) (omega arith), lt-ltb 0 (openedFrom empty fs .next) (omega arith)) refl;
-      next-in-range = range-between 1 1000001 (openedFrom empty fs .next) (omega arith) (omega arith);
-      rows-fit = le-leb (length (openedFrom empty fs .rows)) 1024 (omega arith);
-      requests-fit = rw none refl;
-      records-fit = eq-eqb (length (openedFrom empty fs .processes)) processes (opened-length fs);
-      objects-in-range = opened-all fs (objectInRange (openedFrom empty fs .processes)) (row-object fs g) g;
-      rights-in-range = opened-all fs rightInRange (row-rights fs) g;
-      places-in-range = opened-all fs (placeInRange (openedFrom empty fs .processes)) (row-place fs fs) g;
-      fetched-in-range = rw none refl;
-      sources-right = all-each isOpening (sourceRight (openedFrom empty fs .requests)) (λ r rs o. or-l (isOpening r) _ o) (openedFrom empty fs .rows) (opened-opening fs g);
-      depths-right = roots-deep (openedFrom empty fs .rows) c roots;
-      copies-match = all-each isRoot copyMatches root-matches (openedFrom empty fs .rows) roots;
-      records-in-range = all-mono isHome recordInRange home-ranged (openedFrom empty fs .processes) (opened-home fs (g .passed));
-      ends-paired = opened-all fs (endPaired (openedFrom empty fs .rows)) (row-no-end fs (openedFrom empty fs .rows)) g;
-      ports-stand = rw none refl;
-      requesters-listed = rw none refl;
-      items-few = rw none refl;
-      items-apart = rw none refl;
-      items-lent = rw none refl;
-      one-per-port = rw none refl;
-      copies-listed = opened-all fs (copyListed (openedFrom empty fs .requests)) (λ n m e b f. refl) g;
-      older-fetched = rw none refl;
-      system-holds = rw none (opened-all fs (λ r. same (isSystem (r .place)) (awaitsFetch [] (r .number))) (λ n m e b f. row-not-system n m e b) g);
-      processes-placed = home-placed (openedFrom empty fs .rows) 1 (openedFrom empty fs .processes) (opened-home fs (g .passed));
+      numbers =
+          record {
+            rows-rise = counted-rises (openedFrom empty fs .rows) c;
+            requests-rise = rw none refl;
+            numbers-apart = rw none refl;
+            below-next = rw (none, lt-ltb (topOf (λ r. r .number) (openedFrom empty fs .rows)) (openedFrom empty fs .next) (omega arith), lt-ltb 0 (openedFrom empty fs .next) (omega arith)) refl;
+            next-in-range = range-between 1 1000001 (openedFrom empty fs .next) (omega arith) (omega arith);
+            rows-fit = le-leb (length (openedFrom empty fs .rows)) 1024 (omega arith);
+            requests-fit = rw none refl;
+          };
+      rows =
+          record {
+            objects-in-range = opened-all fs (objectInRange (openedFrom empty fs .processes)) (row-object fs g) g;
+            rights-in-range = opened-all fs rightInRange (row-rights fs) g;
+            places-in-range = opened-all fs (placeInRange (openedFrom empty fs .processes)) (row-place fs fs) g;
+            sources-right = all-each isOpening (sourceRight (openedFrom empty fs .requests)) (λ r rs o. or-l (isOpening r) _ o) (openedFrom empty fs .rows) (opened-opening fs g);
+            depths-right = roots-deep (openedFrom empty fs .rows) c roots;
+            copies-match = all-each isRoot copyMatches root-matches (openedFrom empty fs .rows) roots;
+            ends-paired = opened-all fs (endPaired (openedFrom empty fs .rows)) (row-no-end fs (openedFrom empty fs .rows)) g;
+          };
+      loans =
+          record {
+            fetched-in-range = rw none refl;
+            ports-stand = rw none refl;
+            requesters-listed = rw none refl;
+            items-few = rw none refl;
+            items-apart = rw none refl;
+            items-lent = rw none refl;
+            one-per-port = rw none refl;
+            copies-listed = opened-all fs (copyListed (openedFrom empty fs .requests)) (λ n m e b f. refl) g;
+          };
+      holders =
+          record {
+            older-fetched = rw none refl;
+            system-holds = rw none (opened-all fs (λ r. same (isSystem (r .place)) (awaitsFetch [] (r .number))) (λ n m e b f. row-not-system n m e b) g);
+          };
+      placed =
+          record {
+            records-fit = eq-eqb (length (openedFrom empty fs .processes)) processes (opened-length fs);
+            records-in-range = all-mono isHome recordInRange home-ranged (openedFrom empty fs .processes) (opened-home fs (g .passed));
+            processes-placed = home-placed (openedFrom empty fs .rows) 1 (openedFrom empty fs .processes) (opened-home fs (g .passed));
+          };
     }
 
 pub opened-sound : (ls rest : List (List ℕ)) (fs : List Form) → openingOf ls ≡ opens fs rest → Sound (stateOpened fs)

@@ -18,7 +18,7 @@ unfoldable pub sourcesOlder : List Row → Bool
 sourcesOlder rows = each (λ r rs. all (λ s. member s (numbers rs)) (sources r)) rows
 
 unfoldable pub laidWell : State → Bool
-laidWell st = rowsRise st && (requestsRise st && (rowsFit st && (requestsFit st && (itemsFew st && sourcesOlder (st .rows)))))
+laidWell st = rowsRise (st .rows) && (requestsRise (st .requests) && (rowsFit (st .rows) && (requestsFit (st .requests) && (itemsFew (st .requests) && sourcesOlder (st .rows)))))
 
 -- the words t are those of the state, and the state can be read back from them
 pub record Represents (t : List ℕ) (st : State) : Type 0 where

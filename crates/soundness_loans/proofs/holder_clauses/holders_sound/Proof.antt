@@ -15,7 +15,7 @@ use Rattle.soundness_loans.proofs.holder_clauses.holders_sound.Statemen
 use Rattle.soundness_loans.proofs.holder_clauses.holders_sound.Tie as tie
 
 abbrev Inv-loop : tie.InvT-loop
-Inv-loop t n m listing₀ older₀ j₀ listing older j = (j ≤ m) × ((st : State) → Represents t st → n ≡ length (st .rows) → m ≡ length (st .requests) → itemsLent st ≡ true → Listing (st .rows) (requestsTo t m) (requestsTo t j) listing older)
+Inv-loop t n m listing₀ older₀ j₀ listing older j = (j ≤ m) × ((st : State) → Represents t st → n ≡ length (st .rows) → m ≡ length (st .requests) → itemsLent (st .rows) (st .requests) ≡ true → Listing (st .rows) (requestsTo t m) (requestsTo t j) listing older)
 
 abbrev μ-loop : tie.MeasureT-loop
 μ-loop t n m listing₀ older₀ j₀ listing older j = j
