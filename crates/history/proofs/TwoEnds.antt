@@ -80,7 +80,7 @@ end-of ps r o k = ⊎-elim (λ c. client-end c (client-object ps r o c)) (λ c. 
 -- ---- both ends
 module _ (st : State) (s : Sound st) where
   end-of-row : (n : ℕ) → member n (numbers (st .rows)) ≡ true → isEnd (rowOf (st .rows) n .kind) ≡ true → EndOf (rowOf (st .rows) n)
-  end-of-row n t k = end-of (st .processes) (rowOf (st .rows) n) (row-object st s n t) k
+  end-of-row n t k = end-of (st .processes) (rowOf (st .rows) n) (row-object st (s .rows) n t) k
 
   -- an end is with a process or the system
   end-held : (n : ℕ) → member n (numbers (st .rows)) ≡ true → isEnd (rowOf (st .rows) n .kind) ≡ true → isClist (rowOf (st .rows) n .place) || isSystem (rowOf (st .rows) n .place) ≡ true
@@ -104,12 +104,12 @@ module _ (st : State) (s : Sound st) where
 
     server-kind : isEnd (rowOf (st .rows) (suc c) .kind) ≡ true
     unfolding isPairedWith
-    server-kind = and-l (isEnd (rowOf (st .rows) (suc c) .kind)) (eqb (rowOf (st .rows) c .object) (rowOf (st .rows) (suc c) .object) && eqb (rowOf (st .rows) c .source) (rowOf (st .rows) (suc c) .source)) (client-paired st s c client)
+    server-kind = and-l (isEnd (rowOf (st .rows) (suc c) .kind)) (eqb (rowOf (st .rows) c .object) (rowOf (st .rows) (suc c) .object) && eqb (rowOf (st .rows) c .source) (rowOf (st .rows) (suc c) .source)) (client-paired st (s .rows) c client)
 
     server-port : rowOf (st .rows) (suc c) .object ≡ c
     unfolding isPairedWith
     server-port =
-        let h = and-r (isEnd (rowOf (st .rows) (suc c) .kind)) (eqb (rowOf (st .rows) c .object) (rowOf (st .rows) (suc c) .object) && eqb (rowOf (st .rows) c .source) (rowOf (st .rows) (suc c) .source)) (client-paired st s c client) in
+        let h = and-r (isEnd (rowOf (st .rows) (suc c) .kind)) (eqb (rowOf (st .rows) c .object) (rowOf (st .rows) (suc c) .object) && eqb (rowOf (st .rows) c .source) (rowOf (st .rows) (suc c) .source)) (client-paired st (s .rows) c client) in
         sym (eqb-true (rowOf (st .rows) c .object) (rowOf (st .rows) (suc c) .object) (and-l _ (eqb (rowOf (st .rows) c .source) (rowOf (st .rows) (suc c) .source)) h)) ∙ o
 
     server-there : member (suc c) (numbers (st .rows)) ≡ true

@@ -79,7 +79,7 @@ module _ (st : State) (s : Sound st) (p c : ℕ) (client : isClient (rowOf (st .
         le-leb (copyDepth st c i) greatestDepth (ltb-false greatestDepth (copyDepth st c i) (not-t (ltb greatestDepth (copyDepth st c i)) d))
 
     object-of : objectInRange (st .processes) (rowOf (st .rows) (i .row)) ≡ true
-    object-of = row-object st s (i .row) (lendable-there st p c i g)
+    object-of = row-object st (s .rows) (i .row) (lendable-there st p c i g)
 
     copy-no-end : isEnd (copyLent st c (st .next) n i .kind) ≡ false
     unfolding copyLent copyOf itemRow
@@ -124,7 +124,7 @@ module _ (st : State) (s : Sound st) (p c : ℕ) (client : isClient (rowOf (st .
         right : isLentCopy requests′ (copyLent st c (st .next) n i) (rowOf base (i .row)) (rowOf base c) ≡ true
         right =
             unfold isLentCopy copyLent copyOf itemRow in
-            rw (pos-some (st .next) (next-some st s), system-no-node, item-copied, kind-same t withSystem z (st .rows) (i .row), item-copied, kind-same t withSystem z (st .rows) c, client, request-new)
+            rw (pos-some (st .next) (next-some st (s .numbers)), system-no-node, item-copied, kind-same t withSystem z (st .rows) (i .row), item-copied, kind-same t withSystem z (st .rows) c, client, request-new)
             (unfold newRequest in eqb-self c)
 
     -- tests that do not look at places say the same of the sources where they were

@@ -18,7 +18,7 @@ use Rattle.rows.proofs.Bools.{false-of, clash, and-l, or-map, not-f, all-mono, 
 use Rattle.rows.proofs.Keyed.{rises-map}
 use Rattle.tables.proofs.Sound.{Sound}
 use Rattle.rows.proofs.RowSources.{subdirectory-there, end-there, client-there}
-use Rattle.tables.proofs.SoundFacts.{row-below, rows-top, row-number, same-eq, placed-still}
+use Rattle.tables.proofs.SoundFacts.{row-below, rows-top, row-number, same-eq, same-place, placed-still}
 use Rattle.rows.proofs.Places.{clist-not-node, system-no-node, system-in-range, subdirectory-no-end}
 use Rattle.rows.proofs.Lists.{all-map}
 use Rattle.rows.specs.Setters.{withPlace}
@@ -58,11 +58,11 @@ module _ (st : State) (s : Sound st) (p c : ℕ) (is : List Item) (a : AskAllowe
       (λ n i g. (below (i .row) (lendable-there st p c i g), h n i g)) (copies st is) lo (lentRows st is) (a .lent) (omega arith) (λ m _. refl) e
     where
       below : (m : ℕ) → member m (numbers (st .rows)) ≡ true → m < lo
-      below m t = let (l, u) = row-below st s m t in omega arith
+      below m t = let (l, u) = row-below st (s .numbers) m t in omega arith
 
   -- ---- numbers
   lent-top : topOf (λ r. r .number) (lentRows st is) < lo
-  lent-top = rw (top-map (λ r. r .number) noRow (moved (isItem st is) withSystem) (moved-number (isItem st is) withSystem) (st .rows)) (let t = rows-top st s in omega arith)
+  lent-top = rw (top-map (λ r. r .number) noRow (moved (isItem st is) withSystem) (moved-number (isItem st is) withSystem) (st .rows)) (let t = rows-top st (s .numbers) in omega arith)
 
   pub rows-top′ : topOf (λ r. r .number) (askedRows st c is) < hi
   rows-top′ = top-stacked st c (st .next) (copies st is) lo (lentRows st is) lent-top
@@ -108,7 +108,7 @@ module _ (st : State) (s : Sound st) (p c : ℕ) (is : List Item) (a : AskAllowe
   -- ---- sources
   may-move : all (mayMove (isItem st is)) (st .rows) ≡ true
   unfolding mayMove
-  may-move = of-rows st s (mayMove (isItem st is)) (λ n m. pick n m (isItem st is n) refl)
+  may-move = of-rows (st .rows) (s .numbers .rows-rise) (mayMove (isItem st is)) (λ n m. pick n m (isItem st is n) refl)
     where
       pick : (n : ℕ) → member n (numbers (st .rows)) ≡ true → (b : Bool) → isItem st is n ≡ b
           → not (isItem st is (rowOf (st .rows) n .number)) || (not (isNode (rowOf (st .rows) n .place)) && (isEnd (rowOf (st .rows) n .kind) || some (rowOf (st .rows) n .request))) ≡ true
@@ -152,7 +152,7 @@ module _ (st : State) (s : Sound st) (p c : ℕ) (is : List Item) (a : AskAllowe
       other : (r : Row) → isPairedWith r (rowOf (lentRows st is) (otherEnd r)) ≡ true → isPairedWith r (rowOf (askedRows st c is) (otherEnd r)) ≡ true
       other r e =
           let k : isEnd (rowOf (st .rows) (otherEnd r) .kind) ≡ true = sym (ap isEnd (kind-same (isItem st is) withSystem none (st .rows) (otherEnd r))) ∙ end-of r (rowOf (lentRows st is) (otherEnd r)) e in
-          let (lo, hi) = row-below st s (otherEnd r) (end-there (st .rows) (otherEnd r) k) in
+          let (lo, hi) = row-below st (s .numbers) (otherEnd r) (end-there (st .rows) (otherEnd r) k) in
           ap (isPairedWith r) (row-stacked st c (st .next) (copies st is) (suc (st .next)) (lentRows st is) (otherEnd r) (omega arith)) ∙ e
 
       step : (r : Row) → endPaired (lentRows st is) r ≡ true → endPaired (askedRows st c is) r ≡ true
@@ -177,7 +177,7 @@ module _ (st : State) (s : Sound st) (p c : ℕ) (is : List Item) (a : AskAllowe
   system-holds =
       rows-all holds
       (λ n i g l h. copy-held st s p c (a .client) (isItem st is) none (listed st is (suc (st .next))) n i g (omega arith) (lists-copy st s p c is a n l h))
-      (all-map holds (moved (isItem st is) withSystem) (st .rows) ∙ of-rows st s (λ r. holds (moved (isItem st is) withSystem r)) (λ n m. pick n m (isItem st is n) refl))
+      (all-map holds (moved (isItem st is) withSystem) (st .rows) ∙ of-rows (st .rows) (s .numbers .rows-rise) (λ r. holds (moved (isItem st is) withSystem r)) (λ n m. pick n m (isItem st is n) refl))
     where
       holds : Row → Bool
       holds r = same (isSystem (r .place)) (awaitsFetch (asked st p c is ∷ st .requests) (r .number))
@@ -206,17 +206,17 @@ module _ (st : State) (s : Sound st) (p c : ℕ) (is : List Item) (a : AskAllowe
           ∙ sym (ap (awaitsFetch (asked st p c is ∷ st .requests)) (moved-number (isItem st is) withSystem (rowOf (st .rows) n) ∙ row-number (st .rows) n m) ∙ awaited n g))
       pick n m false g =
           rw (moved-stays (isItem st is) withSystem (rowOf (st .rows) n) (ap (isItem st is) (row-number (st .rows) n m) ∙ g))
-          (rw (row-number (st .rows) n m, as-before n (row-below st s n m .1) g) (held-so st s n m))
+          (rw (row-number (st .rows) n m, as-before n (row-below st (s .numbers) n m .1) g) (held-so (st .rows) (st .requests) (s .holders .system-holds) n m))
 
   -- ---- processes
   pub processes-placed : processesPlaced (askedRows st c is) (st .processes) ≡ true
   unfolding processesPlaced
   processes-placed =
-      placed-still st s (askedRows st c is) stays
+      placed-still (st .rows) (askedRows st c is) (λ e k hi sub at. same-place (rowOf (st .rows) e) (rowOf (askedRows st c is) e) (stays e k hi sub at)) (st .processes) (s .placed)
     where
       stays : (e k : ℕ) → k ≤ 64 → isSubdirectory (rowOf (st .rows) e .kind) ≡ true → rowOf (st .rows) e .place ≡ inClist k → rowOf (askedRows st c is) e ≡ rowOf (st .rows) e
       stays e k u sub at =
           let m : member e (numbers (st .rows)) ≡ true = subdirectory-there (st .rows) e sub in
-          let below : e < st .next = row-below st s e m .1 in
+          let below : e < st .next = row-below st (s .numbers) e m .1 in
           let g : isItem st is e ≡ false = false-of (isItem st is e) (λ g. clash (named-end st is e g) (subdirectory-no-end (rowOf (st .rows) e .kind) sub)) in
           old-found st s p c is a e (omega arith) ∙ moved-stays (isItem st is) withSystem (rowOf (st .rows) e) (ap (isItem st is) (row-number (st .rows) e m) ∙ g)

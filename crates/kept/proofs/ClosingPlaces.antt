@@ -82,11 +82,11 @@ record Clist (ps : List Process) (place : ℕ) : Type 0 where
   pub owned : isClist place && isListed ps (ownerOf place) ≡ true
 
 clist : (st : State) → Sound st → (p : ℕ) → isListed (st .processes) p ≡ true → Clist (st .processes) (inClist p)
-clist st s p l = record { no-node = clist-not-node p; no-system = clist-not-system st s p l; owned = clist-owned st s p l }
+clist st s p l = record { no-node = clist-not-node p; no-system = clist-not-system st (s .placed) p l; owned = clist-owned st (s .placed) p l }
 
 module _ (g : List ℕ) (f : Request → Bool) (st : State) (s : Sound st) (c : Closed g f st) where
   requests-positive : all (λ v. some (v .number)) (st .requests) ≡ true
-  requests-positive = all-mono (λ v. some (v .number) && ltb (v .number) (st .next)) (λ v. some (v .number)) (λ v e. and-l (some (v .number)) (ltb (v .number) (st .next)) e) (st .requests) (requests-between st s)
+  requests-positive = all-mono (λ v. some (v .number) && ltb (v .number) (st .next)) (λ v. some (v .number)) (λ v e. and-l (some (v .number)) (ltb (v .number) (st .next)) e) (st .requests) (requests-between st (s .numbers))
 
   -- ---- only ends are returned
   pub listed-end : (n : ℕ) → Stands st n → member n g ≡ false → listedIn f (st .requests) n ≡ true → isEnd (rowOf (st .rows) n .kind) ≡ true

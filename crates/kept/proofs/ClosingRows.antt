@@ -25,7 +25,7 @@ use Rattle.rows.specs.Setters.{withPlace, withItems}
 use Rattle.closing.specs.Closing.{oldestListing, returned, listedIn, leaves, homed, trimmed, remaining, settled}
 use Rattle.closing.proofs.TrimmedLists.{any-older, top-member, length-filter}
 use Rattle.closing.proofs.Facts.{Stands, IsOpen, end-at, copy-at, copy-listed, lists-open}
-use Rattle.closing.proofs.RemovedRows.{Closed}
+use Rattle.closing.proofs.RemovedRows.{Closed, source-stays, via-stays}
 use Rattle.closing.proofs.Lookups.{trimmed-lists, remaining-known, remaining-rises, request-after, returned-keeps, row-after, left-stood, all-left, each-left, older-before, older-after}
 use Rattle.closing.proofs.Processes.{listed-kept}
 use Rattle.kept.proofs.Sourced.{Placeless, depth-placeless, copy-placeless, rows-elsewhere, sources-alike, right-elsewhere}
@@ -115,11 +115,11 @@ module _ (g : List ℕ) (f : Request → Bool) (st : State) (s : Sound st) (c : 
       at-row n t k e =
           ap (λ m. G (back (row n)) (rowOf (after n) m) (viaOf (after n) (back (row n)))) (returned-keeps (λ r. r .source) (λ p r. unfold withPlace in refl) f (st .requests) (row n))
           ∙ ap (λ m. G (back (row n)) (sourceOf (after n) (row n)) (rowOf (after n) m)) (returned-keeps (λ r. r .via) (λ p r. unfold withPlace in refl) f (st .requests) (row n))
-          ∙ ap (λ x. G (back (row n)) x (viaOf (after n) (row n))) (left n (row n .source) t k (source-lower st s n t) (c .source-stays n t k))
-          ∙ ap (λ x. G (back (row n)) (back (row (row n .source))) x) (left n (row n .via) t k (via-lower st s n t) (c .via-stays n t k))
+          ∙ ap (λ x. G (back (row n)) x (viaOf (after n) (row n))) (left n (row n .source) t k (source-lower st (s .numbers) (s .rows) n t) (source-stays g f st c n t k))
+          ∙ ap (λ x. G (back (row n)) (back (row (row n .source))) x) (left n (row n .via) t k (via-lower st (s .numbers) (s .rows) n t) (via-stays g f st c n t k))
           ∙ h n t k
-          (ap (λ x. F (row n) x (row (row n .via))) (sym (old n (row n .source) t (source-lower st s n t)))
-          ∙ ap (λ x. F (row n) (sourceOf (before n) (row n)) x) (sym (old n (row n .via) t (via-lower st s n t))) ∙ e)
+          (ap (λ x. F (row n) x (row (row n .via))) (sym (old n (row n .source) t (source-lower st (s .numbers) (s .rows) n t)))
+          ∙ ap (λ x. F (row n) (sourceOf (before n) (row n)) x) (sym (old n (row n .via) t (via-lower st (s .numbers) (s .rows) n t))) ∙ e)
 
   placeless-kept : (F : Row → Row → Row → Bool) → Placeless F → sourced F (st .rows) ≡ true → sourced F (settled g f st .rows) ≡ true
   placeless-kept F h =
@@ -177,7 +177,7 @@ module _ (g : List ℕ) (f : Request → Bool) (st : State) (s : Sound st) (c : 
           stays : hasRightSources left (row n) (back (row (row n .source))) (back (row (row n .via))) ≡ true
           stays =
               sources-alike (st .requests) left (row n) (row (row n .source)) (back (row (row n .source))) (row (row n .via)) (back (row (row n .via)))
-              (kind (row (row n .source))) (node-kept g f st s c (row n .source) (c .source-stays n t k)) (kind (row (row n .via))) (port-same n t k)
+              (kind (row (row n .source))) (node-kept g f st s c (row n .source) (source-stays g f st c n t k)) (kind (row (row n .via))) (port-same n t k)
               ∙ e
 
           -- an end, which may be elsewhere

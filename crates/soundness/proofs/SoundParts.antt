@@ -10,10 +10,10 @@ use Rattle.rows.specs.Limits.{processes, rowSlots, requestSlots}
 use Rattle.rows.specs.Tables.{State}
 use Rattle.rows.specs.Sound.{rowsRise, requestsRise, numbersApart, belowNext, nextInRange, rowsFit, requestsFit, recordsFit, objectsInRange, rightsInRange, placesInRange, fetchedInRange, sourcesRight, depthsRight, copiesMatch, recordsInRange, endsPaired, portsStand, requestersListed, itemsFew, itemsApart, itemsLent, onePerPort, copiesListed, olderFetched, systemHolds, processesPlaced, sound}
 use Rattle.rows.specs.Layout.{rowColumns, requestColumns, requestsAt, nextAt, tablesLength, processesLength, wordsOf, recordsIn, rowsIn, requestsIn, stateOf, rightLengths, soundWords}
-use Rattle.rows.specs.contracts.Represents.{laidWell, Represents}
+use Rattle.rows.specs.contracts.Represents.{laidWell, Represents, sourcesOlder}
 use Rattle.soundness.specs.contracts.Laid.{Decides, RowsLaid, RequestsLaid}
 use Rattle.rows.proofs.Bools.{false-of, clash, bool-eq, and-l, and-r, and-i, not-t, not-f}
-use Rattle.tables.proofs.Sound.{Sound, sound-open, sound-close}
+use Rattle.tables.proofs.Sound.{Numbers, RowsSound, LoansSound, Sound, sound-open, sound-close}
 use Rattle.rows.proofs.LayoutColumns.{list-same}
 use Rattle.tables.proofs.Words.{words-state, sound-represents}
 use Rattle.rows.proofs.ProcessRecords.{length-in}
@@ -53,57 +53,64 @@ module _ (st : State) (e : sound st ≡ true) where
   sound-holders : ofHolders st ≡ true
   sound-holders = let s = sound-open st e in rw (s .holders .older-fetched, s .holders .system-holds) refl
 
--- and soundness from all of them
-module _ (st : State) {t : List ℕ} (rep : Represents t st) (fit : recordsFit (st .processes) ≡ true) (next : ofNext st ≡ true) (records : recordsInRange (st .processes) ≡ true)
-    (rows : ofRows st ≡ true) (requests : ofRequests st ≡ true) (holders : ofHolders st ≡ true) where
-  all-clauses : processesPlaced (st .rows) (st .processes) ≡ true → Sound st
+-- and soundness from all of them, part by part
+module _ (st : State) {t : List ℕ} (rep : Represents t st) (rows : ofRows st ≡ true) (requests : ofRequests st ≡ true) where
+  abbrev Laid : Type 0
+  Laid = rowsRise (st .rows) && (requestsRise (st .requests) && (rowsFit (st .rows) && (requestsFit (st .requests) && (itemsFew (st .requests) && sourcesOlder (st .rows))))) ≡ true
+
+  laid : Laid
   unfolding laidWell
-  all-clauses placed =
-      let well : rowsRise (st .rows) && (requestsRise (st .requests) && (rowsFit (st .rows) && (requestsFit (st .requests) && (itemsFew (st .requests) && _)))) ≡ true = rep .well in
+  laid = rep .well
+
+  all-numbers : ofNext st ≡ true → Numbers (st .next) (st .rows) (st .requests)
+  all-numbers next =
+      let well : Laid = laid in
+      record {
+        rows-rise = search and-l;
+        requests-rise = search (and-l, and-r);
+        numbers-apart = search and-l;
+        below-next = search (and-l, and-r);
+        next-in-range = search and-l;
+        rows-fit = search (and-l, and-r);
+        requests-fit = search (and-l, and-r);
+      }
+
+  all-rows : RowsSound (st .rows) (st .requests) (st .processes)
+  all-rows =
       let later : depthsRight (st .rows) && (copiesMatch (st .rows) && (endsPaired (st .rows) && copiesListed (st .requests) (st .rows))) ≡ true = search and-r in
       record {
-        numbers =
-            record {
-              rows-rise = search and-l;
-              requests-rise = search (and-l, and-r);
-              numbers-apart = search and-l;
-              below-next = search (and-l, and-r);
-              next-in-range = search and-l;
-              rows-fit = search (and-l, and-r);
-              requests-fit = search (and-l, and-r);
-            };
-        rows =
-            record {
-              objects-in-range = search and-l;
-              rights-in-range = search (and-l, and-r);
-              places-in-range = search (and-l, and-r);
-              sources-right = search (and-l, and-r);
-              depths-right = search and-l;
-              copies-match = search (and-l, and-r);
-              ends-paired = search (and-l, and-r);
-            };
-        loans =
-            record {
-              fetched-in-range = search (and-l, and-r);
-              ports-stand = search (and-l, and-r);
-              requesters-listed = search (and-l, and-r);
-              items-few = search (and-l, and-r);
-              items-apart = search (and-l, and-r);
-              items-lent = search (and-l, and-r);
-              one-per-port = search (and-l, and-r);
-              copies-listed = search (and-l, and-r);
-            };
-        holders =
-            record {
-              older-fetched = search and-l;
-              system-holds = search (and-l, and-r);
-            };
-        placed =
-            record {
-              records-fit = fit;
-              records-in-range = records;
-              processes-placed = placed;
-            };
+        objects-in-range = search and-l;
+        rights-in-range = search (and-l, and-r);
+        places-in-range = search (and-l, and-r);
+        sources-right = search (and-l, and-r);
+        depths-right = search and-l;
+        copies-match = search (and-l, and-r);
+        ends-paired = search (and-l, and-r);
+      }
+
+  all-loans : LoansSound (st .rows) (st .requests) (st .processes)
+  all-loans =
+      let well : Laid = laid in
+      let later : depthsRight (st .rows) && (copiesMatch (st .rows) && (endsPaired (st .rows) && copiesListed (st .requests) (st .rows))) ≡ true = search and-r in
+      record {
+        fetched-in-range = search (and-l, and-r);
+        ports-stand = search (and-l, and-r);
+        requesters-listed = search (and-l, and-r);
+        items-few = search (and-l, and-r);
+        items-apart = search (and-l, and-r);
+        items-lent = search (and-l, and-r);
+        one-per-port = search (and-l, and-r);
+        copies-listed = search (and-l, and-r);
+      }
+
+  all-parts : recordsFit (st .processes) ≡ true → ofNext st ≡ true → recordsInRange (st .processes) ≡ true → ofHolders st ≡ true → processesPlaced (st .rows) (st .processes) ≡ true → Sound st
+  all-parts fit next records holders placed =
+      record {
+        numbers = all-numbers next;
+        rows = all-rows;
+        loans = all-loans;
+        holders = record { older-fetched = search and-l; system-holds = search and-r };
+        placed = record { records-fit = fit; records-in-range = records; processes-placed = placed };
       }
 
 -- the tests of the groups, each of which may take those before it as given
@@ -117,7 +124,7 @@ module _ (st : State) {t : List ℕ} (rep : Represents t st) (fit : recordsFit (
           let q : ofRequests st ≡ true = sym eq ∙ and-l requests (holders && placed) (and-r rows (requests && (holders && placed)) e) in
           let rest : holders && placed ≡ true = and-r requests (holders && placed) (and-r rows (requests && (holders && placed)) e) in
           sound-close st
-          (all-clauses st rep fit next records (sym er ∙ and-l rows (requests && (holders && placed)) e) q (sym (eh (search (and-l, and-r))) ∙ and-l holders placed rest)
+          (all-parts st rep (sym er ∙ and-l rows (requests && (holders && placed)) e) q fit next records (sym (eh (search (and-l, and-r))) ∙ and-l holders placed rest)
           (sym ep ∙ and-r holders placed rest))
 
       back : sound st ≡ true → rows && (requests && (holders && placed)) ≡ true

@@ -24,7 +24,7 @@ use Rattle.rows.proofs.RepresentedWords.{long-words, row-at, request-at, next-a
 pub sound-represents : (st : State) → Sound st → Represents (wordsOf st) st
 unfolding laidWell
 sound-represents st s =
-    record { well = rw (s .numbers .rows-rise, s .numbers .requests-rise, s .numbers .rows-fit, s .numbers .requests-fit, s .loans .items-few) (sources-older st s); words = refl }
+    record { well = rw (s .numbers .rows-rise, s .numbers .requests-rise, s .numbers .rows-fit, s .numbers .requests-fit, s .loans .items-few) (sources-older st (s .numbers) (s .rows)); words = refl }
 
 module _ (st : State) (s : Sound st) where
   few-rows : length (st .rows) ≤ rowSlots
