@@ -47,7 +47,8 @@ module _ (st : State) (s : Sound st) (p c : ℕ) (is : List Item) (a : AskAllowe
   none = none-named st s p c is a
 
   -- what holds of the old rows and of each copy
-  rows-all : (P : Row → Bool) → ((n : ℕ) (i : Item) → lendable st p c i ≡ true → lo ≤ n → n < hi → P (copyLent st c (st .next) n i) ≡ true) → all P (lentRows st is) ≡ true → all P (askedRows st c is) ≡ true
+  rows-all : (P : Row → Bool) → ((n : ℕ) (i : Item) → lendable st p c i ≡ true → lo ≤ n → n < hi → P (copyLent st c (st .next) n i) ≡ true)
+      → all P (lentRows st is) ≡ true → all P (askedRows st c is) ≡ true
   rows-all P h e = all-stacked st c (st .next) (lendable st p c) lo hi P h (copies st is) lo (lentRows st is) (a .lent) (omega arith) (omega arith) e
 
   rows-sourced : (F : Row → Row → Row → Bool)
@@ -99,7 +100,8 @@ module _ (st : State) (s : Sound st) (p c : ℕ) (is : List Item) (a : AskAllowe
   places-in-range =
       rows-all (placeInRange (st .processes)) (λ n i g _ _. copy-place st s p c (a .client) (isItem st is) none [] n i g)
       (all-map (placeInRange (st .processes)) (moved (isItem st is) withSystem) (st .rows)
-      ∙ all-mono (placeInRange (st .processes)) (λ r. placeInRange (st .processes) (moved (isItem st is) withSystem r)) (λ r e. unfold moved in pick r (isItem st is (r .number)) e) (st .rows) (s .rows .places-in-range))
+      ∙ all-mono (placeInRange (st .processes)) (λ r. placeInRange (st .processes) (moved (isItem st is) withSystem r))
+      (λ r e. unfold moved in pick r (isItem st is (r .number)) e) (st .rows) (s .rows .places-in-range))
     where
       pick : (r : Row) (b : Bool) → placeInRange (st .processes) r ≡ true → placeInRange (st .processes) (cond b (withPlace withSystem r) r) ≡ true
       pick r true e = system-in-range (st .processes) (withPlace withSystem r) (unfold withPlace in refl)
@@ -113,7 +115,8 @@ module _ (st : State) (s : Sound st) (p c : ℕ) (is : List Item) (a : AskAllowe
       pick : (n : ℕ) → member n (numbers (st .rows)) ≡ true → (b : Bool) → isItem st is n ≡ b
           → not (isItem st is (rowOf (st .rows) n .number)) || (not (isNode (rowOf (st .rows) n .place)) && (isEnd (rowOf (st .rows) n .kind) || some (rowOf (st .rows) n .request))) ≡ true
       pick n m true g =
-          let at : rowOf (st .rows) n .place ≡ inClist p = unfold notHeld in eqb-true (rowOf (st .rows) n .place) (inClist p) (not-f (eqb (rowOf (st .rows) n .place) (inClist p)) (named-held st s p c is a n g)) in
+          let at : rowOf (st .rows) n .place ≡ inClist p =
+          unfold notHeld in eqb-true (rowOf (st .rows) n .place) (inClist p) (not-f (eqb (rowOf (st .rows) n .place) (inClist p)) (named-held st s p c is a n g)) in
           rw (row-number (st .rows) n m, g, at, clist-not-node p, named-end st is n g) refl
       pick n m false g = rw (row-number (st .rows) n m, g) refl
 
@@ -151,7 +154,8 @@ module _ (st : State) (s : Sound st) (p c : ℕ) (is : List Item) (a : AskAllowe
 
       other : (r : Row) → isPairedWith r (rowOf (lentRows st is) (otherEnd r)) ≡ true → isPairedWith r (rowOf (askedRows st c is) (otherEnd r)) ≡ true
       other r e =
-          let k : isEnd (rowOf (st .rows) (otherEnd r) .kind) ≡ true = sym (ap isEnd (kind-same (isItem st is) withSystem none (st .rows) (otherEnd r))) ∙ end-of r (rowOf (lentRows st is) (otherEnd r)) e in
+          let k : isEnd (rowOf (st .rows) (otherEnd r) .kind) ≡ true =
+          sym (ap isEnd (kind-same (isItem st is) withSystem none (st .rows) (otherEnd r))) ∙ end-of r (rowOf (lentRows st is) (otherEnd r)) e in
           let (lo, hi) = row-below st (s .numbers) (otherEnd r) (end-there (st .rows) (otherEnd r) k) in
           ap (isPairedWith r) (row-stacked st c (st .next) (copies st is) (suc (st .next)) (lentRows st is) (otherEnd r) (omega arith)) ∙ e
 

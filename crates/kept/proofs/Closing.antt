@@ -125,7 +125,9 @@ module _ (st : State) (s : Sound st) where
   close-port-kept c = closing-kept (isEndOf c) [] st s (record { pairs = pairs; bearing = λ n t m. clash m refl })
     where
       pairs : (n : ℕ) → Stands st n → isEnd (rowOf (st .rows) n .kind) ≡ true → isEndOf c (rowOf (st .rows) n) ≡ isEndOf c (rowOf (st .rows) (otherEnd (rowOf (st .rows) n)))
-      pairs n t k = ap (λ b. b && eqb (rowOf (st .rows) n .object) c) (k ∙ sym (pair-at n t k .is-end)) ∙ ap (λ m. isEnd (rowOf (st .rows) (otherEnd (rowOf (st .rows) n)) .kind) && eqb m c) (pair-at n t k .port)
+      pairs n t k =
+          ap (λ b. b && eqb (rowOf (st .rows) n .object) c) (k ∙ sym (pair-at n t k .is-end))
+          ∙ ap (λ m. isEnd (rowOf (st .rows) (otherEnd (rowOf (st .rows) n)) .kind) && eqb m c) (pair-at n t k .port)
 
   pub drop-kept : (e : ℕ) → isEnd (rowOf (st .rows) e .kind) ≡ false → Sound (dropRow e st)
   unfolding dropRow isRow member

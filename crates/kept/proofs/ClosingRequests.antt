@@ -78,12 +78,14 @@ module _ (g : List ℕ) (f : Request → Bool) (st : State) where
 
   pub numbers-apart-kept : numbersApart (st .rows) (st .requests) ≡ true → numbersApart (settled g f st .rows) (settled g f st .requests) ≡ true
   unfolding numbersApart
-  numbers-apart-kept w = unfold settled in all-remaining f g (λ v. not (member (v .number) (numbers (st .rows)))) (λ v. not (member (v .number) (numbers (settled g f st .rows)))) at-request (st .requests) w
+  numbers-apart-kept w =
+      unfold settled in all-remaining f g (λ v. not (member (v .number) (numbers (st .rows)))) (λ v. not (member (v .number) (numbers (settled g f st .rows)))) at-request (st .requests) w
     where
       apart : (n : ℕ) → not (member n (numbers (st .rows))) ≡ true → not (member n (numbers (settled g f st .rows))) ≡ true
       apart n e = ap not (left-keys g f st n ∙ ap (λ b. b && not (member n g)) (not-t (member n (numbers (st .rows))) e))
 
-      at-request : (vs : List Request) (v : Request) → f v ≡ false → not (member (v .number) (numbers (st .rows))) ≡ true → not (member (trimmed f g vs v .number) (numbers (settled g f st .rows))) ≡ true
+      at-request : (vs : List Request) (v : Request) → f v ≡ false → not (member (v .number) (numbers (st .rows))) ≡ true
+          → not (member (trimmed f g vs v .number) (numbers (settled g f st .rows))) ≡ true
       at-request vs v q e = unfold trimmed in apart (v .number) e
 
   pub fetched-in-range-kept : fetchedInRange (st .requests) ≡ true → fetchedInRange (settled g f st .requests) ≡ true
@@ -93,12 +95,14 @@ module _ (g : List ℕ) (f : Request → Bool) (st : State) where
   pub requesters-listed-kept : requestersListed (st .processes) (st .requests) ≡ true → requestersListed (settled g f st .processes) (settled g f st .requests) ≡ true
   unfolding requestersListed settled trimmed
   requesters-listed-kept w =
-      all-remaining f g (λ v. isListed (st .processes) (v .asker)) (λ v. isListed (map (homed g) (st .processes)) (v .asker)) (λ vs v q e. listed-kept g (st .processes) (v .asker) ∙ e) (st .requests) w
+      all-remaining f g (λ v. isListed (st .processes) (v .asker)) (λ v. isListed (map (homed g) (st .processes)) (v .asker))
+      (λ vs v q e. listed-kept g (st .processes) (v .asker) ∙ e) (st .requests) w
 
   pub items-few-kept : itemsFew (st .requests) ≡ true → itemsFew (settled g f st .requests) ≡ true
   unfolding itemsFew settled trimmed
   items-few-kept w =
-      all-remaining f g (λ v. eqb (length (v .items)) mostItems) (λ v. eqb (length (v .items)) mostItems) (λ vs v q e. ap (λ n. eqb n mostItems) (length-map (v .items) (λ e. cond (leaves f g vs e) 0 e)) ∙ e) (st .requests) w
+      all-remaining f g (λ v. eqb (length (v .items)) mostItems) (λ v. eqb (length (v .items)) mostItems)
+      (λ vs v q e. ap (λ n. eqb n mostItems) (length-map (v .items) (λ e. cond (leaves f g vs e) 0 e)) ∙ e) (st .requests) w
 
   pub items-apart-kept : itemsApart (st .requests) ≡ true → itemsApart (settled g f st .requests) ≡ true
   unfolding itemsApart settled trimmed trim
@@ -126,7 +130,8 @@ module _ (g : List ℕ) (f : Request → Bool) (st : State) where
   pub items-lent-kept : itemsLent (st .rows) (st .requests) ≡ true → itemsLent (settled g f st .rows) (settled g f st .requests) ≡ true
   unfolding itemsLent mayBeListed settled trimmed trim withPlace leaves
   items-lent-kept w =
-      all-remaining f g (λ v. all (λ e. mayBeListed v (rowOf (st .rows) e)) (nonzero (v .items))) (λ v. all (λ e. mayBeListed v (rowOf (settled g f st .rows) e)) (nonzero (v .items))) at-request (st .requests) w
+      all-remaining f g (λ v. all (λ e. mayBeListed v (rowOf (st .rows) e)) (nonzero (v .items)))
+      (λ v. all (λ e. mayBeListed v (rowOf (settled g f st .rows) e)) (nonzero (v .items))) at-request (st .requests) w
     where
       at-item : (vs : List Request) (v : Request) → all (λ e. mayBeListed v (rowOf (st .rows) e)) (nonzero (v .items)) ≡ true → (e : ℕ) → member e (nonzero (trim (leaves f g vs) (v .items))) ≡ true
           → mayBeListed v (rowOf (settled g f st .rows) e) ≡ true
@@ -136,7 +141,8 @@ module _ (g : List ℕ) (f : Request → Bool) (st : State) where
           let w : member e (v .items) && not (leaves f g vs e) ≡ true = sym (member-trim (leaves f g vs) (v .items) e sm) ∙ and-r (some e) (member e (trim (leaves f g vs) (v .items))) u in
           let stays : leaves f g vs e ≡ false = not-t (leaves f g vs e) (and-r (member e (v .items)) (not (leaves f g vs e)) w) in
           let left : member e g ≡ false = or-fl (member e g) (listedIn f vs e) stays in
-          let before : mayBeListed v (rowOf (st .rows) e) ≡ true = all-at (λ e. mayBeListed v (rowOf (st .rows) e)) (nonzero (v .items)) a e (member-nonzero (v .items) e ∙ and-i _ _ sm (and-l (member e (v .items)) (not (leaves f g vs e)) w)) in
+          let before : mayBeListed v (rowOf (st .rows) e) ≡ true =
+          all-at (λ e. mayBeListed v (rowOf (st .rows) e)) (nonzero (v .items)) a e (member-nonzero (v .items) e ∙ and-i _ _ sm (and-l (member e (v .items)) (not (leaves f g vs e)) w)) in
           ap (mayBeListed v) (row-after g f st e left) ∙ returned-keeps (mayBeListed v) (λ p r. refl) f (st .requests) (rowOf (st .rows) e) ∙ before
 
       at-request : (vs : List Request) (v : Request) → f v ≡ false → all (λ e. mayBeListed v (rowOf (st .rows) e)) (nonzero (v .items)) ≡ true

@@ -118,7 +118,8 @@ module _ (st : State) (s : Sound st) (seed : Row → Bool) (qs : List ℕ)
       by-number : member (v .number) qs ≡ true → member n gone ≡ true
       by-number e =
           let is-open : member (r .request) (map (λ v. v .number) (st .requests)) ≡ true = and-l (member (r .request) (map (λ v. v .number) (st .requests))) (closes qs gone v) kept in
-          marked-seed seed (st .rows) (s .numbers .rows-rise) (sources-older st (s .numbers) (s .rows)) n t (bearers n t (rw (first-key (λ v. v .number) noRequest (st .requests) (r .request) is-open) at e) b)
+          marked-seed seed (st .rows) (s .numbers .rows-rise) (sources-older st (s .numbers) (s .rows)) n t
+          (bearers n t (rw (first-key (λ v. v .number) noRequest (st .requests) (r .request) is-open) at e) b)
 
       by-port : member (v .port) gone ≡ true → member n gone ≡ true
       by-port e =
@@ -137,7 +138,8 @@ module _ (st : State) (s : Sound st) (seed : Row → Bool) (qs : List ℕ)
       (rw (row-number (st .rows) n t) (marked-seed seed (st .rows) (s .numbers .rows-rise) (sources-older st (s .numbers) (s .rows)) n t e)))
       (λ n t e.
       ⊎-elim (λ m. rw (row-number (st .rows) n t) at m)
-      (λ m. bearer-gone n t (and-l (some (rowOf (st .rows) n .request)) (member (rowOf (st .rows) n .request) shut) m) (and-r (some (rowOf (st .rows) n .request)) (member (rowOf (st .rows) n .request) shut) m))
+      (λ m. bearer-gone n t (and-l (some (rowOf (st .rows) n .request)) (member (rowOf (st .rows) n .request) shut) m)
+      (and-r (some (rowOf (st .rows) n .request)) (member (rowOf (st .rows) n .request) shut) m))
       (or-cases (member (rowOf (st .rows) n .number) gone) (some (rowOf (st .rows) n .request) && member (rowOf (st .rows) n .request) shut) e))
 
   -- a round from the removed rows, whether qs are closed or all of `shut`

@@ -26,11 +26,15 @@ ofNext st = nextInRange (st .next) && belowNext (st .next) (st .rows) (st .reque
 abbrev pub ofRows : State → Bool
 ofRows st =
     objectsInRange (st .processes) (st .rows)
-    && (rightsInRange (st .rows) && (placesInRange (st .processes) (st .rows) && (sourcesRight (st .requests) (st .rows) && (depthsRight (st .rows) && (copiesMatch (st .rows) && (endsPaired (st .rows) && copiesListed (st .requests) (st .rows)))))))
+    && (rightsInRange (st .rows) &&
+    (placesInRange (st .processes) (st .rows) &&
+    (sourcesRight (st .requests) (st .rows) && (depthsRight (st .rows) && (copiesMatch (st .rows) && (endsPaired (st .rows) && copiesListed (st .requests) (st .rows)))))))
 
 abbrev pub ofRequests : State → Bool
 ofRequests st =
-    numbersApart (st .rows) (st .requests) && (fetchedInRange (st .requests) && (portsStand (st .rows) (st .requests) && (requestersListed (st .processes) (st .requests) && (itemsApart (st .requests) && (itemsLent (st .rows) (st .requests) && onePerPort (st .requests))))))
+    numbersApart (st .rows) (st .requests) &&
+    (fetchedInRange (st .requests) &&
+    (portsStand (st .rows) (st .requests) && (requestersListed (st .processes) (st .requests) && (itemsApart (st .requests) && (itemsLent (st .rows) (st .requests) && onePerPort (st .requests))))))
 
 abbrev pub ofHolders : State → Bool
 ofHolders st = olderFetched (st .requests) && systemHolds (st .requests) (st .rows)
@@ -115,7 +119,8 @@ module _ (st : State) {t : List ℕ} (rep : Represents t st) (rows : ofRows st �
 
 -- the tests of the groups, each of which may take those before it as given
 module _ (st : State) {t : List ℕ} (rep : Represents t st) (fit : recordsFit (st .processes) ≡ true) where
-  pub groups-sound : (rows requests holders placed : Bool) → rows ≡ ofRows st → requests ≡ ofRequests st → (itemsLent (st .rows) (st .requests) ≡ true → holders ≡ ofHolders st) → placed ≡ processesPlaced (st .rows) (st .processes)
+  pub groups-sound : (rows requests holders placed : Bool) → rows ≡ ofRows st → requests ≡ ofRequests st
+      → (itemsLent (st .rows) (st .requests) ≡ true → holders ≡ ofHolders st) → placed ≡ processesPlaced (st .rows) (st .processes)
       → ofNext st ≡ true → recordsInRange (st .processes) ≡ true → rows && (requests && (holders && placed)) ≡ sound st
   groups-sound rows requests holders placed er eq eh ep next records = bool-eq (rows && (requests && (holders && placed))) (sound st) forth back
     where
@@ -132,7 +137,8 @@ module _ (st : State) {t : List ℕ} (rep : Represents t st) (fit : recordsFit (
           rw (er ∙ sound-rows st e, eq ∙ sound-requests st e, eh (sound-open st e .loans .items-lent) ∙ sound-holders st e, ep ∙ sound-open st e .placed .processes-placed) refl
 
 -- the plain clauses come first
-pub clauses-sound : (st : State) (next records tables : Bool) → next ≡ ofNext st → records ≡ recordsInRange (st .processes) → (ofNext st ≡ true → recordsInRange (st .processes) ≡ true → tables ≡ sound st) → next && (records && tables) ≡ sound st
+pub clauses-sound : (st : State) (next records tables : Bool) → next ≡ ofNext st → records ≡ recordsInRange (st .processes)
+    → (ofNext st ≡ true → recordsInRange (st .processes) ≡ true → tables ≡ sound st) → next && (records && tables) ≡ sound st
 clauses-sound st next records tables en er et =
     bool-eq (next && (records && tables)) (sound st)
     (λ e.

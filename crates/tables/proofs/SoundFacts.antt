@@ -79,7 +79,8 @@ module _ (st : State) (s : Numbers (st .next) (st .rows) (st .requests)) where
   requests-between = rises-between (λ v. v .number) (st .next) (st .requests) (s .requests-rise) requests-top
 
   pub requests-below : all (λ v. ltb (v .number) (st .next)) (st .requests) ≡ true
-  requests-below = all-mono (λ v. some (v .number) && ltb (v .number) (st .next)) (λ v. ltb (v .number) (st .next)) (λ v e. and-r (some (v .number)) (ltb (v .number) (st .next)) e) (st .requests) requests-between
+  requests-below =
+      all-mono (λ v. some (v .number) && ltb (v .number) (st .next)) (λ v. ltb (v .number) (st .next)) (λ v e. and-r (some (v .number)) (ltb (v .number) (st .next)) e) (st .requests) requests-between
 
 -- ---- a row that is found
 pub clist-there : (rs : List Row) (p e : ℕ) → eqb (rowOf rs e .place) (inClist p) ≡ true → member e (numbers rs) ≡ true
@@ -104,7 +105,8 @@ module _ (st : State) (s : RowsSound (st .rows) (st .requests) (st .processes)) 
       pick h = rw k at h
 
 -- a client end and its server end, which has the next number
-pub client-paired : (st : State) → RowsSound (st .rows) (st .requests) (st .processes) → (c : ℕ) → isClient (rowOf (st .rows) c .kind) ≡ true → isPairedWith (rowOf (st .rows) c) (rowOf (st .rows) (suc c)) ≡ true
+pub client-paired : (st : State) → RowsSound (st .rows) (st .requests) (st .processes) → (c : ℕ) → isClient (rowOf (st .rows) c .kind) ≡ true
+    → isPairedWith (rowOf (st .rows) c) (rowOf (st .rows) (suc c)) ≡ true
 unfolding otherEnd
 client-paired st s c k =
     let r : Row = rowOf (st .rows) c in
@@ -150,7 +152,8 @@ in-node-copied vs rs r (held u) n = search (and-l, and-r)
 in-node-copied vs rs r (port-end u) n = let w : not (isNode (r .place)) ≡ true = search (and-l, and-r) in clash n (not-t (isNode (r .place)) w)
 in-node-copied vs rs r (lent-copy u) n = search (and-l, and-r)
 
-pub not-lent-held : (vs : List Request) (rs : List Row) (r : Row) → Shape vs r (sourceOf rs r) (viaOf rs r) → isNode (r .place) ≡ false → isEnd (r .kind) ≡ false → some (r .request) ≡ false → isHeld r (sourceOf rs r) (viaOf rs r) ≡ true
+pub not-lent-held : (vs : List Request) (rs : List Row) (r : Row) → Shape vs r (sourceOf rs r) (viaOf rs r) → isNode (r .place) ≡ false
+    → isEnd (r .kind) ≡ false → some (r .request) ≡ false → isHeld r (sourceOf rs r) (viaOf rs r) ≡ true
 unfolding isOpening isRegistered isPortEnd isLentCopy
 not-lent-held vs rs r (opening u) n k q = clash (and-l (isNode (r .place)) _ u) n
 not-lent-held vs rs r (registered u) n k q = clash (and-l (isNode (r .place)) _ u) n
@@ -171,7 +174,8 @@ reached-itself f (r ∷ rs) e t q = pick (reached-itself f rs e) (eqb (r .number
 
 pub unlent-unborne : (st : State) (e : ℕ) → member e (numbers (st .rows)) ≡ true → isLent st e ≡ false → some (rowOf (st .rows) e .request) ≡ false
 unfolding isLent lentItself
-unlent-unborne st e t q = or-fr (isEnd (rowOf (st .rows) e .kind) && onLoan (st .requests) (rowOf (st .rows) e .number)) (some (rowOf (st .rows) e .request)) (reached-itself (lentItself (st .requests)) (st .rows) e t q)
+unlent-unborne st e t q =
+    or-fr (isEnd (rowOf (st .rows) e .kind) && onLoan (st .requests) (rowOf (st .rows) e .number)) (some (rowOf (st .rows) e .request)) (reached-itself (lentItself (st .requests)) (st .rows) e t q)
 
 -- ---- the records, one by one
 -- a listed process is 1 or more, and has a record

@@ -42,11 +42,14 @@ module _ (st : State) (s : Sound st) where
   -- ---- read back
   rows-read : rowsTo (wordsOf st) (rowsIn (wordsOf st)) (rowsIn (wordsOf st)) ≡ st .rows
   unfolding rowsRise sourcesRight each sourced
-  rows-read = rw (rows-in st few-rows few-requests (s .numbers .rows-rise)) (rows-back (wordsOf st) (st .rows) few-rows (row-at st few-rows few-requests) (st .requests) (s .numbers .rows-rise) (s .rows .sources-right))
+  rows-read =
+      rw (rows-in st few-rows few-requests (s .numbers .rows-rise))
+      (rows-back (wordsOf st) (st .rows) few-rows (row-at st few-rows few-requests) (st .requests) (s .numbers .rows-rise) (s .rows .sources-right))
 
   requests-read : requestsTo (wordsOf st) (requestsIn (wordsOf st)) ≡ st .requests
   unfolding requestsRise itemsFew
-  requests-read = rw (requests-in st few-rows few-requests (s .numbers .requests-rise)) (requests-back (wordsOf st) (st .requests) few-requests (request-at st few-rows few-requests) (s .loans .items-few))
+  requests-read =
+      rw (requests-in st few-rows few-requests (s .numbers .requests-rise)) (requests-back (wordsOf st) (st .requests) few-requests (request-at st few-rows few-requests) (s .loans .items-few))
 
   pub state-words : stateOf (wordsOf st) (recordsOf (st .processes)) ≡ st
   unfolding stateOf
