@@ -25,7 +25,7 @@ use Rattle.closing.proofs.Lookups.{row-after}
 use Rattle.calls.specs.declared.Answer.the-variants.{Done}
 use Rattle.calls.specs.declared.Call.the-variants.{Revoke}
 use Rattle.calls.specs.Answers.{refusalOf}
-use Rattle.calls.specs.Calls.{doRevoke}
+use Rattle.kept.proofs.Allowed.{RevokeAllowed}
 use Rattle.history.specs.History.{OnLoan, History}
 use Rattle.history.specs.Notes.{noLoan, loanOf, stands, isClosed, loansSettled as settling, noteRevoke}
 use Rattle.history.specs.Reading.{noteCall}
@@ -36,7 +36,7 @@ use Rattle.history.proofs.Keeps.{settled-inv}
 use Rattle.history.proofs.Standing.{stands-chains, request-closed}
 use Rattle.history.proofs.Loans.{closedNumber, end-listed, open-numbers, request-loan}
 use Rattle.history.proofs.LoansClose.{stands-left, closed-now}
-use Rattle.history.proofs.Vanish.{revoked}
+use Rattle.history.proofs.StepClose.{revoke-inv}
 
 -- ---- the oldest of the requests that pass a test and list e
 module _ (f : Request → Bool) (e : ℕ) where
@@ -205,11 +205,8 @@ unfolding Returned
 closing-returned h h′ st g f i l up i′ asked e q stood c least = placed h h′ st g f i l up i′ asked e q (stands-chains h′ (i′ .fit) e .1 stood) c least
 
 -- of revoke
-pub revoke-returned : (h : History) (st : State) → Inv h st → Lends h st → Sound st → (p q : ℕ) → doRevoke st p q .answer ≡ Done → Returned h (noteAnswer h (Revoke p q) Done) (doRevoke st p q .after)
+pub revoke-returned : (h : History) (st : State) → Inv h st → Lends h st → Sound st → (p q : ℕ) → RevokeAllowed st p q → Returned h (noteAnswer h (Revoke p q) Done) (closeRequest q st)
 unfolding noteAnswer noteCall refusalOf closeRequest closing noteRevoke settling
 revoke-returned h st i l s p q a =
     let g : List ℕ = marked (bears q) (st .rows) in
-    let h′ : History = settling (noteRevoke q h) in
-    let r = revoked h st i s p q a in
-    subst (Returned h h′) (sym (r .after))
-    (closing-returned h h′ st g (closes (q ∷ []) g) i l (s .numbers .requests-rise) (settled-inv (noteRevoke q h) (closeRequest q st) (r .inv)) refl)
+    closing-returned h (settling (noteRevoke q h)) st g (closes (q ∷ []) g) i l (s .numbers .requests-rise) (settled-inv (noteRevoke q h) (closeRequest q st) (revoke-inv h st i s p q a)) refl

@@ -33,7 +33,8 @@ use Rattle.kept.proofs.Loans.{held-so}
 use Rattle.kept.proofs.AskItems.{isItem, listed}
 use Rattle.kept.proofs.AskList.{nonzero-pad, nonzero-all, named-end, listed-length, listed-some, listed-apart, listed-cases}
 use Rattle.kept.proofs.AskStack.{bears-stacked}
-use Rattle.kept.proofs.AskFacts.{Asked, lentRows, askedRows, asked, askedState, named-held, named-old, lists-cases, old-number, old-passes}
+use Rattle.kept.proofs.Allowed.{AskAllowed}
+use Rattle.kept.proofs.AskFacts.{lentRows, askedRows, asked, askedState, named-held, named-old, lists-cases, old-number, old-passes}
 use Rattle.kept.proofs.AskRows.{rows-top′}
 use Rattle.kept.proofs.Stand.{held-there}
 
@@ -42,7 +43,7 @@ unfolding any
 any-members f [] h = refl
 any-members f (n ∷ ns) h = rw (h n (member-here n ns)) (any-members f ns (λ m t. h m (member-there m n ns t)))
 
-module _ (st : State) (s : Sound st) (p c : ℕ) (is : List Item) (a : Asked st p c is) where
+module _ (st : State) (s : Sound st) (p c : ℕ) (is : List Item) (a : AskAllowed st p c is) where
   -- what holds of the old requests and of the new one
   requests-all : (P : Request → Bool) → P (asked st p c is) ≡ true → all P (st .requests) ≡ true → all P (asked st p c is ∷ st .requests) ≡ true
   unfolding all
@@ -54,16 +55,16 @@ module _ (st : State) (s : Sound st) (p c : ℕ) (is : List Item) (a : Asked st 
   -- ---- numbers
   pub requests-rise : requestsRise (askedState st p c is .requests) ≡ true
   unfolding requestsRise newRequest
-  requests-rise = rises-cons (λ v. v .number) (asked st p c is) (st .requests) (requests-top st s) (s .numbers .requests-rise)
+  requests-rise = rises-cons (λ v. v .number) (asked st p c is) (st .requests) (requests-top st (s .numbers)) (s .numbers .requests-rise)
 
   pub numbers-apart : numbersApart (askedState st p c is .rows) (askedState st p c is .requests) ≡ true
   unfolding numbersApart
   numbers-apart =
       requests-all (λ v. not (member (v .number) (numbers (askedRows st c is)))) (unfold newRequest in ap not fresh)
-      (all-and (λ v. ltb (v .number) (st .next)) (λ v. not (member (v .number) (numbers (st .rows)))) (λ v. not (member (v .number) (numbers (askedRows st c is)))) older (st .requests) (requests-below st s) (s .numbers .numbers-apart))
+      (all-and (λ v. ltb (v .number) (st .next)) (λ v. not (member (v .number) (numbers (st .rows)))) (λ v. not (member (v .number) (numbers (askedRows st c is)))) older (st .requests) (requests-below st (s .numbers)) (s .numbers .numbers-apart))
     where
       fresh : member (st .next) (numbers (askedRows st c is)) ≡ false
-      fresh = old-number st s p c is a (st .next) (omega arith) ∙ false-of (member (st .next) (numbers (st .rows))) (λ t. let (lo, hi) = row-below st s (st .next) t in omega arith)
+      fresh = old-number st s p c is a (st .next) (omega arith) ∙ false-of (member (st .next) (numbers (st .rows))) (λ t. let (lo, hi) = row-below st (s .numbers) (st .next) t in omega arith)
 
       older : (v : Request) → ltb (v .number) (st .next) ≡ true → not (member (v .number) (numbers (st .rows))) ≡ true → not (member (v .number) (numbers (askedRows st c is))) ≡ true
       older v t e = let lt = ltb-true (v .number) (st .next) t in ap not (old-number st s p c is a (v .number) (omega arith)) ∙ e
@@ -94,7 +95,7 @@ module _ (st : State) (s : Sound st) (p c : ℕ) (is : List Item) (a : Asked st 
   -- the other end of port c has number c + 1
   server-older : suc c < st .next
   unfolding isPairedWith
-  server-older = row-below st s (suc c) (end-there (st .rows) (suc c) (and-l (isEnd (rowOf (st .rows) (suc c) .kind)) _ (client-paired st s c (a .client)))) .1
+  server-older = row-below st (s .numbers) (suc c) (end-there (st .rows) (suc c) (and-l (isEnd (rowOf (st .rows) (suc c) .kind)) _ (client-paired st (s .rows) c (a .client)))) .1
 
   pub ports-stand : portsStand (askedState st p c is .rows) (askedState st p c is .requests) ≡ true
   unfolding portsStand
@@ -114,7 +115,7 @@ module _ (st : State) (s : Sound st) (p c : ℕ) (is : List Item) (a : Asked st 
 
   pub requesters-listed : requestersListed (askedState st p c is .processes) (askedState st p c is .requests) ≡ true
   unfolding requestersListed
-  requesters-listed = requests-all (λ v. isListed (st .processes) (v .asker)) (unfold newRequest in a .process) (s .loans .requesters-listed)
+  requesters-listed = requests-all (λ v. isListed (st .processes) (v .asker)) (unfold newRequest in a .caller) (s .loans .requesters-listed)
 
   pub one-per-port : onePerPort (askedState st p c is .requests) ≡ true
   unfolding onePerPort distinct newRequest
@@ -151,7 +152,7 @@ module _ (st : State) (s : Sound st) (p c : ℕ) (is : List Item) (a : Asked st 
       older : all (λ i. ltb (i .row) (suc (st .next))) is ≡ true
       older =
           all-mono (λ i. not (notHeld st p (i .row))) (λ i. ltb (i .row) (suc (st .next)))
-          (λ i h. let (lo, hi) = row-below st s (i .row) (held-there st p (i .row) (not-t (notHeld st p (i .row)) h)) in lt-ltb (i .row) (suc (st .next)) (omega arith)) is (a .held)
+          (λ i h. let (lo, hi) = row-below st (s .numbers) (i .row) (held-there st p (i .row) (not-t (notHeld st p (i .row)) h)) in lt-ltb (i .row) (suc (st .next)) (omega arith)) is (a .held)
 
   pub items-lent : itemsLent (askedState st p c is .rows) (askedState st p c is .requests) ≡ true
   unfolding itemsLent
@@ -173,7 +174,7 @@ module _ (st : State) (s : Sound st) (p c : ℕ) (is : List Item) (a : Asked st 
       lent e (inr (lo, hi)) =
           unfold mayBeListed newRequest in
           or-r (isEnd (rowOf (askedRows st c is) e .kind) && ltb (rowOf (askedRows st c is) e .number) (st .next)) (some (rowOf (askedRows st c is) e .request) && eqb (rowOf (askedRows st c is) e .request) (st .next))
-          (rw (bears-stacked st c (st .next) (copies st is) (suc (st .next)) (lentRows st is) e lo hi, pos-some (st .next) (next-some st s)) (eqb-self (st .next)))
+          (rw (bears-stacked st c (st .next) (copies st is) (suc (st .next)) (lentRows st is) e lo hi, pos-some (st .next) (next-some st (s .numbers))) (eqb-self (st .next)))
 
   -- ---- the older requests that list an end isItem are fetched
   pub older-fetched : olderFetched (askedState st p c is .requests) ≡ true
@@ -189,17 +190,17 @@ module _ (st : State) (s : Sound st) (p c : ℕ) (is : List Item) (a : Asked st 
       in-clist : (e : ℕ) → isItem st is e ≡ true → isSystem (rowOf (st .rows) e .place) ≡ false
       in-clist e g =
           let held : rowOf (st .rows) e .place ≡ inClist p = unfold notHeld in eqb-true (rowOf (st .rows) e .place) (inClist p) (not-f (eqb (rowOf (st .rows) e .place) (inClist p)) (named-held st s p c is a e g)) in
-          ap isSystem held ∙ clist-not-system st s p (a .process)
+          ap isSystem held ∙ clist-not-system st (s .placed) p (a .caller)
 
       -- what the new request lists no unfetched one lists
       unshared : (w : ℕ) → member w (map (λ v. v .number) (st .requests)) ≡ true → isFetched (requestOf (st .requests) w) ≡ false
           → (e : ℕ) → (isItem st is e ≡ true) ⊎ ((suc (st .next) ≤ e) × (e < suc (st .next) + length (copies st is))) → lists e (requestOf (st .requests) w) ≡ false
       unshared w t f e (inl g) =
-          let all-fetched = listers-fetched e (st .requests) (s .holders .older-fetched) (sym (eq-same (isSystem (rowOf (st .rows) e .place)) (awaitsFetch (st .requests) e) (held-so st s e (held-there st p e (named-held st s p c is a e g)))) ∙ in-clist e g) in
+          let all-fetched = listers-fetched e (st .requests) (s .holders .older-fetched) (sym (eq-same (isSystem (rowOf (st .rows) e .place)) (awaitsFetch (st .requests) e) (held-so (st .rows) (st .requests) (s .holders .system-holds) e (held-there st p e (named-held st s p c is a e g)))) ∙ in-clist e g) in
           not-t (lists e (requestOf (st .requests) w)) (rw f at (at w t (λ w. isFetched w || not (lists e w)) all-fetched))
       unshared w t f e (inr (lo, hi)) =
-          let new : member e (numbers (st .rows)) ≡ false = false-of (member e (numbers (st .rows))) (λ m. let (l, h) = row-below st s e m in omega arith) in
-          not-t (lists e (requestOf (st .requests) w)) (at w t (λ v. not (lists e v)) (none-lists st s e new))
+          let new : member e (numbers (st .rows)) ≡ false = false-of (member e (numbers (st .rows))) (λ m. let (l, h) = row-below st (s .numbers) e m in omega arith) in
+          not-t (lists e (requestOf (st .requests) w)) (at w t (λ v. not (lists e v)) (none-lists (st .rows) (st .requests) (s .loans .items-lent) e new))
 
       pick : (n : ℕ) → member n (map (λ v. v .number) (st .requests)) ≡ true → (b : Bool) → isFetched (requestOf (st .requests) n) ≡ b → fetched-or (requestOf (st .requests) n) ≡ true
       pick n t true f = or-l (isFetched (requestOf (st .requests) n)) (not (any (λ e. lists e (requestOf (st .requests) n)) (asked st p c is .items))) f

@@ -13,18 +13,18 @@ use Rattle.rows.specs.Limits.{processes, mostItems}
 use Rattle.rows.specs.Codes.{isSubdirectory, isEnd, inClist, withSystem, isNode, isSystem}
 use Rattle.rows.specs.Tables.{State, noRow, noRequest, rowOf, requestOf, openOn, isListed, numbers, lists}
 use Rattle.rows.specs.Sound.{rowsRise, requestsRise, numbersApart, belowNext, nextInRange, rowsFit, requestsFit, recordsFit, objectsInRange, rightsInRange, placeInRange, placesInRange, fetchedInRange, sourcesRight, depthsRight, copiesMatch, recordsInRange, endPaired, endsPaired, portStands, portsStand, requestersListed, itemsFew, itemsApart, itemsLent, mayBeListed, onePerPort, copyListed, copiesListed, isFetched, olderFetchedBy, olderFetched, awaitsFetch, same, systemHolds, processesPlaced, hasRightDepth, matchesSource}
-use Rattle.rows.proofs.Bools.{false-of, true-of, clash, and-l, or-l, or-r, or-fl, or-fr, any-eq, all-mono, all-eq, all-at, not-zero}
+use Rattle.rows.proofs.Bools.{false-of, true-of, clash, and-l, or-l, or-r, any-eq, all-mono, all-eq, all-at}
 use Rattle.rows.proofs.Keyed.{all-first, rises-map, rises-range, keys-map}
 use Rattle.tables.proofs.Sound.{Sound}
 use Rattle.rows.proofs.Lists.{member-nonzero, all-map}
 use Rattle.rows.proofs.Places.{clist-not-node, clist-no-system, system-no-node}
-use Rattle.tables.proofs.SoundFacts.{clist-not-system, clist-in-range, row-number, same-eq, eq-same, placed-still}
+use Rattle.tables.proofs.SoundFacts.{clist-not-system, clist-in-range, row-number, same-eq, eq-same, same-place, placed-still}
 use Rattle.tables.proofs.Awaits.{listers-fetched}
 use Rattle.rows.proofs.RowSources.{subdirectory-there}
 use Rattle.rows.specs.Setters.{withPlace}
 use Rattle.calls.specs.Loans.{handedTo, nowFetched, handedOver}
-use Rattle.calls.specs.Calls.{doFetch}
-use Rattle.kept.proofs.AddRow.{unless}
+use Rattle.calls.specs.Rules.{askedOf}
+use Rattle.kept.proofs.Allowed.{FetchAllowed}
 use Rattle.kept.proofs.Lists.{each-map, top-map, other-there, other-same}
 use Rattle.kept.proofs.Sourced.{depth-placeless, copy-placeless}
 use Rattle.kept.proofs.Moved.{moved, mayMove, moved-same, moved-stays, moved-goes, moved-number, row-moved, objects-moved, rights-moved, paired-moved, ports-moved, listed-moved, sources-moved, sourced-moved}
@@ -70,11 +70,11 @@ module _ (st : State) (s : Sound st) (p : ℕ) (v : Request) (found : requestOf 
   system-had : (n : ℕ) → member n (numbers (st .rows)) ≡ true → goes n ≡ true → rowOf (st .rows) n .place ≡ withSystem
   system-had n m g =
       unfold isSystem in eqb-true (rowOf (st .rows) n .place) withSystem
-      (eq-same (isSystem (rowOf (st .rows) n .place)) (awaitsFetch (st .requests) n) (held-so st s n m) ∙ awaited n g)
+      (eq-same (isSystem (rowOf (st .rows) n .place)) (awaitsFetch (st .requests) n) (held-so (st .rows) (st .requests) (s .holders .system-holds) n m) ∙ awaited n g)
 
   may-move : all (mayMove goes) (st .rows) ≡ true
   unfolding mayMove mayBeListed
-  may-move = of-rows st s (mayMove goes) (λ n m. pick n m (goes n) refl)
+  may-move = of-rows (st .rows) (s .numbers .rows-rise) (mayMove goes) (λ n m. pick n m (goes n) refl)
     where
       ended : (a b c d : Bool) → (a && b) || (c && d) ≡ true → a || c ≡ true
       ended true b c d e = refl
@@ -142,7 +142,7 @@ module _ (st : State) (s : Sound st) (p : ℕ) (v : Request) (found : requestOf 
       ∙ all-mono (placeInRange (st .processes)) (λ r. placeInRange (st .processes) (moved goes (inClist p) r)) (λ r e. unfold moved in pick r (goes (r .number)) e) (st .rows) (s .rows .places-in-range)
     where
       pick : (r : Row) (b : Bool) → placeInRange (st .processes) r ≡ true → placeInRange (st .processes) (cond b (withPlace (inClist p) r) r) ≡ true
-      pick r true e = clist-in-range st s p listed (withPlace (inClist p) r) (unfold withPlace in refl)
+      pick r true e = clist-in-range st (s .placed) p listed (withPlace (inClist p) r) (unfold withPlace in refl)
       pick r false e = e
 
   fetched-in-range : fetchedInRange (after .requests) ≡ true
@@ -254,31 +254,31 @@ module _ (st : State) (s : Sound st) (p : ℕ) (v : Request) (found : requestOf 
   unfolding systemHolds
   system-holds =
       all-map (λ r. same (isSystem (r .place)) (awaitsFetch requests′ (r .number))) (moved goes (inClist p)) (st .rows)
-      ∙ of-rows st s (λ r. same (isSystem (moved goes (inClist p) r .place)) (awaitsFetch requests′ (moved goes (inClist p) r .number))) (λ n m. pick n m (goes n) refl)
+      ∙ of-rows (st .rows) (s .numbers .rows-rise) (λ r. same (isSystem (moved goes (inClist p) r .place)) (awaitsFetch requests′ (moved goes (inClist p) r .number))) (λ n m. pick n m (goes n) refl)
     where
       pick : (n : ℕ) → member n (numbers (st .rows)) ≡ true → (b : Bool) → goes n ≡ b
           → same (isSystem (moved goes (inClist p) (rowOf (st .rows) n) .place)) (awaitsFetch requests′ (moved goes (inClist p) (rowOf (st .rows) n) .number)) ≡ true
       pick n m true g =
           same-eq (isSystem (moved goes (inClist p) (rowOf (st .rows) n) .place)) (awaitsFetch requests′ (moved goes (inClist p) (rowOf (st .rows) n) .number))
           (ap isSystem (moved-goes goes (inClist p) (rowOf (st .rows) n) (ap goes (row-number (st .rows) n m) ∙ g))
-          ∙ clist-not-system st s p listed
+          ∙ clist-not-system st (s .placed) p listed
           ∙ sym
           (ap (awaitsFetch requests′) (moved-number goes (inClist p) (rowOf (st .rows) n) ∙ row-number (st .rows) n m)
           ∙ fetched-now (v .number) n (st .requests) (unfold olderFetched in s .holders .older-fetched) there (rw found unfetched) (rw found g)))
       pick n m false g =
           rw (moved-stays goes (inClist p) (rowOf (st .rows) n) (ap goes (row-number (st .rows) n m) ∙ g))
-          (rw (row-number (st .rows) n m, awaits-same (v .number) n (st .requests) (unfold requestsRise in s .numbers .requests-rise) (rw found g)) (held-so st s n m))
+          (rw (row-number (st .rows) n m, awaits-same (v .number) n (st .requests) (unfold requestsRise in s .numbers .requests-rise) (rw found g)) (held-so (st .rows) (st .requests) (s .holders .system-holds) n m))
 
   processes-placed : processesPlaced (after .rows) (after .processes) ≡ true
   unfolding processesPlaced
   processes-placed =
-      placed-still st s rows′ (λ e k hi sub at. row-moved goes (inClist p) none-goes (st .rows) e ∙ stays e k hi sub at)
+      placed-still (st .rows) rows′ (λ e k hi sub at. same-place (rowOf (st .rows) e) (rowOf rows′ e) (row-moved goes (inClist p) none-goes (st .rows) e ∙ stays e k hi sub at)) (st .processes) (s .placed)
     where
       stays : (e k : ℕ) → k ≤ 64 → isSubdirectory (rowOf (st .rows) e .kind) ≡ true → rowOf (st .rows) e .place ≡ inClist k → moved goes (inClist p) (rowOf (st .rows) e) ≡ rowOf (st .rows) e
       stays e k hi sub at =
           let m : member e (numbers (st .rows)) ≡ true = subdirectory-there (st .rows) e sub in
           let in-clist : isSystem (rowOf (st .rows) e .place) ≡ false = ap isSystem at ∙ clist-no-system k hi in
-          let g : goes e ≡ false = false-of (goes e) (λ g. clash (eq-same (isSystem (rowOf (st .rows) e .place)) (awaitsFetch (st .requests) e) (held-so st s e m) ∙ awaited e g) in-clist) in
+          let g : goes e ≡ false = false-of (goes e) (λ g. clash (eq-same (isSystem (rowOf (st .rows) e .place)) (awaitsFetch (st .requests) e) (held-so (st .rows) (st .requests) (s .holders .system-holds) e m) ∙ awaited e g) in-clist) in
           moved-stays goes (inClist p) (rowOf (st .rows) e) (ap goes (row-number (st .rows) e m) ∙ g)
 
   fetched-sound : Sound after
@@ -337,18 +337,17 @@ open-there : (vs : List Request) (c : ℕ) → some (openOn vs c .number) ≡ tr
 unfolding openOn
 open-there vs c t = other-there (λ v. v .number) noRequest (λ v. v .port) (unfold noRequest in refl) vs c t
 
-pub fetch-kept : (st : State) → Sound st → (p e : ℕ) → isListed (st .processes) p ≡ true → Sound (doFetch st p e .after)
-unfolding doFetch handedOver handedTo moved requestsRise
-fetch-kept st s p e listed =
-    unless _ _ 7 s λ _. unless _ _ 8 s λ _. unless _ _ 11 s λ e11. taken (or-fl (eqb (v .number) 0) (isFetched v) e11) (or-fr (eqb (v .number) 0) (isFetched v) e11)
-  where
-    c : ℕ
-    c = rowOf (st .rows) e .object
+-- the request that the server of a port sees
+pub asked-found : (st : State) → rises (λ v. v .number) (st .requests) ≡ true → (e : ℕ) → some (askedOf st e .number) ≡ true → requestOf (st .requests) (askedOf st e .number) ≡ askedOf st e
+unfolding askedOf
+asked-found st r e t = open-found (st .requests) (rowOf (st .rows) e .object) r t
 
-    v : Request
-    v = openOn (st .requests) c
+asked-there : (st : State) (e : ℕ) → some (askedOf st e .number) ≡ true → member (askedOf st e .number) (map (λ v. v .number) (st .requests)) ≡ true
+unfolding askedOf
+asked-there st e t = open-there (st .requests) (rowOf (st .rows) e .object) t
 
-    taken : eqb (v .number) 0 ≡ false → isFetched v ≡ false → Sound (handedOver p v st)
-    taken z f =
-        let t : some (v .number) ≡ true = not-zero (v .number) z in
-        fetched-sound st s p v (open-found (st .requests) c (s .numbers .requests-rise) t) (open-there (st .requests) c t) f listed
+pub fetch-kept : (st : State) → Sound st → (p e : ℕ) → FetchAllowed st p e → Sound (handedOver p (askedOf st e) st)
+unfolding handedOver handedTo moved requestsRise
+fetch-kept st s p e a =
+    let t = a .serves .asked in
+    fetched-sound st s p (askedOf st e) (asked-found st (s .numbers .requests-rise) e t) (asked-there st e t) (a .unfetched) (a .serves .caller)

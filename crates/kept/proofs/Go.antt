@@ -1,6 +1,6 @@
 -- go keeps the tables sound: only the caller's record changes, and not its prime node.
 use Prim.Native.Nat.{ℕ, zero, suc, _+_, _-_, _<_}
-use mathlib.Core.Bool.{Bool, true, false, cond, _&&_}
+use mathlib.Core.Bool.{Bool, true, false, _&&_}
 use mathlib.Core.List.{List, [], _∷_}
 use mathlib.Core.Path.{_≡_, refl, ap, _∙_}
 use lib.Dec.{eqb}
@@ -8,18 +8,18 @@ use lib.ListN.{getD, set, length-set}
 use native.Mathlib.Omega.{arith}
 use Rattle.rows.specs.declared.Row.{Row}
 use Rattle.rows.specs.declared.Process.{Process}
-use Rattle.rows.specs.Lists.{between, some}
+use Rattle.rows.specs.Lists.{if_then_else_, between, some}
 use Rattle.rows.specs.Limits.{processes, nodes}
 use Rattle.rows.specs.Codes.{isSubdirectory, inClist, isNode, ownerOf}
 use Rattle.rows.specs.Tables.{State, noProcess, rowOf, processAt, isListed}
-use Rattle.rows.specs.Sound.{rowsRise, requestsRise, numbersApart, belowNext, nextInRange, rowsFit, requestsFit, recordsFit, objectInRange, objectsInRange, rightsInRange, placeInRange, placesInRange, fetchedInRange, sourcesRight, depthsRight, copiesMatch, recordUnused, recordInRange, recordsInRange, endsPaired, portsStand, requestersListed, itemsFew, itemsApart, itemsLent, onePerPort, copiesListed, olderFetched, systemHolds, processPlaced, placedFrom, processesPlaced}
-use Rattle.rows.proofs.Bools.{and-l, and-r, and-i, or-l, or-r, not-f, eqb-self, pos-some, all-eq}
+use Rattle.rows.specs.Sound.{recordsFit, objectInRange, objectsInRange, placeInRange, placesInRange, recordUnused, recordInRange, recordsInRange, requestersListed, processPlaced, placedFrom, processesPlaced}
+use Rattle.rows.proofs.Bools.{and-l, and-r, and-i, or-l, or-r, eqb-self, pos-some, all-eq}
 use Rattle.tables.proofs.Sound.{Sound}
-use Rattle.tables.proofs.SoundFacts.{row-below, listed-range, prime-node, row-object, subdirectory-node, clist-there}
+use Rattle.tables.proofs.SoundFacts.{row-below, listed-range, prime-node, row-object, subdirectory-node}
 use Rattle.rows.proofs.Lists.{all-set}
-use Rattle.calls.specs.Rules.{Out, notHeld, withRecord}
-use Rattle.calls.specs.Calls.{done, goHome, goThrough, doGo}
-use Rattle.kept.proofs.AddRow.{unless}
+use Rattle.calls.specs.Rules.{withRecord}
+use Rattle.calls.specs.Calls.{goHome, goThrough}
+use Rattle.kept.proofs.Allowed.{InHand, GoAllowed}
 
 -- ---- the records with one replaced
 prime-set : (xs : List Process) (i : ℕ) (x : Process) → x .prime ≡ getD xs i noProcess .prime → (j : ℕ) → getD (set xs i x) j noProcess .prime ≡ getD xs j noProcess .prime
@@ -54,29 +54,20 @@ module _ (st : State) (s : Sound st) (p : ℕ) (l : isListed (st .processes) p �
   listed-set : (q : ℕ) → isListed (set (st .processes) (p - 1) x) q ≡ isListed (st .processes) q
   unfolding isListed processAt
   listed-set zero = refl
-  listed-set (suc j) = ap some (go p (listed-range st s p l .0) e)
+  listed-set (suc j) = ap some (go p (listed-range st (s .placed) p l .0) e)
     where
       go : (p : ℕ) → 0 < p → x .prime ≡ processAt (st .processes) p .prime → getD (set (st .processes) (p - 1) x) j noProcess .prime ≡ getD (st .processes) j noProcess .prime
       go zero h e = absurd (omega arith)
       go (suc i) h e = let z : suc i - 1 ≡ i = omega arith in rw z (prime-set (st .processes) i x e j)
 
   record-kept : isNode (x .active) ≡ true → processPlaced (st .rows) p x ≡ true → Sound (withRecord p x st)
-  unfolding withRecord rowsRise requestsRise numbersApart belowNext nextInRange rowsFit requestsFit recordsFit objectsInRange rightsInRange placesInRange fetchedInRange sourcesRight depthsRight copiesMatch recordInRange recordsInRange endsPaired portsStand requestersListed itemsFew itemsApart itemsLent onePerPort copiesListed olderFetched systemHolds processesPlaced isNode
+  unfolding withRecord objectsInRange placesInRange requestersListed recordsFit recordInRange recordsInRange processesPlaced between isNode
   record-kept n h =
       let ps = st .processes in
       let qs = set ps (p - 1) x in
-      let (lo, hi) = listed-range st s p l in
+      let (lo, hi) = listed-range st (s .placed) p l in
       record {
-        numbers =
-            record {
-              rows-rise = s .numbers .rows-rise;
-              requests-rise = s .numbers .requests-rise;
-              numbers-apart = s .numbers .numbers-apart;
-              below-next = s .numbers .below-next;
-              next-in-range = s .numbers .next-in-range;
-              rows-fit = s .numbers .rows-fit;
-              requests-fit = s .numbers .requests-fit;
-            };
+        numbers = s .numbers;
         rows =
             record {
               objects-in-range = all-eq (objectInRange qs) (objectInRange ps) (object-same ps qs listed-set) (st .rows) ∙ s .rows .objects-in-range;
@@ -98,17 +89,13 @@ module _ (st : State) (s : Sound st) (p : ℕ) (l : isListed (st .processes) p �
               one-per-port = s .loans .one-per-port;
               copies-listed = s .loans .copies-listed;
             };
-        holders =
-            record {
-              older-fetched = s .holders .older-fetched;
-              system-holds = s .holders .system-holds;
-            };
+        holders = s .holders;
         placed =
             record {
               records-fit = rw (length-set ps (p - 1) x) (s .placed .records-fit);
               records-in-range =
                   all-set recordInRange ps (p - 1) x (s .placed .records-in-range)
-                  (or-r (recordUnused x) _ (and-i (between 1 nodes (x .prime)) (between 1 nodes (x .active)) (ap isNode e ∙ prime-node st s p l) n));
+                  (or-r (recordUnused x) _ (and-i (between 1 nodes (x .prime)) (between 1 nodes (x .active)) (ap isNode e ∙ prime-node st (s .placed) p l) n));
               processes-placed = placed-set (st .rows) ps 1 (p - 1) p x (omega arith) (s .placed .processes-placed) h;
             };
       }
@@ -120,23 +107,21 @@ module _ (st : State) (s : Sound st) (p : ℕ) (l : isListed (st .processes) p �
   home-kept =
       let x = processAt (st .processes) p in
       let y : Process = record { prime = x .prime; active = x .prime; through = 0 } in
-      record-kept st s p l y refl (prime-node st s p l) (or-l (eqb (x .prime) (x .prime)) _ (eqb-self (x .prime)))
+      record-kept st s p l y refl (prime-node st (s .placed) p l) (or-l (eqb (x .prime) (x .prime)) _ (eqb-self (x .prime)))
 
-  through-kept : (e : ℕ) → eqb (rowOf (st .rows) e .place) (inClist p) ≡ true → isSubdirectory (rowOf (st .rows) e .kind) ≡ true → Sound (goThrough st p e)
+  through-kept : (e : ℕ) → InHand st p e → isSubdirectory (rowOf (st .rows) e .kind) ≡ true → Sound (goThrough st p e)
   unfolding goThrough processPlaced
   through-kept e h k =
       let r = rowOf (st .rows) e in
-      let there = clist-there (st .rows) p e h in
+      let there = h .there in
       let x : Process = record { prime = processAt (st .processes) p .prime; active = r .object; through = e } in
-      record-kept st s p l x refl (subdirectory-node (st .processes) r (row-object st s e there) k)
+      record-kept st s p l x refl (subdirectory-node (st .processes) r (row-object st (s .rows) e there) k)
       (or-r (eqb e 0 && eqb (x .active) (x .prime)) _
-      (and-i (some e) _ (pos-some e (row-below st s e there .0)) (and-i (isSubdirectory (r .kind)) _ k (and-i (eqb (r .place) (inClist p)) _ h (eqb-self (r .object))))))
+      (and-i (some e) _ (pos-some e (row-below st (s .numbers) e there .0)) (and-i (isSubdirectory (r .kind)) _ k (and-i (eqb (r .place) (inClist p)) _ (h .place) (eqb-self (r .object))))))
 
-either-kept : (b : Bool) (o o′ : Out) → Sound (o .after) → Sound (o′ .after) → Sound (cond b o o′ .after)
-either-kept true o o′ p q = p
-either-kept false o o′ p q = q
-
-pub go-kept : (st : State) → Sound st → (p e : ℕ) → isListed (st .processes) p ≡ true → Sound (doGo st p e .after)
-unfolding doGo done notHeld
-go-kept st s p e l =
-    either-kept (eqb e 0) _ _ (home-kept st s p l) (unless _ _ 7 s λ e7. unless _ _ 8 s λ e8. through-kept st s p l e (not-f _ e7) (not-f _ e8))
+pub go-kept : (st : State) → Sound st → (p e : ℕ) → GoAllowed st p e → Sound (if eqb e 0 then goHome st p else goThrough st p e)
+go-kept st s p e a = pick (eqb e 0) refl
+  where
+    pick : (b : Bool) → eqb e 0 ≡ b → Sound (if b then goHome st p else goThrough st p e)
+    pick true z = home-kept st s p (a .caller)
+    pick false z = through-kept st s p (a .caller) e (a .row z) (a .subdirectory z)

@@ -128,7 +128,7 @@ module _ (st : State) (s : Sound st) where
       let rs = st .rows in
       let r = rowOf rs n in
       sym (marked-reaches f rs (s .numbers .rows-rise) n)
-      ∙ marked-closed f rs (s .numbers .rows-rise) (sources-older st s) n h
+      ∙ marked-closed f rs (s .numbers .rows-rise) (sources-older st (s .numbers) (s .rows)) n h
       ∙ ap (λ (b : Bool). f r || b)
       (any-eq (λ m. member m (marked f rs)) (λ m. reaches f rs m) (marked-reaches f rs (s .numbers .rows-rise)) (sources r)
       ∙ any-sources (λ m. reaches f rs m) (reaches-zero f) r)
@@ -163,7 +163,7 @@ module _ (st : State) (s : Sound st) where
     -- a client end has one source, its operation row
     pub client-via : isClient (rowOf (st .rows) n .kind) ≡ true → rowOf (st .rows) n .via ≡ 0
     unfolding isOpening isRegistered isHeld isPortEnd isLentCopy
-    client-via k = pick (standing-shape st s n t)
+    client-via k = pick (standing-shape st (s .numbers) (s .rows) n t)
       where
         r : Row
         r = rowOf (st .rows) n
@@ -178,7 +178,7 @@ module _ (st : State) (s : Sound st) where
     -- what bears a request is a copy, with the port it was lent over under it
     pub copy-port : (rowOf (st .rows) n .request ≡ 0 → ⊥) → isClient (rowOf (st .rows) (rowOf (st .rows) n .via) .kind) ≡ true
     unfolding isOpening isRegistered isHeld isPortEnd isLentCopy
-    copy-port h = pick (standing-shape st s n t)
+    copy-port h = pick (standing-shape st (s .numbers) (s .rows) n t)
       where
         r : Row
         r = rowOf (st .rows) n
