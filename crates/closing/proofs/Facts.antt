@@ -11,7 +11,7 @@ use Rattle.rows.specs.declared.Request.{Request}
 use Rattle.rows.specs.Lists.{all, member, some, nonzero}
 use Rattle.rows.specs.Codes.{isEnd, isClient, isNode}
 use Rattle.rows.specs.Tables.{State, noRow, noRequest, rowOf, requestOf, numbers, lists}
-use Rattle.rows.specs.Sound.{sourceRight, isOpening, isRegistered, isHeld, isPortEnd, isLentCopy, copyListed, copiesListed, mayBeListed, itemsLent}
+use Rattle.rows.specs.Sound.{sourceRight, isOpening, isRegistered, isHeld, isPortEnd, isLentCopy, copyListed, copiesListed, mayBeListed, itemsLent, sourceOf, viaOf}
 use Rattle.rows.proofs.Bools.{false-of, clash, and-l, and-r, not-t, or-cases, all-at, zero-none}
 use Rattle.rows.proofs.Keyed.{first-key, first-there, all-first}
 use Rattle.tables.proofs.Sound.{Sound}
@@ -34,7 +34,7 @@ pub record EndFacts (r : Row) : Type 0 where
   pub no-via : r .via ≡ 0
   pub no-request : r .request ≡ 0
 
-end-shape : (vs : List Request) (rs : List Row) (r : Row) → isEnd (r .kind) ≡ true → Shape vs rs r → isPortEnd rs r ≡ true
+end-shape : (vs : List Request) (rs : List Row) (r : Row) → isEnd (r .kind) ≡ true → Shape vs r (sourceOf rs r) (viaOf rs r) → isPortEnd r (sourceOf rs r) ≡ true
 unfolding isOpening isRegistered isHeld isLentCopy
 end-shape vs rs r k (opening h) = clash k (copied-no-end (r .kind) (search (and-l, and-r)))
 end-shape vs rs r k (registered h) = clash k (copied-no-end (r .kind) (search (and-l, and-r)))
@@ -42,10 +42,10 @@ end-shape vs rs r k (held h) = clash k (copied-no-end (r .kind) (search (and-l, 
 end-shape vs rs r k (port-end h) = h
 end-shape vs rs r k (lent-copy h) = clash k (copied-no-end (r .kind) (search (and-l, and-r)))
 
-pub end-right : (vs : List Request) (rs : List Row) (r : Row) → isEnd (r .kind) ≡ true → sourceRight vs r rs ≡ true → isPortEnd rs r ≡ true
-end-right vs rs r k e = end-shape vs rs r k (shape vs r rs e)
+pub end-right : (vs : List Request) (rs : List Row) (r : Row) → isEnd (r .kind) ≡ true → sourceRight vs r rs ≡ true → isPortEnd r (sourceOf rs r) ≡ true
+end-right vs rs r k e = end-shape vs rs r k (shape vs r (sourceOf rs r) (viaOf rs r) e)
 
-end-facts : (rs : List Row) (r : Row) → isPortEnd rs r ≡ true → EndFacts r
+end-facts : (rs : List Row) (r : Row) → isPortEnd r (sourceOf rs r) ≡ true → EndFacts r
 unfolding isPortEnd
 end-facts rs r h =
     record {
@@ -60,7 +60,7 @@ pub record CopyFacts (vs : List Request) (rs : List Row) (r : Row) : Type 0 wher
   pub via-client : isClient (rowOf rs (r .via) .kind) ≡ true
   pub through-port : requestOf vs (r .request) .port ≡ r .via
 
-copy-facts : (vs : List Request) (rs : List Row) (r : Row) → some (r .request) ≡ true → Shape vs rs r → CopyFacts vs rs r
+copy-facts : (vs : List Request) (rs : List Row) (r : Row) → some (r .request) ≡ true → Shape vs r (sourceOf rs r) (viaOf rs r) → CopyFacts vs rs r
 unfolding isOpening isRegistered isHeld isPortEnd isLentCopy
 copy-facts vs rs r k (opening h) = clash k (zero-none (r .request) (search (and-l, and-r)))
 copy-facts vs rs r k (registered h) = clash k (zero-none (r .request) (search (and-l, and-r)))

@@ -11,7 +11,6 @@ use Rattle.rows.specs.Tables.{State, processAt, isListed, sources, marked}
 use Rattle.rows.specs.Sound.{rowsRise}
 use Rattle.rows.proofs.Bools.{and-r, and-i}
 use Rattle.rows.proofs.Keyed.{keys-filter}
-use Rattle.tables.proofs.Sound.{Sound}
 use Rattle.rows.proofs.Lists.{filter-filter}
 use Rattle.closing.specs.Closing.{closes, returned, remaining, homed, settled, closing}
 use Rattle.rows.specs.Setters.{withPlace, withItems}
@@ -66,38 +65,96 @@ gone-through g e true true q = rw q (pick (member e g))
 gone-through g e true false q = unfold some in refl
 gone-through g e false b q = unfold some in refl
 
--- ---- h′ is h with more dropped or closed: what f holds of, which the tables see as the seed
-module _ (h h′ : History) (st : State) (f : Noted → Bool) (seed : Row → Bool) (qs : List ℕ) (i : Inv h st) (s : Sound st)
+-- ---- rows that fall stand no longer
+stands-less : (h h′ : History) (g : List ℕ) → standing h′ ≡ filter (λ r. not (member (r .number) g)) (standing h) → (k : ℕ) → stands h′ k ≡ stands h k && not (member k g)
+unfolding stands noted
+stands-less h h′ g falls k = ap (λ l. member k (noted l)) falls ∙ keys-filter (λ r. r .number) (λ n. not (member n g)) (standing h) k
+
+-- ---- what falls and what closes, in the history: h′ notes no row, request or go more than h; of what stood in h, g falls; of what was open, what `shut` passes closes
+pub record Closes (h h′ : History) (g : List ℕ) (shut : Open → Bool) : Type 0 where
+  pub same-rows : h′ .rows ≡ h .rows
+  pub same-requests : h′ .requests ≡ h .requests
+  pub same-went : h′ .went ≡ h .went
+  pub falls : standing h′ ≡ filter (λ r. not (member (r .number) g)) (standing h)
+  pub closes : openLoans h′ ≡ filter (λ v. not (shut (ofLoan v))) (openLoans h)
+
+-- and in the tables, where the rows g are removed and the requests that pass f are closed
+module _ (h h′ : History) (st : State) (g : List ℕ) (f : Request → Bool) (shut : Open → Bool) (i : Inv h st) (c : Closes h h′ g shut) (sees : (v : Request) → f v ≡ shut (ofRequest v)) where
+  stands-left : (k : ℕ) → stands h′ k ≡ stands h k && not (member k g)
+  stands-left k = stands-less h h′ g (c .falls) k
+
+  rows-left : map view (settled g f st .rows) ≡ standing h′
+  unfolding settled
+  rows-left =
+      map-through view (returned f (st .requests)) (home-view f (st .requests)) (filter (λ r. not (member (r .number) g)) (st .rows))
+      ∙ filter-through view (λ r. not (member (r .number) g)) (λ r. not (member (r .number) g)) (λ r. unfold view in refl) (st .rows)
+      ∙ ap (filter (λ r. not (member (r .number) g))) (i .rows) ∙ sym (c .falls)
+
+  requests-left : map ofRequest (settled g f st .requests) ≡ map ofLoan (openLoans h′)
+  unfolding settled
+  requests-left =
+      remaining-view f g (λ o. not (shut o)) (λ v. ap not (sees v)) (st .requests)
+      ∙ ap (filter (λ o. not (shut o))) (i .requests)
+      ∙ sym (filter-through ofLoan (λ o. not (shut o)) (λ v. not (shut (ofLoan v))) (λ v. refl) (openLoans h))
+      ∙ ap (map ofLoan) (sym (c .closes))
+
+  through-left : (p : ℕ) → (if some (throughNow h p) && member (throughNow h p) g then 0 else throughNow h p) ≡ throughNow h′ p
+  unfolding throughNow
+  through-left p =
+      gone-through g (lastGo (h .went) p) (some (lastGo (h .went) p)) (stands h (lastGo (h .went) p)) refl
+      ∙ ap (λ b. if some (lastGo (h .went) p) && b then lastGo (h .went) p else 0) (sym (stands-left (lastGo (h .went) p)))
+      ∙ ap (λ w. let e = lastGo w p in if some e && stands h′ e then e else 0) (sym (c .same-went))
+
+  homes-left : (p : ℕ) → isListed (settled g f st .processes) p ≡ true → processAt (settled g f st .processes) p .through ≡ throughNow h′ p
+  unfolding settled isListed
+  homes-left p e =
+      let at = homed-at g (st .processes) p in
+      let x = processAt (st .processes) p in
+      let l : some (x .prime) ≡ true = ap some (sym (ap (λ y. y .prime) at ∙ homed-prime g x)) ∙ e in
+      ap (λ y. y .through) at ∙ home-through g x
+      ∙ ap (λ k. if some k && member k g then 0 else k) (i .through p l)
+      ∙ through-left p
+
+  pub settled-keeps : Fit h′ → below (st .next) (h′ .dropped) ≡ true → below (st .next) (h′ .closedPorts) ≡ true → below (st .next) (h′ .closedRequests) ≡ true → Inv h′ (settled g f st)
+  settled-keeps fit db pb cb =
+      let n : settled g f st .next ≡ st .next = unfold settled in refl in
+      rw n record {
+        fit = fit;
+        rows = rows-left;
+        requests = requests-left;
+        through = homes-left;
+        rows-below = rw (c .same-rows) (i .rows-below);
+        requests-below = rw (c .same-requests) (i .requests-below);
+        dropped-below = db;
+        ports-below = pb;
+        closed-below = cb;
+        went-below = rw (c .same-went) (i .went-below);
+      }
+
+-- ---- closing by seeds: h′ is h with more dropped or closed, what t holds of, which the tables see as the seed; qs are closed by the call
+module _ (h h′ : History) (st : State) (t : Noted → Bool) (seed : Row → Bool) (qs : List ℕ) (i : Inv h st) (up : rowsRise (st .rows) ≡ true)
     (rs : h′ .rows ≡ h .rows) (vs : h′ .requests ≡ h .requests) (ws : h′ .went ≡ h .went)
-    (sp : (r : Noted) → spoiled h′ r ≡ spoiled h r || f r) (sv : (r : Row) → seed r ≡ f (view r))
+    (sp : (r : Noted) → spoiled h′ r ≡ spoiled h r || t r) (sv : (r : Row) → seed r ≡ t (view r))
     (cl : (v : ℕ) → member v (h′ .closedRequests) ≡ member v qs || member v (h .closedRequests)) where
   abbrev gone : List ℕ
   gone = marked seed (st .rows)
 
+  abbrev shuts : Open → Bool
+  shuts o = member (o .number) qs || member (o .port) gone
+
   standing-rises : rising (standing h) ≡ true
-  standing-rises = ap rising (sym (i .rows)) ∙ view-rises (st .rows) ∙ (unfold rowsRise in s .numbers .rows-rise)
+  standing-rises = ap rising (sym (i .rows)) ∙ view-rises (st .rows) ∙ (unfold rowsRise in up)
 
-  standing-left : standing h′ ≡ filter (λ r. not (member (r .number) gone)) (standing h)
+  seeds-fall : standing h′ ≡ filter (λ r. not (member (r .number) gone)) (standing h)
   unfolding standing
-  standing-left =
-      ap (sweep (spoiled h′)) rs ∙ ap (λ t. sweep t (h .rows)) (fun-ext sp) ∙ sym (sweep-sweep f (spoiled h) (h .rows))
-      ∙ sym (reached-sweep f (standing h) standing-rises (sweep-sourced (spoiled h) (h .rows)))
-      ∙ ap (λ m. filter (λ r. not (member (r .number) m)) (standing h)) (sym (view-marked seed f sv (st .rows) ∙ ap (reached f) (i .rows)))
-
-  pub stands-left : (k : ℕ) → stands h′ k ≡ stands h k && not (member k gone)
-  unfolding stands noted
-  stands-left k = ap (λ l. member k (noted l)) standing-left ∙ keys-filter (λ r. r .number) (λ n. not (member n gone)) (standing h) k
-
-  rows-left : map view (closing seed qs st .rows) ≡ standing h′
-  unfolding closing settled
-  rows-left =
-      map-through view (returned (closes qs gone) (st .requests)) (home-view (closes qs gone) (st .requests)) (filter (λ r. not (member (r .number) gone)) (st .rows))
-      ∙ filter-through view (λ r. not (member (r .number) gone)) (λ r. not (member (r .number) gone)) (λ r. unfold view in refl) (st .rows)
-      ∙ ap (filter (λ r. not (member (r .number) gone))) (i .rows) ∙ sym standing-left
+  seeds-fall =
+      ap (sweep (spoiled h′)) rs ∙ ap (λ t. sweep t (h .rows)) (fun-ext sp) ∙ sym (sweep-sweep t (spoiled h) (h .rows))
+      ∙ sym (reached-sweep t (standing h) standing-rises (sweep-sourced (spoiled h) (h .rows)))
+      ∙ ap (λ m. filter (λ r. not (member (r .number) m)) (standing h)) (sym (view-marked seed t sv (st .rows) ∙ ap (reached t) (i .rows)))
 
   open-left : (v : Loan) → not (isClosed h′ v) ≡ not (isClosed h v) && not (member (v .number) qs || member (v .port) gone)
   unfolding isClosed
-  open-left v = rw (cl (v .number), stands-left (v .port)) (pick (member (v .number) qs) (member (v .number) (h .closedRequests)) (stands h (v .port)) (member (v .port) gone))
+  open-left v = rw (cl (v .number), stands-less h h′ gone seeds-fall (v .port)) (pick (member (v .number) qs) (member (v .number) (h .closedRequests)) (stands h (v .port)) (member (v .port) gone))
     where
       pick : (a b c d : Bool) → not ((a || b) || not (c && not d)) ≡ not (b || not c) && not (a || d)
       pick true true c d = refl
@@ -108,46 +165,19 @@ module _ (h h′ : History) (st : State) (f : Noted → Bool) (seed : Row → Bo
       pick false false true false = refl
       pick false false false d = refl
 
-  requests-left : map ofRequest (closing seed qs st .requests) ≡ map ofLoan (openLoans h′)
-  unfolding closing settled openLoans
-  requests-left =
-      remaining-view (closes qs gone) gone isOpen (λ v. unfold closes ofRequest in refl) (st .requests)
-      ∙ ap (filter isOpen) (i .requests)
-      ∙ sym (filter-through ofLoan isOpen (λ v. not (member (v .number) qs || member (v .port) gone)) (λ v. unfold ofLoan in refl) (openLoans h))
-      ∙ ap (map ofLoan) (filter-filter (λ v. not (member (v .number) qs || member (v .port) gone)) (λ v. not (isClosed h v)) (λ v. not (isClosed h′ v)) open-left (h .requests) ∙ ap (filter (λ v. not (isClosed h′ v))) (sym vs))
-    where
-      isOpen : Open → Bool
-      isOpen o = not (member (o .number) qs || member (o .port) gone)
-
-  through-left : (p : ℕ) → (if some (throughNow h p) && member (throughNow h p) gone then 0 else throughNow h p) ≡ throughNow h′ p
-  unfolding throughNow
-  through-left p =
-      gone-through gone (lastGo (h .went) p) (some (lastGo (h .went) p)) (stands h (lastGo (h .went) p)) refl
-      ∙ ap (λ b. if some (lastGo (h .went) p) && b then lastGo (h .went) p else 0) (sym (stands-left (lastGo (h .went) p)))
-      ∙ ap (λ w. let e = lastGo w p in if some e && stands h′ e then e else 0) (sym ws)
-
-  homes-left : (p : ℕ) → isListed (closing seed qs st .processes) p ≡ true → processAt (closing seed qs st .processes) p .through ≡ throughNow h′ p
-  unfolding closing settled isListed
-  homes-left p e =
-      let at = homed-at gone (st .processes) p in
-      let x = processAt (st .processes) p in
-      let l : some (x .prime) ≡ true = ap some (sym (ap (λ y. y .prime) at ∙ homed-prime gone x)) ∙ e in
-      ap (λ y. y .through) at ∙ home-through gone x
-      ∙ ap (λ k. if some k && member k gone then 0 else k) (i .through p l)
-      ∙ through-left p
+  seeds-close : Closes h h′ gone shuts
+  unfolding openLoans ofLoan
+  seeds-close =
+      record {
+        same-rows = rs;
+        same-requests = vs;
+        same-went = ws;
+        falls = seeds-fall;
+        closes =
+            ap (filter (λ v. not (isClosed h′ v))) vs
+            ∙ sym (filter-filter (λ v. not (member (v .number) qs || member (v .port) gone)) (λ v. not (isClosed h v)) (λ v. not (isClosed h′ v)) open-left (h .requests));
+      }
 
   pub closed-keeps : Fit h′ → below (st .next) (h′ .dropped) ≡ true → below (st .next) (h′ .closedPorts) ≡ true → below (st .next) (h′ .closedRequests) ≡ true → Inv h′ (closing seed qs st)
-  closed-keeps fit db pb cb =
-      let n : closing seed qs st .next ≡ st .next = unfold closing settled in refl in
-      rw n record {
-        fit = fit;
-        rows = rows-left;
-        requests = requests-left;
-        through = homes-left;
-        rows-below = rw rs (i .rows-below);
-        requests-below = rw vs (i .requests-below);
-        dropped-below = db;
-        ports-below = pb;
-        closed-below = cb;
-        went-below = rw ws (i .went-below);
-      }
+  unfolding closing closes ofRequest
+  closed-keeps = settled-keeps h h′ st gone (closes qs gone) shuts i seeds-close (λ v. refl)

@@ -11,7 +11,7 @@ use Rattle.rows.specs.declared.Request.{Request}
 use Rattle.rows.specs.Lists.{if_then_else_, member, some}
 use Rattle.rows.specs.Codes.{isEnd, isNode, inClist, withSystem, within}
 use Rattle.rows.specs.Tables.{State, rowOf, numbers, marked, bears, lists}
-use Rattle.rows.specs.Sound.{isOpening, isRegistered, isHeld, isPortEnd, isLentCopy}
+use Rattle.rows.specs.Sound.{isOpening, isRegistered, isHeld, isPortEnd, isLentCopy, sourceOf, viaOf}
 use Rattle.rows.proofs.Bools.{clash, false-of, and-l, and-r, not-t, some-pos, member-there}
 use Rattle.rows.proofs.Keyed.{keys-map}
 use Rattle.tables.proofs.Sound.{Sound}
@@ -68,7 +68,7 @@ lending-stays st c v n [] l t = t
 lending-stays st c v n (i ∷ is) l t = lending-stays st c v n is (lendItem st c v i l) (item-stays st c v n i l t)
 
 -- a row in a node bears no request
-node-bears-none : (vs : List Request) (rs : List Row) (r : Row) → Shape vs rs r → isNode (r .place) ≡ true → r .request ≡ 0
+node-bears-none : (vs : List Request) (rs : List Row) (r : Row) → Shape vs r (sourceOf rs r) (viaOf rs r) → isNode (r .place) ≡ true → r .request ≡ 0
 unfolding isOpening isRegistered isHeld isPortEnd isLentCopy
 node-bears-none vs rs r (opening h) e = eqb-true (r .request) 0 (search (and-l, and-r))
 node-bears-none vs rs r (registered h) e = eqb-true (r .request) 0 (search (and-l, and-r))

@@ -95,7 +95,7 @@ remaining-numbers f g vs u n t =
     ∙ ap (λ b. b && not (f (requestOf vs n))) t
 
 -- ---- the theorem: h before a closing, h′ after it
-module _ (h h′ : History) (st : State) (g : List ℕ) (f : Request → Bool) (i : Inv h st) (s : Sound st) (i′ : Inv h′ (settled g f st)) (asked : h′ .requests ≡ h .requests) where
+module _ (h h′ : History) (st : State) (g : List ℕ) (f : Request → Bool) (i : Inv h st) (up : requestsRise (st .requests) ≡ true) (i′ : Inv h′ (settled g f st)) (asked : h′ .requests ≡ h .requests) where
   pub stands-left : (e : ℕ) → stands h′ e ≡ member e (numbers (st .rows)) && not (member e g)
   stands-left e = sym (in-tables h′ (settled g f st) i′ e) ∙ left-keys g f st e
 
@@ -106,7 +106,7 @@ module _ (h h′ : History) (st : State) (g : List ℕ) (f : Request → Bool) (
       ∙ ap not
       (
       ap (λ b. b && not (closedNumber h′ n)) (sym (ap (λ vs. member n (map (λ v. v .number) vs)) asked ∙ and-l _ (not (closedNumber h n)) (sym (open-numbers h st i n) ∙ t)))
-      ∙ sym (open-numbers h′ (settled g f st) i′ n) ∙ remaining-numbers f g (st .requests) (unfold requestsRise in s .numbers .requests-rise) n t
+      ∙ sym (open-numbers h′ (settled g f st) i′ n) ∙ remaining-numbers f g (st .requests) (unfold requestsRise in up) n t
       )
       ∙ Bool·not-not (f (requestOf (st .requests) n))
 
@@ -121,16 +121,18 @@ module _ (h h′ : History) (st : State) (g : List ℕ) (f : Request → Bool) (
 
       as-closed : all (λ v. same (closedNumber h′ (v .number)) (f v)) (st .requests) ≡ true
       as-closed =
-          all-found (λ v. v .number) noRequest (λ v. same (closedNumber h′ (v .number)) (f v)) (st .requests) (unfold requestsRise in s .numbers .requests-rise)
+          all-found (λ v. v .number) noRequest (λ v. same (closedNumber h′ (v .number)) (f v)) (st .requests) (unfold requestsRise in up)
           (λ n t. same-eq _ _ (ap (closedNumber h′) (first-key (λ v. v .number) noRequest (st .requests) n t) ∙ (unfold requestOf in closed-now n t)))
+
+  pub settled-settles : Lends h st → h′ .loans ≡ h .loans → Settles h′ (settled g f st)
+  settled-settles l same = closing-lends ∙ ap (loansLeft h′) (l .lends ∙ sym same)
 
 -- ---- the calls that close
 module _ (h : History) (st : State) (i : Inv h st) (l : Lends h st) (s : Sound st) where
   closing-settles : (h′ : History) (seed : Row → Bool) (qs : List ℕ) → h′ .requests ≡ h .requests → h′ .loans ≡ h .loans → Inv h′ (closing seed qs st) → Settles h′ (closing seed qs st)
   unfolding closing
   closing-settles h′ seed qs asked same i′ =
-      let g = marked seed (st .rows) in
-      closing-lends h h′ st g (closes qs g) i s i′ asked ∙ ap (loansLeft h′) (l .lends ∙ sym same)
+      let g = marked seed (st .rows) in settled-settles h h′ st g (closes qs g) i (s .numbers .requests-rise) i′ asked l same
 
   -- request v of the tables is closed, and q is noted as closed
   pub request-settles : (q v : ℕ) → Inv (noteRevoke q h) (closeRequest v st) → Settles (noteRevoke q h) (closeRequest v st)

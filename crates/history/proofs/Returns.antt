@@ -1,8 +1,8 @@
--- After an accepted revoke, a surviving end that a closed request had on loan is with the lender of the oldest such request.
+-- After a closing, a surviving end that a closed request had on loan is with the lender of the oldest such request.
 use Prim.Native.Nat.{ℕ, _≤_}
 use mathlib.Core.Bool.{Bool, true, false, not, cond, _&&_, _||_}
 use mathlib.Core.List.{List, [], _∷_, map}
-use mathlib.Core.Path.{_≡_, refl, sym, ap, _∙_}
+use mathlib.Core.Path.{_≡_, refl, sym, ap, subst, _∙_}
 use mathlib.Core.Logic.{_↔_}
 use lib.Dec.{eqb}
 use native.Mathlib.Omega.{arith}
@@ -126,9 +126,9 @@ unfolding endsListed
 listed-end rs e v t = and-r (member e (nonzero (v .items))) (isEnd (rowOf rs e .kind)) (sym (member-filter (λ e. isEnd (rowOf rs e .kind)) (nonzero (v .items)) e) ∙ t)
 
 -- ---- the requests that had e on loan and close, in the history and in the tables
-module _ (h h′ : History) (st : State) (g : List ℕ) (f : Request → Bool) (i : Inv h st) (l : Lends h st) (s : Sound st) (i′ : Inv h′ (settled g f st)) (asked : h′ .requests ≡ h .requests) (e : ℕ) where
+module _ (h h′ : History) (st : State) (g : List ℕ) (f : Request → Bool) (i : Inv h st) (l : Lends h st) (up : requestsRise (st .requests) ≡ true) (i′ : Inv h′ (settled g f st)) (asked : h′ .requests ≡ h .requests) (e : ℕ) where
   rise : rises (λ v. v .number) (st .requests) ≡ true
-  rise = unfold requestsRise in s .numbers .requests-rise
+  rise = unfold requestsRise in up
 
   had : (n : ℕ) → any (λ o. eqb (o .request) n && eqb (o .lent) e) (h .loans) ≡ member n (map (λ v. v .number) (st .requests)) && member e (endsListed (st .rows) (requestOf (st .requests) n))
   had n = ap (any (λ o. eqb (o .request) n && eqb (o .lent) e)) (sym (l .lends)) ∙ on-loan (st .rows) n e (st .requests) rise
@@ -159,7 +159,7 @@ module _ (h h′ : History) (st : State) (g : List ℕ) (f : Request → Bool) (
       record {
         there = t;
         isEnd′ = end;
-        passes = and-i (f (requestOf (st .requests) n)) (lists e (requestOf (st .requests) n)) (sym (closed-now h h′ st g f i s i′ asked n t) ∙ closed-is n t .1 (c .isClosed)) (sym (end-listed (st .rows) e end (requestOf (st .requests) n)) ∙ m);
+        passes = and-i (f (requestOf (st .requests) n)) (lists e (requestOf (st .requests) n)) (sym (closed-now h h′ st g f i up i′ asked n t) ∙ closed-is n t .1 (c .isClosed)) (sym (end-listed (st .rows) e end (requestOf (st .requests) n)) ∙ m);
       }
 
   closed-out : (n : ℕ) → Closes n → ClosedWith h h′ e n
@@ -168,7 +168,7 @@ module _ (h h′ : History) (st : State) (g : List ℕ) (f : Request → Bool) (
       let v = requestOf (st .requests) n in
       record {
         hadOnLoan = had n ∙ and-i (member n (map (λ v. v .number) (st .requests))) _ (c .there) (end-listed (st .rows) e (c .isEnd′) v ∙ and-r (f v) (lists e v) (c .passes));
-        isClosed = closed-is n (c .there) .0 (closed-now h h′ st g f i s i′ asked n (c .there) ∙ and-l (f v) (lists e v) (c .passes));
+        isClosed = closed-is n (c .there) .0 (closed-now h h′ st g f i up i′ asked n (c .there) ∙ and-l (f v) (lists e v) (c .passes));
       }
 
   returned-place : (r : Row) → r .number ≡ e → some (oldestListing f e (st .requests) .number) ≡ true → returned f (st .requests) r .place ≡ inClist (oldestListing f e (st .requests) .asker)
@@ -189,8 +189,8 @@ module _ (h h′ : History) (st : State) (g : List ℕ) (f : Request → Bool) (
   lender-is q t = ap (λ o. o .asker) (request-loan h st i q t)
 
   placed : (q : ℕ) → stands h′ e ≡ true → ClosedWith h h′ e q → ((v : ℕ) → ClosedWith h h′ e v → q ≤ v) → rowOf (settled g f st .rows) e .place ≡ inClist (loanOf (h .requests) q .lender)
-  placed q up c least =
-      let both : member e (numbers (st .rows)) && not (member e g) ≡ true = sym (stands-left h h′ st g f i s i′ asked e) ∙ up in
+  placed q stood c least =
+      let both : member e (numbers (st .rows)) && not (member e g) ≡ true = sym (stands-left h h′ st g f i up i′ asked e) ∙ stood in
       let t : member e (numbers (st .rows)) ≡ true = and-l (member e (numbers (st .rows))) (not (member e g)) both in
       let out : member e g ≡ false = not-t (member e g) (and-r (member e (numbers (st .rows))) (not (member e g)) both) in
       let (is, same) = oldest q c least in
@@ -198,15 +198,15 @@ module _ (h h′ : History) (st : State) (g : List ℕ) (f : Request → Bool) (
       ∙ returned-place (rowOf (st .rows) e) (row-number (st .rows) e t) is
       ∙ ap inClist (ap (λ v. v .asker) same ∙ lender-is q (closed-in q c .there))
 
--- ---- the theorem
-pub revoke-returned : (h : History) (st : State) → Inv h st → Lends h st → Sound st → (p q : ℕ) → RevokeAllowed st p q → Returned h (noteAnswer h (Revoke p q) Done) (closeRequest q st)
-unfolding Returned noteAnswer noteCall refusalOf
-revoke-returned h st i l s p q a e v up c least =
-    let i′ : Inv h′ (closeRequest q st) = settled-inv (noteRevoke q h) (closeRequest q st) (revoke-inv h st i s p q a) in
-    (unfold closeRequest closing in placed h h′ st g (closes (q ∷ []) g) i l s (unfold closeRequest closing in i′) (unfold settling noteRevoke in refl) e v (stands-chains h′ (i′ .fit) e .1 up) c least)
-  where
-    h′ : History
-    h′ = settling (noteRevoke q h)
+-- ---- the theorem: of every closing, where h′ is the history after it
+pub closing-returned : (h h′ : History) (st : State) (g : List ℕ) (f : Request → Bool) → Inv h st → Lends h st → requestsRise (st .requests) ≡ true → Inv h′ (settled g f st) → h′ .requests ≡ h .requests
+    → Returned h h′ (settled g f st)
+unfolding Returned
+closing-returned h h′ st g f i l up i′ asked e q stood c least = placed h h′ st g f i l up i′ asked e q (stands-chains h′ (i′ .fit) e .1 stood) c least
 
-    g : List ℕ
-    g = marked (bears q) (st .rows)
+-- of revoke
+pub revoke-returned : (h : History) (st : State) → Inv h st → Lends h st → Sound st → (p q : ℕ) → RevokeAllowed st p q → Returned h (noteAnswer h (Revoke p q) Done) (closeRequest q st)
+unfolding noteAnswer noteCall refusalOf closeRequest closing noteRevoke settling
+revoke-returned h st i l s p q a =
+    let g : List ℕ = marked (bears q) (st .rows) in
+    closing-returned h (settling (noteRevoke q h)) st g (closes (q ∷ []) g) i l (s .numbers .requests-rise) (settled-inv (noteRevoke q h) (closeRequest q st) (revoke-inv h st i s p q a)) refl

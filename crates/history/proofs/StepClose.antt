@@ -120,7 +120,7 @@ module _ (h : History) (st : State) (i : Inv h st) (s : Sound st) where
   revoked-inv : (q : ℕ) → 0 < q → q < st .next → Inv (noteRevoke q h) (closeRequest q st)
   unfolding closeRequest noteRevoke
   revoked-inv q lo hi =
-      closed-keeps h (noteRevoke q h) st (λ r. eqb (r .request) q) (bears q) (q ∷ []) i s refl refl refl
+      closed-keeps h (noteRevoke q h) st (λ r. eqb (r .request) q) (bears q) (q ∷ []) i (s .numbers .rows-rise) refl refl refl
       (unfold noteRevoke in revoke-spoils q lo h) (λ r. unfold bears view in refl) (λ v. member-one v q (h .closedRequests))
       (fit-same h (noteRevoke q h) refl refl refl (i .fit .ends-kept) (i .fit)) (i .dropped-below) (i .ports-below) (below-cons (st .next) q (h .closedRequests) hi (i .closed-below))
 
@@ -144,7 +144,7 @@ module _ (h : History) (st : State) (i : Inv h st) (s : Sound st) where
       let up : stands h e ≡ true = row-stands h st i e (a .row .there) in
       let (lo, hi) = stands-low h st i e up in
       let plain : notedOf (h .rows) e .port ≡ 0 = ap (λ r. r .port) (row-noted h st i e up) ∙ plain-port (rowOf (st .rows) e) (a .no-end) in
-      closed-keeps h (noteDrop e h) st (λ r. eqb (r .number) e) (isRow e) [] i s refl refl refl
+      closed-keeps h (noteDrop e h) st (λ r. eqb (r .number) e) (isRow e) [] i (s .numbers .rows-rise) refl refl refl
       (unfold noteDrop in drop-spoils e h) (λ r. unfold isRow view in refl) (λ v. unfold member in refl)
       (fit-same h (noteDrop e h) refl refl refl (and-i (eqb (notedOf (h .rows) e .port) 0) _ (eq-eqb (notedOf (h .rows) e .port) 0 plain) (i .fit .ends-kept)) (i .fit))
       (below-cons (st .next) e (h .dropped) hi (i .dropped-below)) (i .ports-below) (i .closed-below)
@@ -154,6 +154,6 @@ module _ (h : History) (st : State) (i : Inv h st) (s : Sound st) where
   unfolding closePort noteClose
   closed-inv p c a =
       let (lo, hi) = stands-low h st i c (row-stands h st i c (a .row .there)) in
-      closed-keeps h (noteClose c h) st (λ r. eqb (r .port) c) (isEndOf c) [] i s refl refl refl
+      closed-keeps h (noteClose c h) st (λ r. eqb (r .port) c) (isEndOf c) [] i (s .numbers .rows-rise) refl refl refl
       (unfold noteClose in close-spoils c lo h) (end-of c lo) (λ v. unfold member in refl)
       (fit-same h (noteClose c h) refl refl refl (i .fit .ends-kept) (i .fit)) (i .dropped-below) (below-cons (st .next) c (h .closedPorts) hi (i .ports-below)) (i .closed-below)

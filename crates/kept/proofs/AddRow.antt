@@ -13,7 +13,7 @@ use Rattle.rows.specs.Lists.{all, each, topOf, rises, firstWith, member, betwee
 use Rattle.rows.specs.Limits.{greatestNumber, rowSlots}
 use Rattle.rows.specs.Codes.{clientEnd, serverEnd, isClient, isServer, isEnd, isSystem}
 use Rattle.rows.specs.Tables.{State, noRow, rowOf, numbers, lists}
-use Rattle.rows.specs.Sound.{rowsRise, requestsRise, numbersApart, belowNext, nextInRange, rowsFit, requestsFit, recordsFit, objectInRange, objectsInRange, rightInRange, rightsInRange, placeInRange, placesInRange, fetchedInRange, sourceRight, sourcesRight, depthRight, depthsRight, copyMatches, copiesMatch, recordsInRange, isPairedWith, otherEnd, endPaired, endsPaired, portStands, portsStand, requestersListed, itemsFew, itemsApart, mayBeListed, itemsLent, onePerPort, copyListed, copiesListed, olderFetched, awaitsFetch, same, systemHolds, processesPlaced, isFetched}
+use Rattle.rows.specs.Sound.{rowsRise, requestsRise, numbersApart, belowNext, nextInRange, rowsFit, requestsFit, recordsFit, objectInRange, objectsInRange, rightInRange, rightsInRange, placeInRange, placesInRange, fetchedInRange, sourceRight, sourcesRight, depthRight, depthsRight, copyMatches, copiesMatch, recordsInRange, isPairedWith, otherEnd, endPaired, endsPaired, portStands, portsStand, requestersListed, itemsFew, itemsApart, mayBeListed, itemsLent, onePerPort, copyListed, copiesListed, olderFetched, awaitsFetch, same, systemHolds, processesPlaced, isFetched, hasRightSources, hasRightDepth, matchesSource}
 use Rattle.rows.proofs.Bools.{false-of, clash, and-l, and-r, and-i, not-t, or-l, or-map, all-mono, all-and, all-at, or-r}
 use Rattle.rows.proofs.Keyed.{rises-cons}
 use Rattle.tables.proofs.Sound.{Sound}
@@ -22,6 +22,7 @@ use Rattle.rows.proofs.RowSources.{row-there, subdirectory-there}
 use Rattle.rows.proofs.Places.{no-row-listed}
 use Rattle.tables.proofs.SoundFacts.{same-eq, rows-top, row-below, requests-below, requests-top, next-some, placed-still}
 use Rattle.tables.proofs.Awaits.{awaits-none}
+use Rattle.kept.proofs.Sourced.{sourced-cons}
 use Rattle.calls.specs.Rules.{rowsFull, numbersSpent, withNewRows}
 
 -- ---- what a request lists
@@ -87,13 +88,13 @@ pub record Added (st : State) (new : List Row) (n : ℕ) : Type 0 where
   pub rights : all rightInRange new ≡ true
   pub places : all (placeInRange (st .processes)) new ≡ true
   pub away : all (λ r. not (isSystem (r .place))) new ≡ true
-  pub sources : each (sourceRight (st .requests)) (new ++ st .rows) ≡ true
-  pub depths : each depthRight (new ++ st .rows) ≡ true
-  pub copies : each copyMatches (new ++ st .rows) ≡ true
+  pub sources : sourcesRight (st .requests) (new ++ st .rows) ≡ true
+  pub depths : depthsRight (new ++ st .rows) ≡ true
+  pub copies : copiesMatch (new ++ st .rows) ≡ true
   pub unborne : all (λ r. eqb (r .request) 0) new ≡ true
 
 pub added-none : (st : State) → Sound st → Added st [] (st .next)
-unfolding rowsRise nextInRange between rowsFit sourcesRight depthsRight copiesMatch all
+unfolding rowsRise nextInRange between rowsFit all
 added-none st s =
     record {
       rise = s .numbers .rows-rise;
@@ -114,7 +115,7 @@ added-none st s =
 
 pub added-one : (st : State) (new : List Row) (n : ℕ) (r : Row) → suc n ≤ suc greatestNumber → suc (length (new ++ st .rows)) ≤ rowSlots
     → New st (new ++ st .rows) n r → Added st new n → Added st (r ∷ new) (suc n)
-unfolding rises topOf all each
+unfolding rises topOf all sourcesRight depthsRight copiesMatch
 added-one st new n r c f w a =
     let number : r .number ≡ n = w .number in
     let below : topOf (λ r. r .number) (new ++ st .rows) < n = a .below in
@@ -130,9 +131,9 @@ added-one st new n r c f w a =
       rights = and-i (rightInRange r) (all rightInRange new) (w .right) (a .rights);
       places = and-i (placeInRange (st .processes) r) (all (placeInRange (st .processes)) new) (w .place) (a .places);
       away = and-i (not (isSystem (r .place))) (all (λ r. not (isSystem (r .place))) new) (ap not (w .away)) (a .away);
-      sources = and-i (sourceRight (st .requests) r (new ++ st .rows)) (each (sourceRight (st .requests)) (new ++ st .rows)) (w .source) (a .sources);
-      depths = and-i (depthRight r (new ++ st .rows)) (each depthRight (new ++ st .rows)) (w .depth) (a .depths);
-      copies = and-i (copyMatches r (new ++ st .rows)) (each copyMatches (new ++ st .rows)) (w .copy) (a .copies);
+      sources = sourced-cons (hasRightSources (st .requests)) r (new ++ st .rows) (w .source) (a .sources);
+      depths = sourced-cons hasRightDepth r (new ++ st .rows) (w .depth) (a .depths);
+      copies = sourced-cons matchesSource r (new ++ st .rows) (w .copy) (a .copies);
       unborne = and-i (eqb (r .request) 0) (all (λ r. eqb (r .request) 0) new) (eq-eqb (r .request) 0 (w .unborne)) (a .unborne);
     }
 

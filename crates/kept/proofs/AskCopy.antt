@@ -13,24 +13,27 @@ use Rattle.rows.specs.Lists.{firstWith, member}
 use Rattle.rows.specs.Limits.{allRights, greatestDepth}
 use Rattle.rows.specs.Codes.{isOperation, isSubdirectory, isClient, isServer, isEnd, isCopied, withSystem, isSystem, mayTransfer, within}
 use Rattle.rows.specs.Tables.{State, rowOf, requestOf, depthOver, numbers, lists}
-use Rattle.rows.specs.Sound.{objectInRange, rightInRange, placeInRange, isPortEnd, isLentCopy, sourceRight, depthRight, copyMatches, endPaired, copyListed, isFetched, awaitsFetch, same}
+use Rattle.rows.specs.Sound.{objectInRange, rightInRange, placeInRange, isPortEnd, isLentCopy, hasRightSources, hasRightDepth, matchesSource, endPaired, copyListed, isFetched, awaitsFetch, same}
 use Rattle.rows.proofs.Bools.{clash, and-l, and-r, and-i, or-r, or-fl, or-fr, not-t, not-f, eqb-self, pos-some}
 use Rattle.tables.proofs.Sound.{Sound}
 use Rattle.tables.proofs.SoundFacts.{row-below, next-some, row-object}
 use Rattle.rows.proofs.Places.{system-no-node, system-in-range}
-use Rattle.rows.proofs.RowSources.{client-there}
-use Rattle.rows.specs.Setters.{withPlace}
 use Rattle.calls.specs.declared.Item.{Item}
 use Rattle.calls.specs.Rules.{notHeld, tooDeep, copyOf}
 use Rattle.calls.specs.Loans.{itemRow, moves, copyDepth, copyLent, newRequest}
 use Rattle.calls.specs.Calls.{lacksRight}
-use Rattle.kept.proofs.Moved.{moved, row-same, end-right}
+use Rattle.kept.proofs.Sourced.{Placeless, depth-placeless, copy-placeless, sources-elsewhere, end-or-copy}
+use Rattle.kept.proofs.Moved.{moved, moved-same, row-moved, kind-same}
 use Rattle.kept.proofs.Stand.{held-there}
 
 -- what the refusals and the text leave of an item that is copied
 unfoldable pub lendable : State → ℕ → ℕ → Item → Bool
 lendable st p c i =
     not (moves st i) && (not (notHeld st p (i .row)) && (not (lacksRight st i) && (not (tooDeep (copyDepth st c i)) && leb (i .rights) allRights)))
+
+pub lendable-there : (st : State) (p c : ℕ) (i : Item) → lendable st p c i ≡ true → member (i .row) (numbers (st .rows)) ≡ true
+unfolding lendable
+lendable-there st p c i g = held-there st p (i .row) (not-t (notHeld st p (i .row)) (search (and-l, and-r)))
 
 -- what is no end is an operation or a subdirectory
 no-end-copied : (ps : List Process) (r : Row) → isEnd (r .kind) ≡ false → objectInRange ps r ≡ true → isCopied (r .kind) ≡ true
@@ -62,10 +65,6 @@ module _ (st : State) (s : Sound st) (p c : ℕ) (client : isClient (rowOf (st .
     unfolding lendable moves itemRow
     no-end = not-t (isEnd (rowOf (st .rows) (i .row) .kind)) (search and-l)
 
-    there : member (i .row) (numbers (st .rows)) ≡ true
-    unfolding lendable
-    there = held-there st p (i .row) (not-t (notHeld st p (i .row)) (search (and-l, and-r)))
-
     rights-within : within (i .rights) (rowOf (st .rows) (i .row) .rights) ≡ true
     unfolding lendable lacksRight itemRow
     rights-within =
@@ -80,7 +79,7 @@ module _ (st : State) (s : Sound st) (p c : ℕ) (client : isClient (rowOf (st .
         le-leb (copyDepth st c i) greatestDepth (ltb-false greatestDepth (copyDepth st c i) (not-t (ltb greatestDepth (copyDepth st c i)) d))
 
     object-of : objectInRange (st .processes) (rowOf (st .rows) (i .row)) ≡ true
-    object-of = row-object st s (i .row) there
+    object-of = row-object st s (i .row) (lendable-there st p c i g)
 
     copy-no-end : isEnd (copyLent st c (st .next) n i .kind) ≡ false
     unfolding copyLent copyOf itemRow
@@ -107,46 +106,43 @@ module _ (st : State) (s : Sound st) (p c : ℕ) (client : isClient (rowOf (st .
     unfolding endPaired
     copy-paired rs = rw copy-no-end refl
 
-    -- ---- over the rows rs
-    module _ (rs : List Row) (found : (m : ℕ) → m < suc (st .next) → rowOf rs m ≡ rowOf base m) where
-      found-same : {A : Type 0} (f : Row → A) → ((r : Row) → f (withPlace withSystem r) ≡ f r) → (m : ℕ) → member m (numbers (st .rows)) ≡ true → f (rowOf rs m) ≡ f (rowOf (st .rows) m)
-      found-same f h m e = let (lo, hi) = row-below st s m e in ap f (found m (omega arith)) ∙ row-same t withSystem z f h (st .rows) m
+    -- ---- with its sources, the item's row and the client end, which may have moved
+    abbrev item : Row
+    item = rowOf (st .rows) (i .row)
 
-      pub copy-source : sourceRight requests′ (copyLent st c (st .next) n i) rs ≡ true
-      copy-source =
-          end-right requests′ rs (copyLent st c (st .next) n i)
-          (or-r (isPortEnd rs (copyLent st c (st .next) n i)) (isLentCopy requests′ rs (copyLent st c (st .next) n i)) right)
-        where
-          kind-of : (m : ℕ) → member m (numbers (st .rows)) ≡ true → rowOf rs m .kind ≡ rowOf (st .rows) m .kind
-          kind-of m e = found-same (λ r. r .kind) (λ r. unfold withPlace in refl) m e
+    abbrev client-end : Row
+    client-end = rowOf (st .rows) c
 
-          right : isLentCopy requests′ rs (copyLent st c (st .next) n i) ≡ true
-          right =
-              unfold isLentCopy copyLent copyOf itemRow in
-              rw (pos-some (st .next) (next-some st s), system-no-node, no-end-copied (st .processes) (rowOf (st .rows) (i .row)) no-end object-of, kind-of (i .row) there, no-end-copied (st .processes) (rowOf (st .rows) (i .row)) no-end object-of, kind-of c (client-there (st .rows) c client), client, request-new)
-              (unfold newRequest in eqb-self c)
+    item-copied : isCopied (item .kind) ≡ true
+    item-copied = no-end-copied (st .processes) item no-end object-of
 
-      pub copy-depth : depthRight (copyLent st c (st .next) n i) rs ≡ true
-      copy-depth = rw equal (and-i (eqb (copyDepth st c i) (copyDepth st c i)) (leb (copyDepth st c i) greatestDepth) (eqb-self (copyDepth st c i)) depth-most)
-        where
-          depth-of : (m : ℕ) → member m (numbers (st .rows)) ≡ true → rowOf rs m .depth ≡ rowOf (st .rows) m .depth
-          depth-of m e = found-same (λ r. r .depth) (λ r. unfold withPlace in refl) m e
+    pub copy-source : hasRightSources requests′ (copyLent st c (st .next) n i) (rowOf base (i .row)) (rowOf base c) ≡ true
+    copy-source =
+        end-or-copy requests′ (copyLent st c (st .next) n i) (rowOf base (i .row)) (rowOf base c)
+        (or-r (isPortEnd (copyLent st c (st .next) n i) (rowOf base (i .row))) (isLentCopy requests′ (copyLent st c (st .next) n i) (rowOf base (i .row)) (rowOf base c)) right)
+      where
+        right : isLentCopy requests′ (copyLent st c (st .next) n i) (rowOf base (i .row)) (rowOf base c) ≡ true
+        right =
+            unfold isLentCopy copyLent copyOf itemRow in
+            rw (pos-some (st .next) (next-some st s), system-no-node, item-copied, kind-same t withSystem z (st .rows) (i .row), item-copied, kind-same t withSystem z (st .rows) c, client, request-new)
+            (unfold newRequest in eqb-self c)
 
-          equal : depthRight (copyLent st c (st .next) n i) rs ≡ eqb (copyDepth st c i) (copyDepth st c i) && leb (copyDepth st c i) greatestDepth
-          equal = unfold depthRight copyLent copyOf copyDepth depthOver in rw (depth-of (i .row) there, depth-of c (client-there (st .rows) c client)) refl
+    -- tests that do not look at places say the same of the sources where they were
+    unmoved : (F : Row → Row → Row → Bool) → Placeless F → (r : Row) → F r item client-end ≡ true → F r (rowOf base (i .row)) (rowOf base c) ≡ true
+    unmoved F h r e =
+        rw (row-moved t withSystem z (st .rows) (i .row), row-moved t withSystem z (st .rows) c)
+        (sources-elsewhere (moved t withSystem) (λ f k r. moved-same t withSystem f (k withSystem) r) F h r item client-end ∙ e)
 
-      pub copy-matches : copyMatches (copyLent st c (st .next) n i) rs ≡ true
-      copy-matches =
-          unfold copyMatches copyLent copyOf itemRow in
-          or-r (eqb (i .row) 0) _ (or-r (isEnd (rowOf (st .rows) (i .row) .kind)) _ (found-same like (λ r. unfold withPlace in refl) (i .row) there ∙ itself))
-        where
-          like : Row → Bool
-          like r =
-              eqb (rowOf (st .rows) (i .row) .kind) (r .kind)
-              && (eqb (rowOf (st .rows) (i .row) .object) (r .object) && (eqb (rowOf (st .rows) (i .row) .operation) (r .operation) && within (i .rights) (r .rights)))
+    pub copy-depth : hasRightDepth (copyLent st c (st .next) n i) (rowOf base (i .row)) (rowOf base c) ≡ true
+    copy-depth =
+        unmoved hasRightDepth depth-placeless (copyLent st c (st .next) n i)
+        (unfold hasRightDepth copyLent copyOf copyDepth depthOver in and-i (eqb (copyDepth st c i) (copyDepth st c i)) (leb (copyDepth st c i) greatestDepth) (eqb-self (copyDepth st c i)) depth-most)
 
-          itself : like (rowOf (st .rows) (i .row)) ≡ true
-          itself = rw (eqb-self (rowOf (st .rows) (i .row) .kind), eqb-self (rowOf (st .rows) (i .row) .object), eqb-self (rowOf (st .rows) (i .row) .operation)) rights-within
+    pub copy-matches : matchesSource (copyLent st c (st .next) n i) (rowOf base (i .row)) (rowOf base c) ≡ true
+    copy-matches = unmoved matchesSource copy-placeless (copyLent st c (st .next) n i) itself
+      where
+        itself : matchesSource (copyLent st c (st .next) n i) item client-end ≡ true
+        itself = unfold matchesSource copyLent copyOf itemRow in or-r (eqb (i .row) 0) _ (or-r (isEnd (item .kind)) _ (rw (eqb-self (item .kind), eqb-self (item .object), eqb-self (item .operation)) rights-within))
 
     -- ---- with the new request, which lists it
     module _ (later : st .next < n) (listed : lists n (newRequest (st .next) c p its) ≡ true) where

@@ -9,15 +9,15 @@ use lib.ListN.{length, length-map}
 use borrow.Author.Tests.{eqb-true, le-leb}
 use native.Mathlib.Omega.{arith}
 use Rattle.rows.specs.declared.Row.{Row}
-use Rattle.rows.specs.Lists.{all, each, topOf, member, some}
+use Rattle.rows.specs.Lists.{all, topOf, member, some}
 use Rattle.rows.specs.Limits.{processes, rowSlots}
 use Rattle.rows.specs.Codes.{isSubdirectory, isEnd, inClist, withSystem, isNode, isSystem}
 use Rattle.rows.specs.Tables.{State, noRow, rowOf, numbers, lists}
-use Rattle.rows.specs.Sound.{rowsRise, rowsFit, objectInRange, objectsInRange, rightInRange, rightsInRange, placeInRange, placesInRange, sourceRight, sourcesRight, depthRight, depthsRight, copyMatches, copiesMatch, isPairedWith, otherEnd, endPaired, endsPaired, copyListed, copiesListed, isFetched, awaitsFetch, same, systemHolds, processesPlaced}
+use Rattle.rows.specs.Sound.{rowsRise, rowsFit, objectInRange, objectsInRange, rightInRange, rightsInRange, placeInRange, placesInRange, sourcesRight, depthsRight, copiesMatch, isPairedWith, otherEnd, endPaired, endsPaired, copyListed, copiesListed, isFetched, awaitsFetch, same, systemHolds, processesPlaced, sourced, hasRightSources, hasRightDepth, matchesSource}
 use Rattle.rows.proofs.Bools.{false-of, clash, and-l, or-map, not-f, all-mono, all-eq}
 use Rattle.rows.proofs.Keyed.{rises-map}
 use Rattle.tables.proofs.Sound.{Sound}
-use Rattle.rows.proofs.RowSources.{subdirectory-there, end-there}
+use Rattle.rows.proofs.RowSources.{subdirectory-there, end-there, client-there}
 use Rattle.tables.proofs.SoundFacts.{row-below, rows-top, row-number, same-eq, placed-still}
 use Rattle.rows.proofs.Places.{clist-not-node, system-no-node, system-in-range, subdirectory-no-end}
 use Rattle.rows.proofs.Lists.{all-map}
@@ -26,14 +26,15 @@ use Rattle.calls.specs.declared.Item.{Item}
 use Rattle.calls.specs.Rules.{notHeld}
 use Rattle.calls.specs.Loans.{copies, copyLent, newRequest}
 use Rattle.kept.proofs.Lists.{top-map}
-use Rattle.kept.proofs.Moved.{moved, mayMove, moved-same, moved-number, moved-stays, moved-goes, kind-same, depths-moved, copies-moved, objects-moved, rights-moved, paired-moved, sources-moved}
+use Rattle.kept.proofs.Sourced.{depth-placeless, copy-placeless}
+use Rattle.kept.proofs.Moved.{moved, mayMove, moved-same, moved-number, moved-stays, moved-goes, kind-same, objects-moved, rights-moved, paired-moved, sourced-moved, sources-moved}
 use Rattle.kept.proofs.Loans.{of-rows, held-so}
 use Rattle.kept.proofs.AskItems.{isItem, listed}
 use Rattle.kept.proofs.AskList.{named-end}
-use Rattle.kept.proofs.AskStack.{row-stacked, length-stacked, rises-stacked, top-stacked, all-stacked, each-stacked}
-use Rattle.kept.proofs.AskCopy.{lendable, copy-object, copy-right, copy-place, copy-paired, copy-source, copy-depth, copy-matches, copy-listed, copy-held}
+use Rattle.kept.proofs.AskStack.{row-stacked, length-stacked, rises-stacked, top-stacked, all-stacked, sourced-stacked}
+use Rattle.kept.proofs.AskCopy.{lendable, lendable-there, copy-object, copy-right, copy-place, copy-paired, copy-source, copy-depth, copy-matches, copy-listed, copy-held}
 use Rattle.kept.proofs.Allowed.{AskAllowed}
-use Rattle.kept.proofs.AskFacts.{lentRows, askedRows, asked, askedState, none-named, named-held, lists-named, lists-copy, lists-cases, old-found, request-old}
+use Rattle.kept.proofs.AskFacts.{lentRows, askedRows, asked, none-named, named-held, lists-named, lists-copy, lists-cases, old-found, request-old}
 
 module _ (st : State) (s : Sound st) (p c : ℕ) (is : List Item) (a : AskAllowed st p c is) where
   abbrev lo : ℕ
@@ -42,15 +43,22 @@ module _ (st : State) (s : Sound st) (p c : ℕ) (is : List Item) (a : AskAllowe
   abbrev hi : ℕ
   hi = suc (st .next) + length (copies st is)
 
+  none : isItem st is 0 ≡ false
+  none = none-named st s p c is a
+
   -- what holds of the old rows and of each copy
   rows-all : (P : Row → Bool) → ((n : ℕ) (i : Item) → lendable st p c i ≡ true → lo ≤ n → n < hi → P (copyLent st c (st .next) n i) ≡ true) → all P (lentRows st is) ≡ true → all P (askedRows st c is) ≡ true
   rows-all P h e = all-stacked st c (st .next) (lendable st p c) lo hi P h (copies st is) lo (lentRows st is) (a .lent) (omega arith) (omega arith) e
 
-  rows-each : (F : Row → List Row → Bool)
-      → ((n : ℕ) (i : Item) (rs : List Row) → lendable st p c i ≡ true → ((m : ℕ) → m < lo → rowOf rs m ≡ rowOf (lentRows st is) m) → F (copyLent st c (st .next) n i) rs ≡ true)
-      → each F (lentRows st is) ≡ true → each F (askedRows st c is) ≡ true
-  rows-each F h e =
-      each-stacked st c (st .next) (lendable st p c) lo hi F (lentRows st is) (λ n i rs g _ _ o. h n i rs g o) (copies st is) lo (lentRows st is) (a .lent) (omega arith) (omega arith) (λ m _. refl) e
+  rows-sourced : (F : Row → Row → Row → Bool)
+      → ((n : ℕ) (i : Item) → lendable st p c i ≡ true → F (copyLent st c (st .next) n i) (rowOf (lentRows st is) (i .row)) (rowOf (lentRows st is) c) ≡ true)
+      → sourced F (lentRows st is) ≡ true → sourced F (askedRows st c is) ≡ true
+  rows-sourced F h e =
+      sourced-stacked st c (st .next) (lendable st p c) lo hi F (lentRows st is) (below c (client-there (st .rows) c (a .client)))
+      (λ n i g. (below (i .row) (lendable-there st p c i g), h n i g)) (copies st is) lo (lentRows st is) (a .lent) (omega arith) (λ m _. refl) e
+    where
+      below : (m : ℕ) → member m (numbers (st .rows)) ≡ true → m < lo
+      below m t = let (l, u) = row-below st s m t in omega arith
 
   -- ---- numbers
   lent-top : topOf (λ r. r .number) (lentRows st is) < lo
@@ -59,13 +67,13 @@ module _ (st : State) (s : Sound st) (p c : ℕ) (is : List Item) (a : AskAllowe
   pub rows-top′ : topOf (λ r. r .number) (askedRows st c is) < hi
   rows-top′ = top-stacked st c (st .next) (copies st is) lo (lentRows st is) lent-top
 
-  pub rows-rise : rowsRise (askedState st p c is .rows) ≡ true
+  pub rows-rise : rowsRise (askedRows st c is) ≡ true
   unfolding rowsRise
   rows-rise =
       rises-stacked st c (st .next) (copies st is) lo (lentRows st is) lent-top
       (rises-map (λ r. r .number) (moved (isItem st is) withSystem) (moved-number (isItem st is) withSystem) (st .rows) ∙ s .numbers .rows-rise)
 
-  pub rows-fit : rowsFit (askedState st p c is .rows) ≡ true
+  pub rows-fit : rowsFit (askedRows st c is) ≡ true
   unfolding rowsFit
   rows-fit =
       let l : length (askedRows st c is) ≡ length (copies st is) + length (lentRows st is) = length-stacked st c (st .next) (copies st is) lo (lentRows st is) in
@@ -74,22 +82,22 @@ module _ (st : State) (s : Sound st) (p c : ℕ) (is : List Item) (a : AskAllowe
       le-leb (length (askedRows st c is)) rowSlots (omega arith)
 
   -- ---- fields
-  pub objects-in-range : objectsInRange (askedState st p c is .processes) (askedState st p c is .rows) ≡ true
+  pub objects-in-range : objectsInRange (st .processes) (askedRows st c is) ≡ true
   unfolding objectsInRange
   objects-in-range =
-      rows-all (objectInRange (st .processes)) (λ n i g _ _. copy-object st s p c (a .client) (isItem st is) (none-named st s p c is a) [] n i g)
-      (objects-moved (isItem st is) withSystem (none-named st s p c is a) (st .processes) (st .rows) ∙ s .rows .objects-in-range)
+      rows-all (objectInRange (st .processes)) (λ n i g _ _. copy-object st s p c (a .client) (isItem st is) none [] n i g)
+      (objects-moved (isItem st is) withSystem none (st .processes) (st .rows) ∙ s .rows .objects-in-range)
 
-  pub rights-in-range : rightsInRange (askedState st p c is .rows) ≡ true
+  pub rights-in-range : rightsInRange (askedRows st c is) ≡ true
   unfolding rightsInRange
   rights-in-range =
-      rows-all rightInRange (λ n i g _ _. copy-right st s p c (a .client) (isItem st is) (none-named st s p c is a) [] n i g)
-      (rights-moved (isItem st is) withSystem (none-named st s p c is a) (st .rows) ∙ s .rows .rights-in-range)
+      rows-all rightInRange (λ n i g _ _. copy-right st s p c (a .client) (isItem st is) none [] n i g)
+      (rights-moved (isItem st is) withSystem none (st .rows) ∙ s .rows .rights-in-range)
 
-  pub places-in-range : placesInRange (askedState st p c is .processes) (askedState st p c is .rows) ≡ true
+  pub places-in-range : placesInRange (st .processes) (askedRows st c is) ≡ true
   unfolding placesInRange
   places-in-range =
-      rows-all (placeInRange (st .processes)) (λ n i g _ _. copy-place st s p c (a .client) (isItem st is) (none-named st s p c is a) [] n i g)
+      rows-all (placeInRange (st .processes)) (λ n i g _ _. copy-place st s p c (a .client) (isItem st is) none [] n i g)
       (all-map (placeInRange (st .processes)) (moved (isItem st is) withSystem) (st .rows)
       ∙ all-mono (placeInRange (st .processes)) (λ r. placeInRange (st .processes) (moved (isItem st is) withSystem r)) (λ r e. unfold moved in pick r (isItem st is (r .number)) e) (st .rows) (s .rows .places-in-range))
     where
@@ -109,34 +117,33 @@ module _ (st : State) (s : Sound st) (p c : ℕ) (is : List Item) (a : AskAllowe
           rw (row-number (st .rows) n m, g, at, clist-not-node p, named-end st is n g) refl
       pick n m false g = rw (row-number (st .rows) n m, g) refl
 
-  pub sources-right : sourcesRight (askedState st p c is .requests) (askedState st p c is .rows) ≡ true
+  pub sources-right : sourcesRight (asked st p c is ∷ st .requests) (askedRows st c is) ≡ true
   unfolding sourcesRight
   sources-right =
-      rows-each (sourceRight (asked st p c is ∷ st .requests))
-      (λ n i rs g o. copy-source st s p c (a .client) (isItem st is) (none-named st s p c is a) (listed st is (suc (st .next))) n i g rs o)
-      (sources-moved (isItem st is) withSystem (none-named st s p c is a) system-no-node (st .requests) (asked st p c is ∷ st .requests) (st .rows) may-move
-      (λ r e. ap (λ v. v .port) (request-old st s p c is a r e)) (unfold copiesListed in s .loans .copies-listed) (s .rows .sources-right))
+      rows-sourced (hasRightSources (asked st p c is ∷ st .requests)) (copy-source st s p c (a .client) (isItem st is) none (listed st is (suc (st .next))))
+      (sources-moved (isItem st is) withSystem none system-no-node (st .requests) (asked st p c is ∷ st .requests) (st .rows) may-move
+      (λ r e. ap (λ v. v .port) (request-old st s p c is a r e)) (s .loans .copies-listed) (s .rows .sources-right))
 
-  pub depths-right : depthsRight (askedState st p c is .rows) ≡ true
+  pub depths-right : depthsRight (askedRows st c is) ≡ true
   unfolding depthsRight
   depths-right =
-      rows-each depthRight (λ n i rs g o. copy-depth st s p c (a .client) (isItem st is) (none-named st s p c is a) [] n i g rs o)
-      (depths-moved (isItem st is) withSystem (none-named st s p c is a) (st .rows) ∙ s .rows .depths-right)
+      rows-sourced hasRightDepth (copy-depth st s p c (a .client) (isItem st is) none [])
+      (sourced-moved (isItem st is) withSystem none hasRightDepth depth-placeless (st .rows) (s .rows .depths-right))
 
-  pub copies-match : copiesMatch (askedState st p c is .rows) ≡ true
+  pub copies-match : copiesMatch (askedRows st c is) ≡ true
   unfolding copiesMatch
   copies-match =
-      rows-each copyMatches (λ n i rs g o. copy-matches st s p c (a .client) (isItem st is) (none-named st s p c is a) [] n i g rs o)
-      (copies-moved (isItem st is) withSystem (none-named st s p c is a) (st .rows) ∙ s .rows .copies-match)
+      rows-sourced matchesSource (copy-matches st s p c (a .client) (isItem st is) none [])
+      (sourced-moved (isItem st is) withSystem none matchesSource copy-placeless (st .rows) (s .rows .copies-match))
 
   -- ---- ends
-  pub ends-paired : endsPaired (askedState st p c is .rows) ≡ true
+  pub ends-paired : endsPaired (askedRows st c is) ≡ true
   unfolding endsPaired
   ends-paired =
       all-mono (endPaired (lentRows st is)) (endPaired (askedRows st c is)) (λ r e. step r e) (askedRows st c is)
-      (rows-all (endPaired (lentRows st is)) (λ n i g _ _. copy-paired st s p c (a .client) (isItem st is) (none-named st s p c is a) [] n i g (lentRows st is))
+      (rows-all (endPaired (lentRows st is)) (λ n i g _ _. copy-paired st s p c (a .client) (isItem st is) none [] n i g (lentRows st is))
       (all-map (endPaired (lentRows st is)) (moved (isItem st is) withSystem) (st .rows)
-      ∙ all-eq (λ r. endPaired (lentRows st is) (moved (isItem st is) withSystem r)) (endPaired (st .rows)) (paired-moved (isItem st is) withSystem (none-named st s p c is a) (st .rows)) (st .rows)
+      ∙ all-eq (λ r. endPaired (lentRows st is) (moved (isItem st is) withSystem r)) (endPaired (st .rows)) (paired-moved (isItem st is) withSystem none (st .rows)) (st .rows)
       ∙ s .rows .ends-paired))
     where
       end-of : (r b : Row) → isPairedWith r b ≡ true → isEnd (b .kind) ≡ true
@@ -144,7 +151,7 @@ module _ (st : State) (s : Sound st) (p c : ℕ) (is : List Item) (a : AskAllowe
 
       other : (r : Row) → isPairedWith r (rowOf (lentRows st is) (otherEnd r)) ≡ true → isPairedWith r (rowOf (askedRows st c is) (otherEnd r)) ≡ true
       other r e =
-          let k : isEnd (rowOf (st .rows) (otherEnd r) .kind) ≡ true = sym (ap isEnd (kind-same (isItem st is) withSystem (none-named st s p c is a) (st .rows) (otherEnd r))) ∙ end-of r (rowOf (lentRows st is) (otherEnd r)) e in
+          let k : isEnd (rowOf (st .rows) (otherEnd r) .kind) ≡ true = sym (ap isEnd (kind-same (isItem st is) withSystem none (st .rows) (otherEnd r))) ∙ end-of r (rowOf (lentRows st is) (otherEnd r)) e in
           let (lo, hi) = row-below st s (otherEnd r) (end-there (st .rows) (otherEnd r) k) in
           ap (isPairedWith r) (row-stacked st c (st .next) (copies st is) (suc (st .next)) (lentRows st is) (otherEnd r) (omega arith)) ∙ e
 
@@ -152,11 +159,11 @@ module _ (st : State) (s : Sound st) (p c : ℕ) (is : List Item) (a : AskAllowe
       step r e = unfold endPaired in or-map (not (isEnd (r .kind))) (isPairedWith r (rowOf (lentRows st is) (otherEnd r))) (isPairedWith r (rowOf (askedRows st c is) (otherEnd r))) (other r) e
 
   -- ---- loans
-  pub copies-listed : copiesListed (askedState st p c is .requests) (askedState st p c is .rows) ≡ true
+  pub copies-listed : copiesListed (asked st p c is ∷ st .requests) (askedRows st c is) ≡ true
   unfolding copiesListed
   copies-listed =
       rows-all (copyListed (asked st p c is ∷ st .requests))
-      (λ n i g l h. copy-listed st s p c (a .client) (isItem st is) (none-named st s p c is a) (listed st is (suc (st .next))) n i g (omega arith) (lists-copy st s p c is a n l h))
+      (λ n i g l h. copy-listed st s p c (a .client) (isItem st is) none (listed st is (suc (st .next))) n i g (omega arith) (lists-copy st s p c is a n l h))
       (all-map (copyListed (asked st p c is ∷ st .requests)) (moved (isItem st is) withSystem) (st .rows)
       ∙ all-mono (copyListed (st .requests)) (λ r. copyListed (asked st p c is ∷ st .requests) (moved (isItem st is) withSystem r)) step (st .rows) (s .loans .copies-listed))
     where
@@ -165,11 +172,11 @@ module _ (st : State) (s : Sound st) (p c : ℕ) (is : List Item) (a : AskAllowe
           moved-same (isItem st is) withSystem (copyListed (asked st p c is ∷ st .requests)) (λ r. unfold copyListed withPlace in refl) r
           ∙ (unfold copyListed in rw (request-old st s p c is a r e) e)
 
-  pub system-holds : systemHolds (askedState st p c is .requests) (askedState st p c is .rows) ≡ true
+  pub system-holds : systemHolds (asked st p c is ∷ st .requests) (askedRows st c is) ≡ true
   unfolding systemHolds
   system-holds =
       rows-all holds
-      (λ n i g l h. copy-held st s p c (a .client) (isItem st is) (none-named st s p c is a) (listed st is (suc (st .next))) n i g (omega arith) (lists-copy st s p c is a n l h))
+      (λ n i g l h. copy-held st s p c (a .client) (isItem st is) none (listed st is (suc (st .next))) n i g (omega arith) (lists-copy st s p c is a n l h))
       (all-map holds (moved (isItem st is) withSystem) (st .rows) ∙ of-rows st s (λ r. holds (moved (isItem st is) withSystem r)) (λ n m. pick n m (isItem st is n) refl))
     where
       holds : Row → Bool
@@ -202,7 +209,7 @@ module _ (st : State) (s : Sound st) (p c : ℕ) (is : List Item) (a : AskAllowe
           (rw (row-number (st .rows) n m, as-before n (row-below st s n m .1) g) (held-so st s n m))
 
   -- ---- processes
-  pub processes-placed : processesPlaced (askedState st p c is .rows) (askedState st p c is .processes) ≡ true
+  pub processes-placed : processesPlaced (askedRows st c is) (st .processes) ≡ true
   unfolding processesPlaced
   processes-placed =
       placed-still st s (askedRows st c is) stays

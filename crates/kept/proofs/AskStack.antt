@@ -8,13 +8,15 @@ use lib.ListN.{length}
 use borrow.Author.Tests.{eqb-true, eqb-false, ne-eqb}
 use native.Mathlib.Omega.{arith}
 use Rattle.rows.specs.declared.Row.{Row}
-use Rattle.rows.specs.Lists.{all, each, firstWith, topOf, rises, member}
+use Rattle.rows.specs.Lists.{all, firstWith, topOf, rises, member}
 use Rattle.rows.specs.Tables.{State, rowOf, numbers}
 use Rattle.rows.proofs.Bools.{and-l, and-r, and-i, eqb-self}
 use Rattle.rows.proofs.Keyed.{rises-cons}
 use Rattle.calls.specs.declared.Item.{Item}
 use Rattle.calls.specs.Rules.{copyOf}
 use Rattle.calls.specs.Loans.{copyLent}
+use Rattle.rows.specs.Sound.{sourced}
+use Rattle.kept.proofs.Sourced.{sourced-cons}
 use Rattle.kept.proofs.AskItems.{stacked}
 
 module _ (st : State) (c v : ℕ) where
@@ -76,14 +78,16 @@ module _ (st : State) (c v : ℕ) where
         all-stacked P h ks (suc n) (copyLent st c v n i ∷ rs) (and-r (good i) (all good ks) g) (omega arith) (omega arith)
         (and-i (P (copyLent st c v n i)) (all P rs) (h n i (and-l (good i) (all good ks) g) l (omega arith)) e)
 
-    -- with the rows below it at hand, among which the old ones are found as in b
-    pub each-stacked : (F : Row → List Row → Bool) (b : List Row)
-        → ((n : ℕ) (i : Item) (rs : List Row) → good i ≡ true → lo ≤ n → n < hi → ((m : ℕ) → m < lo → rowOf rs m ≡ rowOf b m) → F (copyLent st c v n i) rs ≡ true)
-        → (ks : List Item) (n : ℕ) (rs : List Row) → all good ks ≡ true → lo ≤ n → n + length ks ≤ hi → ((m : ℕ) → m < lo → rowOf rs m ≡ rowOf b m) → each F rs ≡ true
-        → each F (stacked st c v ks n rs) ≡ true
-    unfolding stacked all each
-    each-stacked F b h [] n rs g l u o e = e
-    each-stacked F b h (i ∷ ks) n rs g l u o e =
-        each-stacked F b h ks (suc n) (copyLent st c v n i ∷ rs) (and-r (good i) (all good ks) g) (omega arith) (omega arith)
-        (λ m lt. cons-found n i rs m (omega arith) ∙ o m lt)
-        (and-i (F (copyLent st c v n i) rs) (each F rs) (h n i rs (and-l (good i) (all good ks) g) l (omega arith) o) e)
+    -- a clause of rows and their sources: those of the copies are among the rows b, below lo
+    pub sourced-stacked : (F : Row → Row → Row → Bool) (b : List Row) → c < lo
+        → ((n : ℕ) (i : Item) → good i ≡ true → (i .row < lo) × (F (copyLent st c v n i) (rowOf b (i .row)) (rowOf b c) ≡ true))
+        → (ks : List Item) (n : ℕ) (rs : List Row) → all good ks ≡ true → lo ≤ n → ((m : ℕ) → m < lo → rowOf rs m ≡ rowOf b m) → sourced F rs ≡ true
+        → sourced F (stacked st c v ks n rs) ≡ true
+    unfolding stacked all
+    sourced-stacked F b low h [] n rs g l o e = e
+    sourced-stacked F b low h (i ∷ ks) n rs g l o e =
+        sourced-stacked F b low h ks (suc n) (copyLent st c v n i ∷ rs) (and-r (good i) (all good ks) g) (omega arith) (λ m lt. cons-found n i rs m (omega arith) ∙ o m lt)
+        (sourced-cons F (copyLent st c v n i) rs (fits (h n i (and-l (good i) (all good ks) g))) e)
+      where
+        fits : (i .row < lo) × (F (copyLent st c v n i) (rowOf b (i .row)) (rowOf b c) ≡ true) → F (copyLent st c v n i) (rowOf rs (copyLent st c v n i .source)) (rowOf rs (copyLent st c v n i .via)) ≡ true
+        fits (k, q) = unfold copyLent copyOf in (rw (o (i .row) k, o c low) q)

@@ -1,6 +1,6 @@
 -- The clauses of soundness on rows hold of those that closing leaves: a row that is left has its sources, its other end and its request left.
 use Prim.Native.Nat.{ℕ, _<_, _≤_}
-use mathlib.Core.Bool.{Bool, true, false, not, _&&_, _||_}
+use mathlib.Core.Bool.{Bool, true, false, not, cond, _&&_, _||_}
 use mathlib.Core.List.{List, map}
 use mathlib.Core.Path.{_≡_, refl, sym, ap, _∙_}
 use mathlib.Core.Logic.{_⊎_, inl, inr, ⊎-elim}
@@ -12,21 +12,23 @@ use Rattle.rows.specs.declared.Row.{Row}
 use Rattle.rows.specs.declared.Request.{Request}
 use Rattle.rows.specs.Lists.{filter, member, topOf, rises, some}
 use Rattle.rows.specs.Limits.{rowSlots}
-use Rattle.rows.specs.Codes.{isEnd, isOperation, isNode}
+use Rattle.rows.specs.Codes.{isEnd, inClist}
 use Rattle.rows.specs.Tables.{State, noRequest, rowOf, requestOf, depthOver, lists, numbers}
-use Rattle.rows.specs.Sound.{rowsRise, requestsRise, belowNext, rowsFit, objectInRange, objectsInRange, rightInRange, rightsInRange, isOpening, isRegistered, isHeld, isPortEnd, isLentCopy, sourceRight, sourcesRight, depthRight, depthsRight, copyMatches, copiesMatch, isPairedWith, otherEnd, endPaired, endsPaired, copyListed, copiesListed}
+use Rattle.rows.specs.Sound.{rowsRise, requestsRise, belowNext, rowsFit, objectInRange, objectsInRange, rightInRange, rightsInRange, sourcesRight, depthsRight, copiesMatch, isPairedWith, otherEnd, endPaired, endsPaired, copyListed, copiesListed, hasRightSources, hasRightDepth, matchesSource, sourceOf, viaOf, sourced, sourceOf, viaOf, hasRightSources, hasRightDepth, matchesSource}
 use Rattle.rows.proofs.Bools.{false-of, clash, and-l, and-r, and-i, or-l, or-r, pos-some, true-or-false}
 use Rattle.rows.proofs.Keyed.{first-none, rises-range, olderOf}
 use Rattle.tables.proofs.Sound.{Sound}
 use Rattle.tables.proofs.SoundFacts.{row-number}
 use Rattle.tables.proofs.Standing.{source-lower, via-lower}
+use Rattle.rows.proofs.Places.{clist-not-node}
 use Rattle.rows.specs.Setters.{withPlace, withItems}
-use Rattle.closing.specs.Closing.{returned, listedIn, leaves, homed, trimmed, remaining, settled}
+use Rattle.closing.specs.Closing.{oldestListing, returned, listedIn, leaves, homed, trimmed, remaining, settled}
 use Rattle.closing.proofs.TrimmedLists.{any-older, top-member, length-filter}
-use Rattle.closing.proofs.Facts.{Stands, IsOpen, end-right, copy-at, copy-listed, lists-open}
+use Rattle.closing.proofs.Facts.{Stands, IsOpen, end-at, copy-at, copy-listed, lists-open}
 use Rattle.closing.proofs.RemovedRows.{Closed}
 use Rattle.closing.proofs.Lookups.{trimmed-lists, remaining-known, remaining-rises, request-after, returned-keeps, row-after, left-stood, all-left, each-left, older-before, older-after}
 use Rattle.closing.proofs.Processes.{listed-kept}
+use Rattle.kept.proofs.Sourced.{Placeless, depth-placeless, copy-placeless, rows-elsewhere, sources-alike, right-elsewhere}
 use Rattle.kept.proofs.ClosingPlaces.{listed-end, no-end-same, node-kept}
 
 -- ---- ranges, sizes
@@ -79,22 +81,14 @@ module _ (g : List ℕ) (f : Request → Bool) (st : State) (s : Sound st) where
       requests (inl z) = below _ _ _ requests-below (inl z)
       requests (inr t) = below _ _ _ requests-below (inr (rises-range (λ v. v .number) (st .requests) (s .numbers .requests-rise) _ (remaining-known f g (st .requests) _ t) .1))
 
--- ---- what a row says of its sources says the same where they are found alike
-same-right : (vs ws : List Request) (r : Row) (rs ss : List Row) → rowOf rs (r .source) .kind ≡ rowOf ss (r .source) .kind → isNode (rowOf rs (r .source) .place) ≡ isNode (rowOf ss (r .source) .place)
-    → rowOf rs (r .via) .kind ≡ rowOf ss (r .via) .kind → requestOf vs (r .request) .port ≡ requestOf ws (r .request) .port → sourceRight vs r rs ≡ sourceRight ws r ss
-unfolding sourceRight isRegistered isHeld isPortEnd isLentCopy
-same-right vs ws r rs ss a b c d = rw (a, b, c, d) refl
-
-same-depth : (r : Row) (rs ss : List Row) → rowOf rs (r .source) .depth ≡ rowOf ss (r .source) .depth → rowOf rs (r .via) .depth ≡ rowOf ss (r .via) .depth → depthRight r rs ≡ depthRight r ss
-unfolding depthRight depthOver
-same-depth r rs ss a b = rw (a, b) refl
-
-same-copy : (r : Row) (rs ss : List Row) → rowOf rs (r .source) .kind ≡ rowOf ss (r .source) .kind → rowOf rs (r .source) .object ≡ rowOf ss (r .source) .object
-    → rowOf rs (r .source) .operation ≡ rowOf ss (r .source) .operation → rowOf rs (r .source) .rights ≡ rowOf ss (r .source) .rights → copyMatches r rs ≡ copyMatches r ss
-unfolding copyMatches
-same-copy r rs ss a b c d = rw (a, b, c, d) refl
-
 module _ (g : List ℕ) (f : Request → Bool) (st : State) (s : Sound st) (c : Closed g f st) where
+  -- ---- clauses of rows and their sources, which are left with them
+  abbrev row : ℕ → Row
+  row n = rowOf (st .rows) n
+
+  abbrev back : Row → Row
+  back r = returned f (st .requests) r
+
   -- the older rows, before and after
   before : ℕ → List Row
   before n = olderOf (λ r. r .number) (st .rows) n
@@ -102,36 +96,42 @@ module _ (g : List ℕ) (f : Request → Bool) (st : State) (s : Sound st) (c : 
   after : ℕ → List Row
   after n = olderOf (λ r. r .number) (settled g f st .rows) n
 
-  -- a field of an older row that is left, other than the place
-  field : {B : Type 0} (F : Row → B) → ((p : ℕ) (r : Row) → F (withPlace p r) ≡ F r) → (n m : ℕ) → Stands st n → member n g ≡ false → m < n → member m g ≡ false
-      → F (rowOf (after n) m) ≡ F (rowOf (before n) m)
-  unfolding before after
-  field F h n m t k lt j =
-      ap F (older-after g f st (s .numbers .rows-rise) n m t k lt j) ∙ returned-keeps F h f (st .requests) (rowOf (st .rows) m) ∙ ap F (sym (older-before g f st (s .numbers .rows-rise) n m t lt))
+  pub sourced-kept : (F G : Row → Row → Row → Bool)
+      → ((n : ℕ) → Stands st n → member n g ≡ false → F (row n) (row (row n .source)) (row (row n .via)) ≡ true
+      → G (back (row n)) (back (row (row n .source))) (back (row (row n .via))) ≡ true)
+      → sourced F (st .rows) ≡ true → sourced G (settled g f st .rows) ≡ true
+  unfolding sourced before after
+  sourced-kept F G h e =
+      each-left g f st (λ r rs. F r (sourceOf rs r) (viaOf rs r)) (λ r rs. G r (sourceOf rs r) (viaOf rs r)) (s .numbers .rows-rise) at-row e
+    where
+      old : (n m : ℕ) → Stands st n → m < n → rowOf (before n) m ≡ row m
+      old n m t lt = older-before g f st (s .numbers .rows-rise) n m t lt
 
-  of-source : {B : Type 0} (F : Row → B) → ((p : ℕ) (r : Row) → F (withPlace p r) ≡ F r) → (n : ℕ) → Stands st n → member n g ≡ false
-      → F (rowOf (after n) (rowOf (st .rows) n .source)) ≡ F (rowOf (before n) (rowOf (st .rows) n .source))
-  of-source F h n t k = field F h n (rowOf (st .rows) n .source) t k (source-lower st s n t) (c .source-stays n t k)
+      left : (n m : ℕ) → Stands st n → member n g ≡ false → m < n → member m g ≡ false → rowOf (after n) m ≡ back (row m)
+      left n m t k lt j = older-after g f st (s .numbers .rows-rise) n m t k lt j
 
-  of-via : {B : Type 0} (F : Row → B) → ((p : ℕ) (r : Row) → F (withPlace p r) ≡ F r) → (n : ℕ) → Stands st n → member n g ≡ false
-      → F (rowOf (after n) (rowOf (st .rows) n .via)) ≡ F (rowOf (before n) (rowOf (st .rows) n .via))
-  of-via F h n t k = field F h n (rowOf (st .rows) n .via) t k (via-lower st s n t) (c .via-stays n t k)
+      at-row : (n : ℕ) → Stands st n → member n g ≡ false → F (row n) (sourceOf (before n) (row n)) (viaOf (before n) (row n)) ≡ true
+          → G (back (row n)) (sourceOf (after n) (back (row n))) (viaOf (after n) (back (row n))) ≡ true
+      at-row n t k e =
+          ap (λ m. G (back (row n)) (rowOf (after n) m) (viaOf (after n) (back (row n)))) (returned-keeps (λ r. r .source) (λ p r. unfold withPlace in refl) f (st .requests) (row n))
+          ∙ ap (λ m. G (back (row n)) (sourceOf (after n) (row n)) (rowOf (after n) m)) (returned-keeps (λ r. r .via) (λ p r. unfold withPlace in refl) f (st .requests) (row n))
+          ∙ ap (λ x. G (back (row n)) x (viaOf (after n) (row n))) (left n (row n .source) t k (source-lower st s n t) (c .source-stays n t k))
+          ∙ ap (λ x. G (back (row n)) (back (row (row n .source))) x) (left n (row n .via) t k (via-lower st s n t) (c .via-stays n t k))
+          ∙ h n t k
+          (ap (λ x. F (row n) x (row (row n .via))) (sym (old n (row n .source) t (source-lower st s n t)))
+          ∙ ap (λ x. F (row n) (sourceOf (before n) (row n)) x) (sym (old n (row n .via) t (via-lower st s n t))) ∙ e)
+
+  placeless-kept : (F : Row → Row → Row → Bool) → Placeless F → sourced F (st .rows) ≡ true → sourced F (settled g f st .rows) ≡ true
+  placeless-kept F h =
+      sourced-kept F F (λ n t k e. rows-elsewhere back (λ P q r. returned-keeps P q f (st .requests) r) F h (row n) (row (row n .source)) (row (row n .via)) ∙ e)
 
   pub depths-right-kept : depthsRight (settled g f st .rows) ≡ true
-  unfolding depthsRight depthRight withPlace before after
-  depths-right-kept =
-      each-left g f st depthRight depthRight (s .numbers .rows-rise)
-      (λ n t k e. returned-keeps (λ r. depthRight r (after n)) (λ p r. refl) f (st .requests) (rowOf (st .rows) n)
-      ∙ same-depth (rowOf (st .rows) n) (after n) (before n) (of-source (λ r. r .depth) (λ p r. refl) n t k) (of-via (λ r. r .depth) (λ p r. refl) n t k) ∙ e)
-      (s .rows .depths-right)
+  unfolding depthsRight
+  depths-right-kept = placeless-kept hasRightDepth depth-placeless (s .rows .depths-right)
 
   pub copies-match-kept : copiesMatch (settled g f st .rows) ≡ true
-  unfolding copiesMatch copyMatches withPlace before after
-  copies-match-kept =
-      each-left g f st copyMatches copyMatches (s .numbers .rows-rise)
-      (λ n t k e. returned-keeps (λ r. copyMatches r (after n)) (λ p r. refl) f (st .requests) (rowOf (st .rows) n)
-      ∙ same-copy (rowOf (st .rows) n) (after n) (before n) (of-source (λ r. r .kind) (λ p r. refl) n t k) (of-source (λ r. r .object) (λ p r. refl) n t k) (of-source (λ r. r .operation) (λ p r. refl) n t k) (of-source (λ r. r .rights) (λ p r. refl) n t k) ∙ e)
-      (s .rows .copies-match)
+  unfolding copiesMatch
+  copies-match-kept = placeless-kept matchesSource copy-placeless (s .rows .copies-match)
 
   -- ---- the request that a row bears
   request-open : (n : ℕ) → Stands st n → some (rowOf (st .rows) n .request) ≡ true → IsOpen st (rowOf (st .rows) n .request)
@@ -157,45 +157,35 @@ module _ (g : List ℕ) (f : Request → Bool) (st : State) (s : Sound st) (c : 
       (true-or-false (some (rowOf (st .rows) n .request)))
 
   -- ---- "Sources are standing, of the kind above and older"
-  plain-right : (n : ℕ) → Stands st n → member n g ≡ false → sourceRight (remaining f g (st .requests)) (rowOf (st .rows) n) (after n) ≡ sourceRight (st .requests) (rowOf (st .rows) n) (before n)
-  unfolding before after withPlace
-  plain-right n t k =
-      same-right (remaining f g (st .requests)) (st .requests) (rowOf (st .rows) n) (after n) (before n) (of-source (λ r. r .kind) (λ p r. refl) n t k) node (of-via (λ r. r .kind) (λ p r. refl) n t k) (port-same n t k)
-    where
-      m : ℕ
-      m = rowOf (st .rows) n .source
-
-      node : isNode (rowOf (after n) m .place) ≡ isNode (rowOf (before n) m .place)
-      node =
-          ap (λ r. isNode (r .place)) (older-after g f st (s .numbers .rows-rise) n m t k (source-lower st s n t) (c .source-stays n t k)) ∙ node-kept g f st s c m (c .source-stays n t k)
-          ∙ ap (λ r. isNode (r .place)) (sym (older-before g f st (s .numbers .rows-rise) n m t (source-lower st s n t)))
-
-  -- of an end, which may be moved
-  moved-right : (n : ℕ) → Stands st n → member n g ≡ false → isPortEnd (before n) (rowOf (st .rows) n) ≡ true → isPortEnd (after n) (returned f (st .requests) (rowOf (st .rows) n)) ≡ true
-  unfolding isPortEnd withPlace
-  moved-right n t k e =
-      ap (λ b. fits (returned f (st .requests) r) b (isOperation (rowOf (after n) (returned f (st .requests) r .source) .kind))) (node-kept g f st s c n k)
-      ∙ returned-keeps (λ x. fits x (isNode (r .place)) (isOperation (rowOf (after n) (x .source) .kind))) (λ p x. refl) f (st .requests) r
-      ∙ ap (λ m. fits r (isNode (r .place)) (isOperation m)) (of-source (λ x. x .kind) (λ p x. refl) n t k) ∙ e
-    where
-      r : Row
-      r = rowOf (st .rows) n
-
-      fits : Row → Bool → Bool → Bool
-      fits x node op = isEnd (x .kind) && (not node && (op && (eqb (x .via) 0 && eqb (x .request) 0)))
-
   pub sources-right-kept : sourcesRight (settled g f st .requests) (settled g f st .rows) ≡ true
-  unfolding sourcesRight before after
-  sources-right-kept = unfold settled in each-left g f st (sourceRight (st .requests)) (sourceRight (remaining f g (st .requests))) (s .numbers .rows-rise) at-row (s .rows .sources-right)
+  unfolding sourcesRight returned
+  sources-right-kept = unfold settled in sourced-kept (hasRightSources (st .requests)) (hasRightSources left) at-row (s .rows .sources-right)
     where
-      port-end-right : (vs : List Request) (rs : List Row) (r : Row) → isPortEnd rs r ≡ true → sourceRight vs r rs ≡ true
-      port-end-right vs rs r e = unfold sourceRight in or-r (isOpening r) _ (or-r (isRegistered rs r) _ (or-r (isHeld rs r) _ (or-l (isPortEnd rs r) (isLentCopy vs rs r) e)))
+      left : List Request
+      left = remaining f g (st .requests)
 
-      at-row : (n : ℕ) → Stands st n → member n g ≡ false → sourceRight (st .requests) (rowOf (st .rows) n) (before n) ≡ true → sourceRight (remaining f g (st .requests)) (returned f (st .requests) (rowOf (st .rows) n)) (after n) ≡ true
-      at-row n t k e =
-          ⊎-elim (λ h. port-end-right (remaining f g (st .requests)) (after n) (returned f (st .requests) (rowOf (st .rows) n)) (moved-right n t k (end-right (st .requests) (before n) (rowOf (st .rows) n) h e)))
-          (λ h. ap (λ r. sourceRight (remaining f g (st .requests)) r (after n)) (no-end-same g f st s c n t k h) ∙ plain-right n t k ∙ e)
-          (true-or-false (isEnd (rowOf (st .rows) n .kind)))
+      kind : (r : Row) → back r .kind ≡ r .kind
+      kind r = returned-keeps (λ r. r .kind) (λ p r. unfold withPlace in refl) f (st .requests) r
+
+      at-row : (n : ℕ) → Stands st n → member n g ≡ false → hasRightSources (st .requests) (row n) (row (row n .source)) (row (row n .via)) ≡ true
+          → hasRightSources left (back (row n)) (back (row (row n .source))) (back (row (row n .via))) ≡ true
+      at-row n t k e = ⊎-elim (elsewhere (some (w .number))) (λ h. ap (λ r. hasRightSources left r (back (row (row n .source))) (back (row (row n .via)))) (no-end-same g f st s c n t k h) ∙ stays) (true-or-false (isEnd (row n .kind)))
+        where
+          w : Request
+          w = oldestListing f (row n .number) (st .requests)
+
+          stays : hasRightSources left (row n) (back (row (row n .source))) (back (row (row n .via))) ≡ true
+          stays =
+              sources-alike (st .requests) left (row n) (row (row n .source)) (back (row (row n .source))) (row (row n .via)) (back (row (row n .via)))
+              (kind (row (row n .source))) (node-kept g f st s c (row n .source) (c .source-stays n t k)) (kind (row (row n .via))) (port-same n t k)
+              ∙ e
+
+          -- an end, which may be elsewhere
+          elsewhere : (b : Bool) → isEnd (row n .kind) ≡ true → hasRightSources left (cond b (withPlace (inClist (w .asker)) (row n)) (row n)) (back (row (row n .source))) (back (row (row n .via))) ≡ true
+          elsewhere true h =
+              right-elsewhere left (inClist (w .asker)) (row n) (back (row (row n .source))) (back (row (row n .via))) (clist-not-node (w .asker)) (end-at st s n t h .no-node)
+              (or-l (isEnd (row n .kind)) (some (row n .request)) h) stays
+          elsewhere false h = stays
 
   -- ---- "Ends stand in pairs."
   pub ends-paired-kept : endsPaired (settled g f st .rows) ≡ true

@@ -12,7 +12,7 @@ use Rattle.rows.specs.Lists.{any, all, rises, member, distinct, some, nonzero}
 use Rattle.rows.specs.Limits.{processes, mostItems}
 use Rattle.rows.specs.Codes.{fetchedMark, isSubdirectory, isEnd, inClist, withSystem, isNode, isSystem}
 use Rattle.rows.specs.Tables.{State, noRow, noRequest, rowOf, requestOf, openOn, isListed, numbers, lists}
-use Rattle.rows.specs.Sound.{rowsRise, requestsRise, numbersApart, belowNext, nextInRange, rowsFit, requestsFit, recordsFit, objectsInRange, rightsInRange, placeInRange, placesInRange, markInRange, fetchedInRange, sourcesRight, depthsRight, copiesMatch, recordsInRange, endPaired, endsPaired, portStands, portsStand, requestersListed, itemsFew, itemsApart, itemsLent, mayBeListed, onePerPort, copyListed, copiesListed, isFetched, olderFetchedBy, olderFetched, awaitsFetch, same, systemHolds, processesPlaced}
+use Rattle.rows.specs.Sound.{rowsRise, requestsRise, numbersApart, belowNext, nextInRange, rowsFit, requestsFit, recordsFit, objectsInRange, rightsInRange, placeInRange, placesInRange, markInRange, fetchedInRange, sourcesRight, depthsRight, copiesMatch, recordsInRange, endPaired, endsPaired, portStands, portsStand, requestersListed, itemsFew, itemsApart, itemsLent, mayBeListed, onePerPort, copyListed, copiesListed, isFetched, olderFetchedBy, olderFetched, awaitsFetch, same, systemHolds, processesPlaced, hasRightDepth, matchesSource}
 use Rattle.rows.proofs.Bools.{false-of, true-of, clash, and-l, or-l, or-r, any-eq, all-mono, all-eq, all-at}
 use Rattle.rows.proofs.Keyed.{all-first, rises-map, rises-range, keys-map}
 use Rattle.tables.proofs.Sound.{Sound}
@@ -26,7 +26,8 @@ use Rattle.calls.specs.Loans.{handedTo, nowFetched, handedOver}
 use Rattle.calls.specs.Rules.{askedOf}
 use Rattle.kept.proofs.Allowed.{FetchAllowed}
 use Rattle.kept.proofs.Lists.{each-map, top-map, other-there, other-same}
-use Rattle.kept.proofs.Moved.{moved, mayMove, moved-same, moved-stays, moved-goes, moved-number, row-moved, depths-moved, copies-moved, objects-moved, rights-moved, paired-moved, ports-moved, listed-moved, sources-moved}
+use Rattle.kept.proofs.Sourced.{depth-placeless, copy-placeless}
+use Rattle.kept.proofs.Moved.{moved, mayMove, moved-same, moved-stays, moved-goes, moved-number, row-moved, objects-moved, rights-moved, paired-moved, ports-moved, listed-moved, sources-moved, sourced-moved}
 use Rattle.kept.proofs.Loans.{of-rows, held-so, now-same, now-number, now-lists, still-fetched, request-now, fetched-now, awaits-same}
 
 -- v is an open request of sound tables, not fetched, and p a listed process
@@ -160,15 +161,15 @@ module _ (st : State) (s : Sound st) (p : ℕ) (v : Request) (found : requestOf 
   sources-right =
       sources-moved goes (inClist p) none-goes (clist-not-node p) (st .requests) requests′ (st .rows) may-move
       (λ r _. ap (λ w. w .port) (request-now (v .number) (st .requests) (r .request) positive) ∙ now-same (v .number) (λ w. w .port) (λ k v. refl) (requestOf (st .requests) (r .request)))
-      (unfold copiesListed in s .loans .copies-listed) (s .rows .sources-right)
+      (s .loans .copies-listed) (s .rows .sources-right)
 
   depths-right : depthsRight (after .rows) ≡ true
   unfolding depthsRight
-  depths-right = depths-moved goes (inClist p) none-goes (st .rows) ∙ s .rows .depths-right
+  depths-right = sourced-moved goes (inClist p) none-goes hasRightDepth depth-placeless (st .rows) (s .rows .depths-right)
 
   copies-match : copiesMatch (after .rows) ≡ true
   unfolding copiesMatch
-  copies-match = copies-moved goes (inClist p) none-goes (st .rows) ∙ s .rows .copies-match
+  copies-match = sourced-moved goes (inClist p) none-goes matchesSource copy-placeless (st .rows) (s .rows .copies-match)
 
   ends-paired : endsPaired (after .rows) ≡ true
   unfolding endsPaired

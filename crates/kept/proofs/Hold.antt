@@ -12,7 +12,7 @@ use Rattle.rows.specs.declared.Process.{Process}
 use Rattle.rows.specs.Lists.{member, some}
 use Rattle.rows.specs.Codes.{isSubdirectory, isEnd, isCopied, inNode, inClist, isNode, isClist, isSystem, within}
 use Rattle.rows.specs.Tables.{State, rowOf, processAt, isListed, numbers, depthOver}
-use Rattle.rows.specs.Sound.{rightInRange, placeInRange, isOpening, isRegistered, isHeld, sourceRight, copyMatches, processPlaced}
+use Rattle.rows.specs.Sound.{rightInRange, placeInRange, isOpening, isRegistered, isHeld, sourceRight, copyMatches, processPlaced, hasRightSources, matchesSource, sourceOf, viaOf}
 use Rattle.rows.proofs.Bools.{and-l, and-r, and-i, or-cases, or-l, or-r, eqb-self}
 use Rattle.tables.proofs.Sound.{Sound}
 use Rattle.rows.proofs.Places.{copied-no-end, node-not-system, node-in-range, clist-not-node}
@@ -66,7 +66,7 @@ module _ (st : State) (s : Sound st) (p : ℕ) (l : isListed (st .processes) p �
       (or-cases (eqb (x .through) 0 && eqb (x .active) (x .prime)) _ t)
 
 pub hold-kept : (st : State) → Sound st → (p e : ℕ) → HoldAllowed st p e → Sound (withHeld st p e)
-unfolding withHeld copyOf sourceRight isHeld copyMatches
+unfolding withHeld copyOf hasRightSources isHeld matchesSource
 hold-kept st s p e a =
     let l = a .caller in
     let r = rowOf (st .rows) e in
@@ -76,7 +76,7 @@ hold-kept st s p e a =
     copy-added st s e (inClist p) e via (depthOver (st .rows) e via) (a .there) c
     (clist-in-range st s p l new refl)
     (clist-not-system st s p l)
-    (or-r (isOpening new) _ (or-r (isRegistered (st .rows) new) _ (or-l (isHeld (st .rows) new) _
+    (or-r (isOpening new) _ (or-r (isRegistered new (sourceOf (st .rows) new)) _ (or-l (isHeld new (sourceOf (st .rows) new) (viaOf (st .rows) new)) _
     (and-i (isClist (inClist p)) _ (clist-is st s p l) (and-i (isCopied (r .kind)) _ c
     (and-i (isNode (r .place)) _ (a .node) (and-i _ true (through-right st s p l (processAt (st .processes) p) (placed-at st s p l)) refl)))))))
     refl (a .depth)
@@ -85,7 +85,7 @@ hold-kept st s p e a =
 
 -- ---- register
 -- a row in a c-list, no end and not lent, was taken from a directory row
-pub was-held : (st : State) → Sound st → (p e : ℕ) → RegisterAllowed st p e → isHeld (st .rows) (rowOf (st .rows) e) ≡ true
+pub was-held : (st : State) → Sound st → (p e : ℕ) → RegisterAllowed st p e → isHeld (rowOf (st .rows) e) (sourceOf (st .rows) (rowOf (st .rows) e)) (viaOf (st .rows) (rowOf (st .rows) e)) ≡ true
 was-held st s p e a =
     let there = a .row .there in
     let r = rowOf (st .rows) e in
@@ -93,12 +93,12 @@ was-held st s p e a =
     not-lent-held (st .requests) (st .rows) r (standing-shape st s e there) outside (a .no-end) (unlent-unborne st e there (a .unlent))
 
 pub register-kept : (st : State) → Sound st → (p e : ℕ) → RegisterAllowed st p e → Sound (withRegistered st p e)
-unfolding withRegistered copyOf sourceRight isHeld isRegistered copyMatches inNode
+unfolding withRegistered copyOf hasRightSources isHeld isRegistered matchesSource inNode
 register-kept st s p e a =
     let there = a .row .there in
     let r = rowOf (st .rows) e in
     let node = processAt (st .processes) p .active in
-    let held : isHeld (st .rows) r ≡ true = was-held st s p e a in
+    let held : isHeld r (sourceOf (st .rows) r) (viaOf (st .rows) r) ≡ true = was-held st s p e a in
     let c : isCopied (r .kind) ≡ true = and-l (isCopied (r .kind)) _ (and-r (isClist (r .place)) _ held) in
     let above : isNode (rowOf (st .rows) (r .source) .place) ≡ true = and-l (isNode (rowOf (st .rows) (r .source) .place)) _ (and-r (isCopied (r .kind)) _ (and-r (isClist (r .place)) _ held)) in
     let d′ = depthOver (st .rows) (r .source) 0 in
@@ -107,7 +107,7 @@ register-kept st s p e a =
     copy-added st s e node (r .source) 0 d′ there c
     (node-in-range (st .processes) new active)
     (node-not-system node active)
-    (or-r (isOpening new) _ (or-l (isRegistered (st .rows) new) _
+    (or-r (isOpening new) _ (or-l (isRegistered new (sourceOf (st .rows) new)) _
     (and-i (isNode node) _ active (and-i (isCopied (r .kind)) _ c (and-i (isNode (rowOf (st .rows) (r .source) .place)) true above refl)))))
     refl (a .depth)
     (standing-copy st s e there)

@@ -1,6 +1,8 @@
 -- Soundness is kept. One line a file:
 -- closing in one pass is closing step by step, on sound tables
 pub mod Steps
+-- clauses of a row with its sources: one law for each change of rows
+pub mod Sourced
 -- closing: the clauses on the requests that stay open
 pub mod ClosingRequests
 -- closing: the clauses on places: where rows are, whom the system holds, where processes are

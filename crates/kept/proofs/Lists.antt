@@ -22,10 +22,10 @@ module _ {A : Type 0} where
       (h x xs (and-l (P x) (all P xs) p) (and-r (P x) (all P xs) p) (and-l (F x xs) (each F xs) e))
       (each-map P F G g h xs (and-r (P x) (all P xs) p) (and-r (F x xs) (each F xs) e))
 
-  pub each-map-eq : (F : A → List A → Bool) (g : A → A) → ((x : A) (xs : List A) → F (g x) (map g xs) ≡ F x xs) → (xs : List A) → each F (map g xs) ≡ each F xs
-  unfolding each
-  each-map-eq F g h [] = refl
-  each-map-eq F g h (x ∷ xs) = rw (h x xs, each-map-eq F g h xs) refl
+  pub all-true : (xs : List A) → all (λ x. true) xs ≡ true
+  unfolding all
+  all-true [] = refl
+  all-true (x ∷ xs) = all-true xs
 
   module _ (key : A → ℕ) (none : A) where
     pub top-map : (g : A → A) → ((x : A) → key (g x) ≡ key x) → (xs : List A) → topOf key (map g xs) ≡ topOf key xs

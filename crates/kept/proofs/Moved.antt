@@ -10,14 +10,13 @@ use Rattle.rows.specs.declared.Process.{Process}
 use Rattle.rows.specs.Lists.{if_then_else_, all, each, member, some}
 use Rattle.rows.specs.Codes.{isEnd, isCopied, isNode, within}
 use Rattle.rows.specs.Tables.{noRow, rowOf, requestOf, depthOver}
-use Rattle.rows.specs.Sound.{objectInRange, rightInRange, isOpening, isRegistered, isHeld, isPortEnd, isLentCopy, sourceRight, depthRight, copyMatches, isPairedWith, otherEnd, endPaired, copyListed, portStands, mayBeListed}
+use Rattle.rows.specs.Sound.{objectInRange, rightInRange, isPairedWith, otherEnd, endPaired, copyListed, copiesListed, portStands, mayBeListed, sourced, hasRightSources, sourcesRight}
 use Rattle.rows.specs.Setters.{withPlace}
 use Rattle.rows.proofs.Bools.{clash, and-l, and-r, and-i, or-r, not-t, all-mono, all-eq, all-and, or-l, zero-none}
 use Rattle.rows.proofs.Keyed.{first-map, first-none, all-first}
-use Rattle.rows.proofs.Places.{copied-no-end}
 use Rattle.rows.proofs.Lists.{all-map}
-use Rattle.rows.proofs.RowSources.{Shape, opening, registered, held, port-end, lent-copy, shape}
-use Rattle.kept.proofs.Lists.{each-map, each-map-eq}
+use Rattle.kept.proofs.Lists.{all-true}
+use Rattle.kept.proofs.Sourced.{Placeless, sourced-map, rows-elsewhere, sources-alike, right-elsewhere}
 
 -- the rows whose numbers pass the test go to place x
 unfoldable pub moved : (ℕ → Bool) → ℕ → Row → Row
@@ -26,26 +25,6 @@ moved t x r = if t (r .number) then withPlace x r else r
 -- a row that may move: it is in no node, and is an end or bears a request's number
 unfoldable pub mayMove : (ℕ → Bool) → Row → Bool
 mayMove t r = not (t (r .number)) || (not (isNode (r .place)) && (isEnd (r .kind) || some (r .request)))
-
--- a copied row that bears nothing is neither
-neither : (k n : ℕ) → isCopied k ≡ true → eqb n 0 ≡ true → isEnd k || some n ≡ false
-neither k n c e = rw (copied-no-end k c, zero-none n e) refl
-
--- of the five kinds of row, an end and a lent copy may move
-may-be : (vs : List Request) (rs : List Row) (r : Row) → isEnd (r .kind) || some (r .request) ≡ true → Shape vs rs r → isPortEnd rs r || isLentCopy vs rs r ≡ true
-unfolding isOpening isRegistered isHeld
-may-be vs rs r m (opening q) = clash m (neither (r .kind) (r .request) (search (and-l, and-r)) (search (and-l, and-r)))
-may-be vs rs r m (registered q) = clash m (neither (r .kind) (r .request) (search (and-l, and-r)) (search (and-l, and-r)))
-may-be vs rs r m (held q) = clash m (neither (r .kind) (r .request) (search (and-l, and-r)) (search (and-l, and-r)))
-may-be vs rs r m (port-end q) = or-l (isPortEnd rs r) (isLentCopy vs rs r) q
-may-be vs rs r m (lent-copy q) = or-r (isPortEnd rs r) (isLentCopy vs rs r) q
-
-pub end-right : (vs : List Request) (rs : List Row) (r : Row) → isPortEnd rs r || isLentCopy vs rs r ≡ true → sourceRight vs r rs ≡ true
-unfolding sourceRight
-end-right vs rs r e =
-    or-r (isOpening r) (isRegistered rs r || (isHeld rs r || (isPortEnd rs r || isLentCopy vs rs r)))
-    (or-r (isRegistered rs r) (isHeld rs r || (isPortEnd rs r || isLentCopy vs rs r))
-    (or-r (isHeld rs r) (isPortEnd rs r || isLentCopy vs rs r) e))
 
 -- a reading that does not look at the place
 pub moved-same : {A : Type 0} (t : ℕ → Bool) (x : ℕ) (f : Row → A) → ((r : Row) → f (withPlace x r) ≡ f r) → (r : Row) → f (moved t x r) ≡ f r
@@ -63,6 +42,10 @@ pub moved-stays : (t : ℕ → Bool) (x : ℕ) (r : Row) → t (r .number) ≡ f
 unfolding moved
 moved-stays t x r e = rw e refl
 
+moved-goes-to : (t : ℕ → Bool) (x : ℕ) (r : Row) → t (r .number) ≡ true → moved t x r ≡ withPlace x r
+unfolding moved
+moved-goes-to t x r e = rw e refl
+
 pub moved-goes : (t : ℕ → Bool) (x : ℕ) (r : Row) → t (r .number) ≡ true → moved t x r .place ≡ x
 unfolding moved withPlace
 moved-goes t x r e = rw e refl
@@ -75,32 +58,24 @@ module _ (t : ℕ → Bool) (x : ℕ) (z : t 0 ≡ false) where
   pub row-same : {A : Type 0} (f : Row → A) → ((r : Row) → f (withPlace x r) ≡ f r) → (rs : List Row) (n : ℕ) → f (rowOf (map (moved t x) rs) n) ≡ f (rowOf rs n)
   row-same f h rs n = ap f (row-moved rs n) ∙ moved-same t x f h (rowOf rs n)
 
-  depth-same : (rs : List Row) (n : ℕ) → rowOf (map (moved t x) rs) n .depth ≡ rowOf rs n .depth
-  depth-same rs n = row-same (λ r. r .depth) (λ r. unfold withPlace in refl) rs n
-
   pub kind-same : (rs : List Row) (n : ℕ) → rowOf (map (moved t x) rs) n .kind ≡ rowOf rs n .kind
   kind-same rs n = row-same (λ r. r .kind) (λ r. unfold withPlace in refl) rs n
 
-  pub depths-moved : (rs : List Row) → each depthRight (map (moved t x) rs) ≡ each depthRight rs
-  depths-moved rs = each-map-eq depthRight (moved t x) step rs
-    where
-      step : (r : Row) (rs : List Row) → depthRight (moved t x r) (map (moved t x) rs) ≡ depthRight r rs
-      step r rs =
-          moved-same t x (λ r. depthRight r (map (moved t x) rs)) (λ r. unfold depthRight withPlace in refl) r
-          ∙ (unfold depthRight depthOver in rw (depth-same rs (r .source), depth-same rs (r .via)) refl)
+  sources-kept : (r : Row) → moved t x r .source ≡ r .source
+  sources-kept r = moved-same t x (λ r. r .source) (λ r. unfold withPlace in refl) r
 
-  pub copies-moved : (rs : List Row) → each copyMatches (map (moved t x) rs) ≡ each copyMatches rs
-  copies-moved rs = each-map-eq copyMatches (moved t x) step rs
-    where
-      step : (r : Row) (rs : List Row) → copyMatches (moved t x r) (map (moved t x) rs) ≡ copyMatches r rs
-      step r rs =
-          moved-same t x (λ r. copyMatches r (map (moved t x) rs)) (λ r. unfold copyMatches withPlace in refl) r
-          ∙ (unfold copyMatches in row-same
-          (λ s.
-          eqb (r .source) 0
-          || (isEnd (r .kind)
-          || (eqb (r .kind) (s .kind) && (eqb (r .object) (s .object) && (eqb (r .operation) (s .operation) && within (r .rights) (s .rights))))))
-          (λ s. unfold withPlace in refl) rs (r .source))
+  vias-kept : (r : Row) → moved t x r .via ≡ r .via
+  vias-kept r = moved-same t x (λ r. r .via) (λ r. unfold withPlace in refl) r
+
+  none-moved : moved t x noRow ≡ noRow
+  unfolding moved noRow
+  none-moved = rw z refl
+
+  -- a clause of rows and their sources that does not look at places
+  pub sourced-moved : (F : Row → Row → Row → Bool) → Placeless F → (rs : List Row) → sourced F rs ≡ true → sourced F (map (moved t x) rs) ≡ true
+  sourced-moved F h rs e =
+      sourced-map (moved t x) (moved-number t x) sources-kept vias-kept none-moved (λ r. true) refl F F
+      (λ r s v _ _ _ q. rows-elsewhere (moved t x) (λ f k r. moved-same t x f (k x) r) F h r s v ∙ q) rs (all-true rs) e
 
   pub objects-moved : (ps : List Process) (rs : List Row) → all (objectInRange ps) (map (moved t x) rs) ≡ all (objectInRange ps) rs
   objects-moved ps rs =
@@ -134,41 +109,28 @@ module _ (t : ℕ → Bool) (x : ℕ) (z : t 0 ≡ false) where
         pick true q = away ∙ sym (not-t (isNode (r .place)) (and-l (not (isNode (r .place))) (isEnd (r .kind) || some (r .request)) q))
         pick false q = refl
 
-    node-found : (rs : List Row) → all (mayMove t) rs ≡ true → (n : ℕ) → isNode (rowOf (map (moved t x) rs) n .place) ≡ isNode (rowOf rs n .place)
-    node-found rs m n = ap (λ r. isNode (r .place)) (row-moved rs n) ∙ node-same (rowOf rs n) (found (member n (map (λ r. r .number) rs)) refl)
+    right-moved : (vs vs′ : List Request) (r s v : Row) → mayMove t r ≡ true → mayMove t s ≡ true → requestOf vs′ (r .request) .port ≡ requestOf vs (r .request) .port
+        → hasRightSources vs r s v ≡ true → hasRightSources vs′ (moved t x r) (moved t x s) (moved t x v) ≡ true
+    unfolding mayMove
+    right-moved vs vs′ r s v m n port e = pick (t (r .number)) refl m
       where
-        found : (b : Bool) → member n (map (λ r. r .number) rs) ≡ b → mayMove t (rowOf rs n) ≡ true
-        found true q = unfold rowOf in all-first (λ r. r .number) noRow (mayMove t) rs n m q
-        found false q = unfold rowOf in (rw (first-none (λ r. r .number) noRow rs n q) (unfold mayMove noRow in rw z refl))
+        kind : (r : Row) → moved t x r .kind ≡ r .kind
+        kind r = moved-same t x (λ r. r .kind) (λ r. unfold withPlace in refl) r
 
-    right-moved : (vs vs′ : List Request) (r : Row) (rs : List Row) → mayMove t r ≡ true → all (mayMove t) rs ≡ true → requestOf vs′ (r .request) .port ≡ requestOf vs (r .request) .port
-        → sourceRight vs r rs ≡ true → sourceRight vs′ (moved t x r) (map (moved t x) rs) ≡ true
-    unfolding moved mayMove
-    right-moved vs vs′ r rs m ms port e = pick (t (r .number)) m
-      where
-        stayed : sourceRight vs′ r (map (moved t x) rs) ≡ sourceRight vs r rs
-        stayed =
-            unfold sourceRight isRegistered isHeld isPortEnd isLentCopy in
-            rw (node-found rs ms (r .source), kind-same rs (r .via), kind-same rs (r .source), port) refl
+        stayed : hasRightSources vs′ r (moved t x s) (moved t x v) ≡ true
+        stayed = sources-alike vs vs′ r s (moved t x s) v (moved t x v) (kind s) (node-same s n) (kind v) port ∙ e
 
-        ended : isNode (r .place) ≡ false → isPortEnd (map (moved t x) rs) (withPlace x r) ≡ isPortEnd rs r
-        ended n = unfold isPortEnd withPlace in rw (kind-same rs (r .source), n, away) refl
-
-        lent : isNode (r .place) ≡ false → isLentCopy vs′ (map (moved t x) rs) (withPlace x r) ≡ isLentCopy vs rs r
-        lent n = unfold isLentCopy withPlace in rw (kind-same rs (r .source), kind-same rs (r .via), port, n, away) refl
-
-        pick : (b : Bool) → not b || (not (isNode (r .place)) && (isEnd (r .kind) || some (r .request))) ≡ true → sourceRight vs′ (cond b (withPlace x r) r) (map (moved t x) rs) ≡ true
-        pick true q =
-            let n : isNode (r .place) ≡ false = not-t (isNode (r .place)) (and-l (not (isNode (r .place))) (isEnd (r .kind) || some (r .request)) q) in
-            end-right vs′ (map (moved t x) rs) (withPlace x r)
-            (rw (ended n, lent n) (may-be vs rs r (and-r (not (isNode (r .place))) (isEnd (r .kind) || some (r .request)) q) (shape vs r rs e)))
-        pick false q = stayed ∙ e
+        pick : (b : Bool) → t (r .number) ≡ b → not b || (not (isNode (r .place)) && (isEnd (r .kind) || some (r .request))) ≡ true → hasRightSources vs′ (moved t x r) (moved t x s) (moved t x v) ≡ true
+        pick true g q =
+            rw (moved-goes-to t x r g)
+            (right-elsewhere vs′ x r (moved t x s) (moved t x v) away (not-t (isNode (r .place)) (and-l (not (isNode (r .place))) (isEnd (r .kind) || some (r .request)) q)) (and-r (not (isNode (r .place))) (isEnd (r .kind) || some (r .request)) q) stayed)
+        pick false g q = rw (moved-stays t x r g) stayed
 
     pub sources-moved : (vs vs′ : List Request) (rs : List Row) → all (mayMove t) rs ≡ true → ((r : Row) → copyListed vs r ≡ true → requestOf vs′ (r .request) .port ≡ requestOf vs (r .request) .port)
-        → all (copyListed vs) rs ≡ true → each (sourceRight vs) rs ≡ true → each (sourceRight vs′) (map (moved t x) rs) ≡ true
+        → copiesListed vs rs ≡ true → sourcesRight vs rs ≡ true → sourcesRight vs′ (map (moved t x) rs) ≡ true
+    unfolding sourcesRight copiesListed
     sources-moved vs vs′ rs m h c e =
-        each-map (λ r. mayMove t r && copyListed vs r) (sourceRight vs) (sourceRight vs′) (moved t x)
-        (λ r rs p ps q.
-        right-moved vs vs′ r rs (and-l (mayMove t r) (copyListed vs r) p) (all-mono (λ r. mayMove t r && copyListed vs r) (mayMove t) (λ r. and-l (mayMove t r) (copyListed vs r)) rs ps)
-        (h r (and-r (mayMove t r) (copyListed vs r) p)) q)
+        sourced-map (moved t x) (moved-number t x) sources-kept vias-kept none-moved (λ r. mayMove t r && copyListed vs r) (unfold mayMove copyListed noRow in rw z refl)
+        (hasRightSources vs) (hasRightSources vs′)
+        (λ r s v p q _ e. right-moved vs vs′ r s v (and-l (mayMove t r) (copyListed vs r) p) (and-l (mayMove t s) (copyListed vs s) q) (h r (and-r (mayMove t r) (copyListed vs r) p)) e)
         rs (all-and (mayMove t) (copyListed vs) (λ r. mayMove t r && copyListed vs r) (λ r. and-i (mayMove t r) (copyListed vs r)) rs m c) e

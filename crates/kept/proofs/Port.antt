@@ -13,7 +13,7 @@ use Rattle.rows.specs.Lists.{all, firstWith}
 use Rattle.rows.specs.Limits.{greatestNumber, rowSlots}
 use Rattle.rows.specs.Codes.{operation, subdirectory, clientEnd, serverEnd, isOperation, isSubdirectory, isClient, isServer, isEnd, inClist, isNode}
 use Rattle.rows.specs.Tables.{State, rowOf, isListed, depthOver}
-use Rattle.rows.specs.Sound.{objectInRange, rightInRange, isOpening, isRegistered, isHeld, isPortEnd, sourceRight, copyMatches, isPairedWith, otherEnd, endPaired}
+use Rattle.rows.specs.Sound.{objectInRange, rightInRange, isOpening, isRegistered, isHeld, isPortEnd, isPairedWith, otherEnd, endPaired, hasRightSources, matchesSource, sourceOf, viaOf}
 use Rattle.rows.proofs.Bools.{and-i, or-l, or-r, eqb-self}
 use Rattle.tables.proofs.Sound.{Sound}
 use Rattle.tables.proofs.SoundFacts.{row-below, next-some, clist-not-system, clist-in-range, row-object, manager-listed}
@@ -29,7 +29,7 @@ module _ (st : State) (s : Sound st) (rs : List Row) (e d : ℕ) where
   end-new : (kind n c p : ℕ) → isEnd kind ≡ true → objectInRange (st .processes) (portEnd kind n c (inClist p) e d) ≡ true → isListed (st .processes) p ≡ true
       → isOperation (rowOf rs e .kind) ≡ true
       → d ≡ depthOver rs e 0 → tooDeep d ≡ false → New st rs n (portEnd kind n c (inClist p) e d)
-  unfolding portEnd rightInRange sourceRight isPortEnd copyMatches
+  unfolding portEnd rightInRange hasRightSources isPortEnd matchesSource
   end-new kind n c p k o l h z t =
       let r = portEnd kind n c (inClist p) e d in
       record {
@@ -39,7 +39,7 @@ module _ (st : State) (s : Sound st) (rs : List Row) (e d : ℕ) where
         place = clist-in-range st s p l r refl;
         away = clist-not-system st s p l;
         source =
-            or-r (isOpening r) _ (or-r (isRegistered rs r) _ (or-r (isHeld rs r) _ (or-l (isPortEnd rs r) _
+            or-r (isOpening r) _ (or-r (isRegistered r (sourceOf rs r)) _ (or-r (isHeld r (sourceOf rs r) (viaOf rs r)) _ (or-l (isPortEnd r (sourceOf rs r)) _
             (and-i (isEnd kind) _ k (and-i (not (isNode (inClist p))) _ (ap not (clist-not-node p)) (and-i (isOperation (rowOf rs e .kind)) true h refl))))));
         depth = depth-is r rs z t;
         copy = or-r (eqb e 0) _ (or-l (isEnd kind) _ k);

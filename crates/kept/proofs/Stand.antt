@@ -12,7 +12,7 @@ use Rattle.rows.specs.Lists.{member, between}
 use Rattle.rows.specs.Limits.{nodes, greatestOperation, greatestDepth}
 use Rattle.rows.specs.Codes.{operation, isOperation, isSubdirectory, isClient, isServer, isEnd, isCopied, inClist}
 use Rattle.rows.specs.Tables.{State, rowOf, isListed, numbers, depthOver}
-use Rattle.rows.specs.Sound.{objectInRange, depthRight}
+use Rattle.rows.specs.Sound.{objectInRange, depthRight, hasRightDepth}
 use Rattle.rows.proofs.Bools.{clash, and-l, and-i, or-cases, or-fl, or-fr, or-map, not-f}
 use Rattle.tables.proofs.SoundFacts.{clist-there}
 use Rattle.rows.proofs.Places.{copied-no-end}
@@ -35,7 +35,7 @@ copy-object ps r n rights place source via depth q c t =
     (or-cases (isClient (r .kind) && (eqb (r .object) (r .number) && eqb (r .operation) 0)) _ w)) u) t
 
 pub depth-is : (r : Row) (rs : List Row) → r .depth ≡ depthOver rs (r .source) (r .via) → tooDeep (r .depth) ≡ false → depthRight r rs ≡ true
-unfolding depthRight tooDeep
+unfolding hasRightDepth tooDeep depthOver
 depth-is r rs e t =
     and-i (eqb (r .depth) (depthOver rs (r .source) (r .via))) (leb (r .depth) greatestDepth) (eq-eqb _ _ e)
     (le-leb (r .depth) greatestDepth (ltb-false greatestDepth (r .depth) t))

@@ -14,7 +14,7 @@ use Rattle.rows.specs.Lists.{filter, any, member, some, nonzero}
 use Rattle.rows.specs.Limits.{greatestDepth}
 use Rattle.rows.specs.Codes.{operation, subdirectory, clientEnd, isOperation, isSubdirectory, isClient, isEnd, isCopied}
 use Rattle.rows.specs.Tables.{State, noRow, rowOf, numbers, sources, depthOver, reaches, marked, bears, comesFrom, onLoan, lentItself, isLent}
-use Rattle.rows.specs.Sound.{rowsRise, sound, isOpening, isRegistered, isHeld, isPortEnd, isLentCopy, sourceRight, sourcesRight, depthRight, depthsRight}
+use Rattle.rows.specs.Sound.{rowsRise, sound, isOpening, isRegistered, isHeld, isPortEnd, isLentCopy, sourceRight, sourcesRight, depthRight, depthsRight, hasRightDepth, sourceOf, viaOf}
 use Rattle.rows.specs.contracts.Represents.{Represents}
 use Rattle.rows.specs.Layout.{rowSlot}
 use Rattle.questions.specs.contracts.Questions.{touches, Touched, Reaches, ViaReaches, PortReaches}
@@ -123,13 +123,13 @@ module _ (st : State) (s : Sound st) where
     pub depth-falls : (rowOf (st .rows) (rowOf (st .rows) n .source) .depth < rowOf (st .rows) n .depth)
         × (rowOf (st .rows) (rowOf (st .rows) n .via) .depth < rowOf (st .rows) n .depth)
         × (rowOf (st .rows) n .depth ≤ 12)
-    unfolding depthsRight depthRight depthOver greatestDepth rowsRise rowOf numbers sourcesRight
+    unfolding depthsRight hasRightDepth depthOver greatestDepth rowsRise rowOf numbers sourcesRight
     depth-falls =
         let r = rowOf (st .rows) n in
         let old = olderOf (λ r. r .number) (st .rows) n in
         let over = suc (max (rowOf old (r .source) .depth) (rowOf old (r .via) .depth)) in
         let right : eqb (r .depth) over && leb (r .depth) 12 ≡ true = each-first (λ r. r .number) noRow depthRight (st .rows) (s .rows .depths-right) n t in
-        let (a, b) = shape-sources (st .requests) r old (shape (st .requests) r old (each-first (λ r. r .number) noRow (sourceRight (st .requests)) (st .rows) (s .rows .sources-right) n t)) in
+        let (a, b) = shape-sources (st .requests) r old (shape (st .requests) r (sourceOf old r) (viaOf old r) (each-first (λ r. r .number) noRow (sourceRight (st .requests)) (st .rows) (s .rows .sources-right) n t)) in
         let same : r .depth ≡ suc (max (rowOf (st .rows) (r .source) .depth) (rowOf (st .rows) (r .via) .depth))
         = eqb-true (r .depth) over (and-l (eqb (r .depth) over) (leb (r .depth) 12) right) ∙ rw (look (r .source) a, look (r .via) b) refl in
         let most : r .depth ≤ 12 = leb-true (r .depth) 12 (and-r (eqb (r .depth) over) (leb (r .depth) 12) right) in
@@ -150,7 +150,7 @@ module _ (st : State) (s : Sound st) where
         r : Row
         r = rowOf (st .rows) n
 
-        pick : Shape (st .requests) (st .rows) r → r .via ≡ 0
+        pick : Shape (st .requests) r (sourceOf (st .rows) r) (viaOf (st .rows) r) → r .via ≡ 0
         pick (opening e) = let c : isCopied (r .kind) ≡ true = search (and-l, and-r) in absurd (no-copy (r .kind) k c)
         pick (registered e) = let c : isCopied (r .kind) ≡ true = search (and-l, and-r) in absurd (no-copy (r .kind) k c)
         pick (held e) = let c : isCopied (r .kind) ≡ true = search (and-l, and-r) in absurd (no-copy (r .kind) k c)
@@ -168,7 +168,7 @@ module _ (st : State) (s : Sound st) where
         none : eqb (r .request) 0 ≡ true → isClient (rowOf (st .rows) (r .via) .kind) ≡ true
         none z = absurd (h (eqb-true (r .request) 0 z))
 
-        pick : Shape (st .requests) (st .rows) r → isClient (rowOf (st .rows) (r .via) .kind) ≡ true
+        pick : Shape (st .requests) r (sourceOf (st .rows) r) (viaOf (st .rows) r) → isClient (rowOf (st .rows) (r .via) .kind) ≡ true
         pick (opening e) = let z : eqb (r .request) 0 ≡ true = search (and-l, and-r) in none z
         pick (registered e) = let z : eqb (r .request) 0 ≡ true = search (and-l, and-r) in none z
         pick (held e) = let z : eqb (r .request) 0 ≡ true = search (and-l, and-r) in none z

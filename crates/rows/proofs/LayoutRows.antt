@@ -13,7 +13,7 @@ use Rattle.rows.specs.declared.Request.{Request}
 use Rattle.rows.specs.Lists.{each, rises, pad, laid, member, some, slotWith}
 use Rattle.rows.specs.Limits.{rowSlots}
 use Rattle.rows.specs.Tables.{numbers}
-use Rattle.rows.specs.Sound.{sourceRight}
+use Rattle.rows.specs.Sound.{sourceRight, sourceOf, viaOf}
 use Rattle.rows.specs.Setters.{withSources}
 use Rattle.rows.specs.Layout.{rowColumns, rowSlot, sourceSlot, rowWord, rowWords, rowField, numberAt, rowAt, rowsTo, rawRow}
 use Rattle.rows.proofs.Bools.{clash, and-l, and-r, pos-some, eqb-sym-f}
@@ -61,7 +61,7 @@ module _ (t : List ℕ) (rows : List Row) (few : length rows ≤ rowSlots)
     row-back : (new : List Row) (r : Row) (old : List Row) → rows ≡ new ++ (r ∷ old) → rises (λ r. r .number) old ≡ true → sourceRight vs r old ≡ true → rowAt t (length rows) (length old) ≡ r
     unfolding rowAt rawRow withSources rowWord rowColumns
     row-back new r old e up s =
-        let (a, b) = shape-sources vs r old (shape vs r old s) in
+        let (a, b) = shape-sources vs r old (shape vs r (sourceOf old r) (viaOf old r) s) in
         let f = further new r old e in
         λ j.
         record {

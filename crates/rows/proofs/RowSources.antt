@@ -11,7 +11,7 @@ use Rattle.rows.specs.declared.Request.{Request}
 use Rattle.rows.specs.Lists.{member, between}
 use Rattle.rows.specs.Codes.{operation, subdirectory, clientEnd, serverEnd, isOperation, isSubdirectory, isClient, isServer, isEnd, isCopied, isNode}
 use Rattle.rows.specs.Tables.{noRow, rowOf, numbers}
-use Rattle.rows.specs.Sound.{isOpening, isRegistered, isHeld, isPortEnd, isLentCopy, sourceRight}
+use Rattle.rows.specs.Sound.{isOpening, isRegistered, isHeld, isPortEnd, isLentCopy, hasRightSources, sourceOf, viaOf}
 use Rattle.rows.proofs.Bools.{and-l, and-r, or-cases}
 use Rattle.rows.proofs.Keyed.{first-there}
 
@@ -53,26 +53,26 @@ copied-there : (rs : List Row) (n : ℕ) → isCopied (rowOf rs n .kind) ≡ tru
 unfolding isCopied isOperation operation isSubdirectory subdirectory
 copied-there = kind-there isCopied refl
 
--- the five shapes of a row, as cases
-pub data Shape (vs : List Request) (rs : List Row) (r : Row) : Type 0 where
-  opening : isOpening r ≡ true → Shape vs rs r
-  registered : isRegistered rs r ≡ true → Shape vs rs r
-  held : isHeld rs r ≡ true → Shape vs rs r
-  port-end : isPortEnd rs r ≡ true → Shape vs rs r
-  lent-copy : isLentCopy vs rs r ≡ true → Shape vs rs r
+-- the five shapes of a row with source s and second source v, as cases
+pub data Shape (vs : List Request) (r s v : Row) : Type 0 where
+  opening : isOpening r ≡ true → Shape vs r s v
+  registered : isRegistered r s ≡ true → Shape vs r s v
+  held : isHeld r s v ≡ true → Shape vs r s v
+  port-end : isPortEnd r s ≡ true → Shape vs r s v
+  lent-copy : isLentCopy vs r s v ≡ true → Shape vs r s v
 
-pub shape : (vs : List Request) (r : Row) (rs : List Row) → sourceRight vs r rs ≡ true → Shape vs rs r
-unfolding sourceRight
-shape vs r rs e =
+pub shape : (vs : List Request) (r s v : Row) → hasRightSources vs r s v ≡ true → Shape vs r s v
+unfolding hasRightSources
+shape vs r s v e =
     ⊎-elim opening
     (λ e. ⊎-elim registered
     (λ e. ⊎-elim held
-    (λ e. ⊎-elim port-end lent-copy (or-cases (isPortEnd rs r) (isLentCopy vs rs r) e))
-    (or-cases (isHeld rs r) _ e))
-    (or-cases (isRegistered rs r) _ e))
+    (λ e. ⊎-elim port-end lent-copy (or-cases (isPortEnd r s) (isLentCopy vs r s v) e))
+    (or-cases (isHeld r s v) _ e))
+    (or-cases (isRegistered r s) _ e))
     (or-cases (isOpening r) _ e)
 
-pub shape-sources : (vs : List Request) (r : Row) (rs : List Row) → Shape vs rs r → Among rs (r .source) × Among rs (r .via)
+pub shape-sources : (vs : List Request) (r : Row) (rs : List Row) → Shape vs r (sourceOf rs r) (viaOf rs r) → Among rs (r .source) × Among rs (r .via)
 unfolding isOpening isRegistered isHeld isPortEnd isLentCopy
 shape-sources vs r rs (opening e) =
     let s : eqb (r .source) 0 ≡ true = search (and-l, and-r) in

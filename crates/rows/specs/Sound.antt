@@ -1,5 +1,5 @@
 -- Sound tables: a named definition for each clause of that paragraph of document 01, and their conjunction.
-use Prim.Native.Nat.{ℕ, suc, pred}
+use Prim.Native.Nat.{ℕ, suc, pred, max}
 use mathlib.Core.Bool.{Bool, true, false, not, _&&_, _||_}
 use mathlib.Core.List.{List, [], _∷_, map}
 use lib.Dec.{leb, ltb, eqb}
@@ -10,7 +10,7 @@ use Rattle.rows.specs.declared.Process.{Process}
 use Rattle.rows.specs.Lists.{if_then_else_, any, all, each, topOf, rises, member, distinct, between, some, nonzero}
 use Rattle.rows.specs.Limits.{processes, nodes, greatestOperation, allRights, greatestNumber, rowSlots, requestSlots, greatestDepth, mostItems}
 use Rattle.rows.specs.Codes.{isOperation, isSubdirectory, isClient, isServer, isEnd, isCopied, fetchedMark, greatestMark, inClist, isNode, isClist, isSystem, ownerOf, within}
-use Rattle.rows.specs.Tables.{State, rowOf, requestOf, isListed, numbers, depthOver, lists, goesBack}
+use Rattle.rows.specs.Tables.{State, rowOf, requestOf, isListed, numbers, lists, goesBack}
 
 -- ==== numbers: of the next number, rows and requests
 -- "Row and request numbers rise, are never shared and are below the next number, which is at most 1,000,001."
@@ -62,55 +62,71 @@ placeInRange ps r = isNode (r .place) || ((isClist (r .place) && isListed ps (ow
 unfoldable pub placesInRange : List Process → List Row → Bool
 placesInRange ps rows = all (placeInRange ps) rows
 
+-- the source and the second source of a row, looked up among the older rows rs
+abbrev pub sourceOf : List Row → Row → Row
+sourceOf rs r = rowOf rs (r .source)
+
+abbrev pub viaOf : List Row → Row → Row
+viaOf rs r = rowOf rs (r .via)
+
+-- a test of each row, its source and its second source
+unfoldable pub sourced : (Row → Row → Row → Bool) → List Row → Bool
+sourced F rows = each (λ r rs. F r (sourceOf rs r) (viaOf rs r)) rows
+
 -- "Only opening and registered rows are in nodes." "Sources are standing, of the kind above and older":
--- each row is one of five (open point 26); rs are the older rows, among which a source is looked up
+-- each row is one of five (open point 26); s is its source, v its second source
 unfoldable pub isOpening : Row → Bool
 isOpening r = isNode (r .place) && (isCopied (r .kind) && (eqb (r .source) 0 && (eqb (r .via) 0 && eqb (r .request) 0)))
 
-unfoldable pub isRegistered : List Row → Row → Bool
-isRegistered rs r = isNode (r .place) && (isCopied (r .kind) && (isNode (rowOf rs (r .source) .place) && (eqb (r .via) 0 && eqb (r .request) 0)))
+unfoldable pub isRegistered : Row → Row → Bool
+isRegistered r s = isNode (r .place) && (isCopied (r .kind) && (isNode (s .place) && (eqb (r .via) 0 && eqb (r .request) 0)))
 
-unfoldable pub isHeld : List Row → Row → Bool
-isHeld rs r =
+unfoldable pub isHeld : Row → Row → Row → Bool
+isHeld r s v =
     isClist (r .place)
-    && (isCopied (r .kind)
-    && (isNode (rowOf rs (r .source) .place) && ((eqb (r .via) 0 || isSubdirectory (rowOf rs (r .via) .kind)) && eqb (r .request) 0)))
+    && (isCopied (r .kind) && (isNode (s .place) && ((eqb (r .via) 0 || isSubdirectory (v .kind)) && eqb (r .request) 0)))
 
-unfoldable pub isPortEnd : List Row → Row → Bool
-isPortEnd rs r =
-    isEnd (r .kind) && (not (isNode (r .place)) && (isOperation (rowOf rs (r .source) .kind) && (eqb (r .via) 0 && eqb (r .request) 0)))
+unfoldable pub isPortEnd : Row → Row → Bool
+isPortEnd r s = isEnd (r .kind) && (not (isNode (r .place)) && (isOperation (s .kind) && (eqb (r .via) 0 && eqb (r .request) 0)))
 
 -- its second source is the client end of the port of the request that it bears
-unfoldable pub isLentCopy : List Request → List Row → Row → Bool
-isLentCopy vs rs r =
+unfoldable pub isLentCopy : List Request → Row → Row → Row → Bool
+isLentCopy vs r s v =
     some (r .request)
     && (not (isNode (r .place))
-    && (isCopied (r .kind)
-    && (isCopied (rowOf rs (r .source) .kind) && (isClient (rowOf rs (r .via) .kind) && eqb (requestOf vs (r .request) .port) (r .via)))))
+    && (isCopied (r .kind) && (isCopied (s .kind) && (isClient (v .kind) && eqb (requestOf vs (r .request) .port) (r .via)))))
 
-unfoldable pub sourceRight : List Request → Row → List Row → Bool
-sourceRight vs r rs = isOpening r || (isRegistered rs r || (isHeld rs r || (isPortEnd rs r || isLentCopy vs rs r)))
+unfoldable pub hasRightSources : List Request → Row → Row → Row → Bool
+hasRightSources vs r s v = isOpening r || (isRegistered r s || (isHeld r s v || (isPortEnd r s || isLentCopy vs r s v)))
+
+abbrev pub sourceRight : List Request → Row → List Row → Bool
+sourceRight vs r rs = hasRightSources vs r (sourceOf rs r) (viaOf rs r)
 
 unfoldable pub sourcesRight : List Request → List Row → Bool
-sourcesRight vs rows = each (sourceRight vs) rows
+sourcesRight vs rows = sourced (hasRightSources vs) rows
 
 -- "depths are right"; "at most 12"
-unfoldable pub depthRight : Row → List Row → Bool
-depthRight r rs = eqb (r .depth) (depthOver rs (r .source) (r .via)) && leb (r .depth) greatestDepth
+unfoldable pub hasRightDepth : Row → Row → Row → Bool
+hasRightDepth r s v = eqb (r .depth) (suc (max (s .depth) (v .depth))) && leb (r .depth) greatestDepth
+
+abbrev pub depthRight : Row → List Row → Bool
+depthRight r rs = hasRightDepth r (sourceOf rs r) (viaOf rs r)
 
 unfoldable pub depthsRight : List Row → Bool
-depthsRight rows = each depthRight rows
+depthsRight rows = sourced hasRightDepth rows
 
 -- "a copy has its row's kind and object, and rights within it" (of held, registered and lent rows, open point 28)
-unfoldable pub copyMatches : Row → List Row → Bool
-copyMatches r rs =
-    let s = rowOf rs (r .source) in
+unfoldable pub matchesSource : Row → Row → Row → Bool
+matchesSource r s v =
     eqb (r .source) 0
     || (isEnd (r .kind)
     || (eqb (r .kind) (s .kind) && (eqb (r .object) (s .object) && (eqb (r .operation) (s .operation) && within (r .rights) (s .rights)))))
 
+abbrev pub copyMatches : Row → List Row → Bool
+copyMatches r rs = matchesSource r (sourceOf rs r) (viaOf rs r)
+
 unfoldable pub copiesMatch : List Row → Bool
-copiesMatch rows = each copyMatches rows
+copiesMatch rows = sourced matchesSource rows
 
 -- "Ends stand in pairs." Client n, server n + 1, with the same source (open point 29)
 unfoldable pub isPairedWith : Row → Row → Bool

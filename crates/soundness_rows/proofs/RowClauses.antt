@@ -14,7 +14,7 @@ use Rattle.rows.specs.Lists.{between, some}
 use Rattle.rows.specs.Limits.{processes, nodes, greatestOperation}
 use Rattle.rows.specs.Codes.{operation, subdirectory, clientEnd, serverEnd, isClient, isServer, withSystem, inClist, isNode, isClist, isSystem, isEnd, isCopied, isOperation, isSubdirectory, ownerOf}
 use Rattle.rows.specs.Tables.{isListed, rowOf}
-use Rattle.rows.specs.Sound.{objectInRange, placeInRange, isOpening, isRegistered, isHeld, isPortEnd, isLentCopy, sourceRight}
+use Rattle.rows.specs.Sound.{objectInRange, placeInRange, isOpening, isRegistered, isHeld, isPortEnd, isLentCopy, sourceRight, hasRightSources, sourceOf, viaOf}
 use Rattle.soundness_rows.specs.contracts.Seen.{Seen}
 use Rattle.rows.proofs.Bools.{false-of, clash, and-false, or-false}
 use Rattle.rows.proofs.Places.{copied-no-end}
@@ -63,8 +63,8 @@ unborne true true true true = refl
 
 module _ (vs : List Request) (rs : List Row) (y : Row) where
   -- what bears a request is a lent copy, or nothing
-  pub source-lent : (y .request ≡ 0 → ⊥) → isLentCopy vs rs y ≡ sourceRight vs y rs
-  unfolding sourceRight isOpening isRegistered isHeld isPortEnd
+  pub source-lent : (y .request ≡ 0 → ⊥) → isLentCopy vs y (sourceOf rs y) (viaOf rs y) ≡ sourceRight vs y rs
+  unfolding hasRightSources isOpening isRegistered isHeld isPortEnd
   source-lent h =
       rw (ne-eqb (y .request) 0 h)
       (rw (
@@ -76,20 +76,20 @@ module _ (vs : List Request) (rs : List Row) (y : Row) where
       refl)
 
   module _ (z : y .request ≡ 0) where
-    not-lent : isLentCopy vs rs y ≡ false
+    not-lent : isLentCopy vs y (sourceOf rs y) (viaOf rs y) ≡ false
     unfolding isLentCopy some
     not-lent = rw z refl
 
     -- an end is no copy
-    pub source-end : isEnd (y .kind) ≡ true → isPortEnd rs y ≡ sourceRight vs y rs
-    unfolding sourceRight isOpening isRegistered isHeld
+    pub source-end : isEnd (y .kind) ≡ true → isPortEnd y (sourceOf rs y) ≡ sourceRight vs y rs
+    unfolding hasRightSources isOpening isRegistered isHeld
     source-end e =
         let not-copied : isCopied (y .kind) ≡ false = false-of (isCopied (y .kind)) (λ c. clash e (copied-no-end (y .kind) c)) in
-        rw (not-lent, not-copied) (rw (and-false (isNode (y .place)), and-false (isClist (y .place))) (sym (or-false (isPortEnd rs y))))
+        rw (not-lent, not-copied) (rw (and-false (isNode (y .place)), and-false (isClist (y .place))) (sym (or-false (isPortEnd y (sourceOf rs y)))))
 
-    pub source-own : isEnd (y .kind) ≡ false → isOpening y || (isRegistered rs y || isHeld rs y) ≡ sourceRight vs y rs
-    unfolding sourceRight isPortEnd
-    source-own e = rw (not-lent, e) (rw (or-false (isHeld rs y)) refl)
+    pub source-own : isEnd (y .kind) ≡ false → isOpening y || (isRegistered y (sourceOf rs y) || isHeld y (sourceOf rs y) (viaOf rs y)) ≡ sourceRight vs y rs
+    unfolding hasRightSources isPortEnd
+    source-own e = rw (not-lent, e) (rw (or-false (isHeld y (sourceOf rs y) (viaOf rs y))) refl)
 
 -- the greater of two, by a test
 pub greater-second : (a b top : ℕ) → a < b → top ≡ b → top ≡ max a b

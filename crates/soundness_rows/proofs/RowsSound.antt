@@ -12,7 +12,7 @@ use Rattle.rows.specs.declared.Process.{Process}
 use Rattle.rows.specs.Lists.{all, each, member, some}
 use Rattle.rows.specs.Codes.{clientEnd, serverEnd, isClient, isServer, isEnd}
 use Rattle.rows.specs.Tables.{State, noRequest, noRow, rowOf, requestOf, lists}
-use Rattle.rows.specs.Sound.{objectInRange, objectsInRange, rightInRange, rightsInRange, placeInRange, placesInRange, sourceRight, sourcesRight, depthRight, depthsRight, copyMatches, copiesMatch, isPairedWith, otherEnd, endPaired, endsPaired, copyListed, copiesListed}
+use Rattle.rows.specs.Sound.{objectInRange, objectsInRange, rightInRange, rightsInRange, placeInRange, placesInRange, sourceRight, sourcesRight, depthRight, depthsRight, copyMatches, copiesMatch, isPairedWith, otherEnd, endPaired, endsPaired, copyListed, copiesListed, sourced}
 use Rattle.rows.specs.Layout.{requestAt, rawRow}
 use Rattle.rows.specs.contracts.Represents.{Represents}
 use Rattle.rows.specs.contracts.Slots.{requestSlot}
@@ -59,7 +59,7 @@ fields-same ps x y s = rw (s .number, s .kind, s .object, s .operation, s .right
 -- all rows
 pub rows-joined : (st : State) → each (rowSound st) (st .rows)
     ≡ objectsInRange (st .processes) (st .rows) && (rightsInRange (st .rows) && (placesInRange (st .processes) (st .rows) && (sourcesRight (st .requests) (st .rows) && (depthsRight (st .rows) && (copiesMatch (st .rows) && (endsPaired (st .rows) && copiesListed (st .requests) (st .rows)))))))
-unfolding rowSound objectsInRange rightsInRange placesInRange sourcesRight depthsRight copiesMatch endsPaired copiesListed
+unfolding rowSound objectsInRange rightsInRange placesInRange sourced sourcesRight depthsRight copiesMatch endsPaired copiesListed
 rows-joined st =
     each-join (λ y old. objectInRange (st .processes) y) _ (st .rows) (each-all (objectInRange (st .processes)) (st .rows))
     (each-join (λ y old. rightInRange y) _ (st .rows) (each-all rightInRange (st .rows))

@@ -25,7 +25,7 @@ ghost use lib.ListN.{length};
 ghost use Rattle.rows.specs.declared.Row.{Row};
 ghost use Rattle.rows.specs.declared.Request.{Request};
 ghost use Rattle.rows.specs.Tables.{requestOf, lists};
-ghost use Rattle.rows.specs.Sound.{objectInRange, rightInRange, placeInRange, isOpening, isRegistered, isHeld, isPortEnd, isLentCopy, sourceRight, depthRight, copyMatches, isPairedWith, copyListed};
+ghost use Rattle.rows.specs.Sound.{objectInRange, rightInRange, placeInRange, isOpening, isRegistered, isHeld, isPortEnd, isLentCopy, sourceRight, depthRight, copyMatches, isPairedWith, copyListed, sourceOf, viaOf};
 ghost use Rattle.rows.specs.Layout.{recordsIn};
 ghost use Rattle.soundness_rows.specs.contracts.Seen.{Seen};
 ghost use Rattle.rows.specs.contracts.Sizes.{IsRecords};
@@ -95,7 +95,7 @@ fn is_opening(x: Row) -> bool
 
 // Ruled out: a source that is in no node; a second source.
 fn is_registered(x: Row, s: Row, v: Row) -> bool
-    ensures { λ r. ⌜ ((y : Row) (rs : List Row) → Seen x s v y rs → r ≡ isRegistered rs y) ⌝ }
+    ensures { λ r. ⌜ ((y : Row) (rs : List Row) → Seen x s v y rs → r ≡ isRegistered y (sourceOf rs y)) ⌝ }
 {
     let node = is_node(x.place);
     let copied = is_copied(x.kind);
@@ -105,7 +105,7 @@ fn is_registered(x: Row, s: Row, v: Row) -> bool
 
 // Ruled out: a source that is in no node; a second source that is an operation.
 fn is_held(x: Row, s: Row, v: Row) -> bool
-    ensures { λ r. ⌜ ((y : Row) (rs : List Row) → Seen x s v y rs → r ≡ isHeld rs y) ⌝ }
+    ensures { λ r. ⌜ ((y : Row) (rs : List Row) → Seen x s v y rs → r ≡ isHeld y (sourceOf rs y) (viaOf rs y)) ⌝ }
 {
     let home = is_clist(x.place);
     let copied = is_copied(x.kind);
@@ -116,7 +116,7 @@ fn is_held(x: Row, s: Row, v: Row) -> bool
 
 // Ruled out: an end in a node; an end whose source is a subdirectory.
 fn is_port_end(x: Row, s: Row, v: Row) -> bool
-    ensures { λ r. ⌜ ((y : Row) (rs : List Row) → Seen x s v y rs → r ≡ isPortEnd rs y) ⌝ }
+    ensures { λ r. ⌜ ((y : Row) (rs : List Row) → Seen x s v y rs → r ≡ isPortEnd y (sourceOf rs y)) ⌝ }
 {
     let end = is_end(x.kind);
     let node = is_node(x.place);
@@ -126,7 +126,7 @@ fn is_port_end(x: Row, s: Row, v: Row) -> bool
 
 // Ruled out: a second source that is a server end; one that is not the port of the request.
 fn is_lent_copy(x: Row, s: Row, v: Row, port: u32) -> bool
-    ensures { λ r. ⌜ ((y : Row) (rs : List Row) (vs : List Request) → Seen x s v y rs → port ≡ requestOf vs (y .request) .port → r ≡ isLentCopy vs rs y) ⌝ }
+    ensures { λ r. ⌜ ((y : Row) (rs : List Row) (vs : List Request) → Seen x s v y rs → port ≡ requestOf vs (y .request) .port → r ≡ isLentCopy vs y (sourceOf rs y) (viaOf rs y)) ⌝ }
 {
     let node = is_node(x.place);
     let copied = is_copied(x.kind);
@@ -137,7 +137,7 @@ fn is_lent_copy(x: Row, s: Row, v: Row, port: u32) -> bool
 
 // A row that was not lent and is no end. Ruled out: a row that is none of the three; an opening row alone.
 fn is_own(x: Row, s: Row, v: Row) -> bool
-    ensures { λ r. ⌜ ((y : Row) (rs : List Row) → Seen x s v y rs → r ≡ isOpening y || (isRegistered rs y || isHeld rs y)) ⌝ }
+    ensures { λ r. ⌜ ((y : Row) (rs : List Row) → Seen x s v y rs → r ≡ isOpening y || (isRegistered y (sourceOf rs y) || isHeld y (sourceOf rs y) (viaOf rs y))) ⌝ }
 {
     let opening = is_opening(x);
     let registered = is_registered(x, s, v);

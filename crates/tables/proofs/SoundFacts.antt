@@ -16,7 +16,7 @@ use Rattle.rows.specs.Lists.{any, all, firstWith, topOf, rises, member, between
 use Rattle.rows.specs.Limits.{processes, nodes, greatestOperation}
 use Rattle.rows.specs.Codes.{operation, subdirectory, clientEnd, serverEnd, isOperation, isSubdirectory, isClient, isServer, isEnd, isCopied, inClist, isNode, isClist, isSystem, ownerOf}
 use Rattle.rows.specs.Tables.{State, noRow, noProcess, rowOf, processAt, isListed, numbers, sources, reaches, onLoan, lentItself, isLent}
-use Rattle.rows.specs.Sound.{rowsRise, requestsRise, belowNext, recordsFit, objectInRange, objectsInRange, rightInRange, rightsInRange, placeInRange, isOpening, isRegistered, isHeld, isPortEnd, isLentCopy, recordUnused, recordInRange, recordsInRange, isPairedWith, otherEnd, endPaired, endsPaired, same, processPlaced, placedFrom, processesPlaced}
+use Rattle.rows.specs.Sound.{rowsRise, requestsRise, belowNext, recordsFit, objectInRange, objectsInRange, rightInRange, rightsInRange, placeInRange, isOpening, isRegistered, isHeld, isPortEnd, isLentCopy, recordUnused, recordInRange, recordsInRange, isPairedWith, otherEnd, endPaired, endsPaired, same, processPlaced, placedFrom, processesPlaced, sourceOf, viaOf}
 use Rattle.rows.proofs.Bools.{clash, and-l, and-r, and-i, or-cases, or-l, or-r, or-fl, or-fr, or-false, not-t, zero-none, eqb-sym-f, all-mono, or-map}
 use Rattle.rows.proofs.Keyed.{first-key, all-first, rises-rest, rises-first, rises-range}
 use Rattle.rows.proofs.Lists.{all-getD}
@@ -142,7 +142,7 @@ module _ (ps : List Process) (r : Row) (t : objectInRange ps r ≡ true) where
       eqb-true (suc (r .object)) (r .number) (and-l (eqb (suc (r .object)) (r .number)) _ u)
 
 -- ---- what a row is by its place and kind
-pub in-node-copied : (vs : List Request) (rs : List Row) (r : Row) → Shape vs rs r → isNode (r .place) ≡ true → isCopied (r .kind) ≡ true
+pub in-node-copied : (vs : List Request) (rs : List Row) (r : Row) → Shape vs r (sourceOf rs r) (viaOf rs r) → isNode (r .place) ≡ true → isCopied (r .kind) ≡ true
 unfolding isOpening isRegistered isHeld isPortEnd isLentCopy
 in-node-copied vs rs r (opening u) n = search (and-l, and-r)
 in-node-copied vs rs r (registered u) n = search (and-l, and-r)
@@ -150,7 +150,7 @@ in-node-copied vs rs r (held u) n = search (and-l, and-r)
 in-node-copied vs rs r (port-end u) n = let w : not (isNode (r .place)) ≡ true = search (and-l, and-r) in clash n (not-t (isNode (r .place)) w)
 in-node-copied vs rs r (lent-copy u) n = search (and-l, and-r)
 
-pub not-lent-held : (vs : List Request) (rs : List Row) (r : Row) → Shape vs rs r → isNode (r .place) ≡ false → isEnd (r .kind) ≡ false → some (r .request) ≡ false → isHeld rs r ≡ true
+pub not-lent-held : (vs : List Request) (rs : List Row) (r : Row) → Shape vs r (sourceOf rs r) (viaOf rs r) → isNode (r .place) ≡ false → isEnd (r .kind) ≡ false → some (r .request) ≡ false → isHeld r (sourceOf rs r) (viaOf rs r) ≡ true
 unfolding isOpening isRegistered isPortEnd isLentCopy
 not-lent-held vs rs r (opening u) n k q = clash (and-l (isNode (r .place)) _ u) n
 not-lent-held vs rs r (registered u) n k q = clash (and-l (isNode (r .place)) _ u) n

@@ -2,7 +2,7 @@
 use Prim.Native.Nat.{ℕ, _<_}
 use mathlib.Core.Bool.{Bool, true, false, not, cond, _&&_, _||_}
 use mathlib.Core.List.{List, [], _∷_}
-use mathlib.Core.Path.{_≡_, refl}
+use mathlib.Core.Path.{_≡_, refl, sym, ap, _∙_}
 use mathlib.Core.Logic.{_⊎_, inl, inr, ⊎-elim}
 use native.Mathlib.Omega.{arith}
 use borrow.Author.Tests.{eqb-true, ne-eqb, leb-true}
@@ -13,7 +13,7 @@ use Rattle.rows.specs.Lists.{filter, any, all, each, member, between, some, non
 use Rattle.rows.specs.Limits.{nodes}
 use Rattle.rows.specs.Codes.{isEnd, inClist, isNode, isClist, within}
 use Rattle.rows.specs.Tables.{State, noRow, rowOf, numbers, sources, marked}
-use Rattle.rows.specs.Sound.{rowsRise, isOpening, isRegistered, isHeld, isPortEnd, isLentCopy, sourceRight, sourcesRight, copyMatches, copiesMatch}
+use Rattle.rows.specs.Sound.{rowsRise, isOpening, isRegistered, isHeld, isPortEnd, isLentCopy, sourceRight, sourcesRight, copyMatches, copiesMatch, hasRightSources, matchesSource, sourced, sourceOf, viaOf}
 use Rattle.rows.proofs.Bools.{false-of, clash, not-t, and-l, and-r, and-i, some-pos, member-here, member-there}
 use Rattle.rows.proofs.Keyed.{olderOf, each-first, older-first, older-key, rises-range}
 use Rattle.tables.proofs.Sound.{Sound}
@@ -25,9 +25,17 @@ module _ (st : State) (s : Sound st) (n : ℕ) (t : member n (numbers (st .rows)
   older : List Row
   older = olderOf (λ r. r .number) (st .rows) n
 
-  right : sourceRight (st .requests) (rowOf (st .rows) n) older ≡ true
-  unfolding sourcesRight rowOf numbers older
-  right = each-first (λ r. r .number) noRow (sourceRight (st .requests)) (st .rows) (s .rows .sources-right) n t
+  abbrev row : Row
+  row = rowOf (st .rows) n
+
+  sourced-older : (F : Row → Row → Row → Bool) → sourced F (st .rows) ≡ true → F row (sourceOf older row) (viaOf older row) ≡ true
+  unfolding sourced rowOf numbers older
+  sourced-older F e = each-first (λ r. r .number) noRow (λ r rs. F r (sourceOf rs r) (viaOf rs r)) (st .rows) e n t
+
+  among-older : Among older (row .source) × Among older (row .via)
+  unfolding sourcesRight
+  among-older =
+      shape-sources (st .requests) row older (shape (st .requests) row (sourceOf older row) (viaOf older row) (sourced-older (hasRightSources (st .requests)) (s .rows .sources-right)))
 
   -- what is among the older rows has a lower number
   lower : (m : ℕ) → Among older m → m < n
@@ -40,25 +48,25 @@ module _ (st : State) (s : Sound st) (n : ℕ) (t : member n (numbers (st .rows)
   look-older m h = older-first (λ r. r .number) noRow (st .rows) (s .numbers .rows-rise) n t m h
 
   -- the sources are 0 or older
-  pub source-lower : (rowOf (st .rows) n .source) < n
-  source-lower = lower (rowOf (st .rows) n .source) (shape-sources (st .requests) (rowOf (st .rows) n) older (shape (st .requests) (rowOf (st .rows) n) older right) .0)
+  pub source-lower : row .source < n
+  source-lower = lower (row .source) (among-older .0)
 
-  pub via-lower : (rowOf (st .rows) n .via) < n
-  via-lower = lower (rowOf (st .rows) n .via) (shape-sources (st .requests) (rowOf (st .rows) n) older (shape (st .requests) (rowOf (st .rows) n) older right) .1)
+  pub via-lower : row .via < n
+  via-lower = lower (row .via) (among-older .1)
 
-  pub standing-shape : Shape (st .requests) (st .rows) (rowOf (st .rows) n)
-  unfolding sourceRight isRegistered isHeld isPortEnd isLentCopy
-  standing-shape =
-      shape (st .requests) (rowOf (st .rows) n) (st .rows)
-      (rw (look-older (rowOf (st .rows) n .source) source-lower, look-older (rowOf (st .rows) n .via) via-lower) at right)
+  -- a clause of rows and their sources, of one row: its sources looked up among all rows
+  pub sourced-at : (F : Row → Row → Row → Bool) → sourced F (st .rows) ≡ true → F row (sourceOf (st .rows) row) (viaOf (st .rows) row) ≡ true
+  sourced-at F e =
+      ap (λ x. F row x (viaOf (st .rows) row)) (sym (look-older (row .source) source-lower))
+      ∙ ap (F row (sourceOf older row)) (sym (look-older (row .via) via-lower)) ∙ sourced-older F e
 
-  copied : copyMatches (rowOf (st .rows) n) older ≡ true
-  unfolding copiesMatch rowOf numbers older
-  copied = each-first (λ r. r .number) noRow copyMatches (st .rows) (s .rows .copies-match) n t
+  pub standing-shape : Shape (st .requests) row (sourceOf (st .rows) row) (viaOf (st .rows) row)
+  unfolding sourcesRight
+  standing-shape = shape (st .requests) row (sourceOf (st .rows) row) (viaOf (st .rows) row) (sourced-at (hasRightSources (st .requests)) (s .rows .sources-right))
 
-  pub standing-copy : copyMatches (rowOf (st .rows) n) (st .rows) ≡ true
-  unfolding copyMatches
-  standing-copy = rw (look-older (rowOf (st .rows) n .source) source-lower) at copied
+  pub standing-copy : copyMatches row (st .rows) ≡ true
+  unfolding copiesMatch
+  standing-copy = sourced-at matchesSource (s .rows .copies-match)
 
 -- ---- sources
 -- 0, or what passes
@@ -77,11 +85,11 @@ each-mono F G h [] e = refl
 each-mono F G h (x ∷ xs) e = and-i (G x xs) (each G xs) (h x xs (and-l (F x xs) (each F xs) e)) (each-mono F G h xs (and-r (F x xs) (each F xs) e))
 
 pub sources-older : (st : State) → Sound st → sourcesOlder (st .rows) ≡ true
-unfolding sourcesOlder sourcesRight sources nonzero filter all
+unfolding sourcesOlder sourcesRight sources nonzero filter all each sourced
 sources-older st s =
     each-mono (sourceRight (st .requests)) (λ r rs. all (λ s. member s (numbers rs)) (sources r))
     (λ r rs e.
-    let (a, b) = shape-sources (st .requests) r rs (shape (st .requests) r rs e) in
+    let (a, b) = shape-sources (st .requests) r rs (shape (st .requests) r (sourceOf rs r) (viaOf rs r) e) in
     kept-one (λ s. member s (numbers rs)) (r .source) (r .via ∷ []) a (kept-one (λ s. member s (numbers rs)) (r .via) [] b refl))
     (st .rows) (s .rows .sources-right)
 
@@ -99,7 +107,7 @@ pub rights-within : (st : State) → Sound st → (n : ℕ) → member n (number
     → isEnd (rowOf (st .rows) n .kind) ≡ false → some (rowOf (st .rows) n .source) ≡ true
     → (member (rowOf (st .rows) n .source) (numbers (st .rows)) ≡ true)
     × (within (rowOf (st .rows) n .rights) (rowOf (st .rows) (rowOf (st .rows) n .source) .rights) ≡ true)
-unfolding copyMatches
+unfolding matchesSource
 rights-within st s n t no-end some-source =
     let r = rowOf (st .rows) n in
     let o = rowOf (st .rows) (r .source) in
@@ -129,14 +137,14 @@ node-no-clist p e d =
     omega (arith, leb-true 101 p lo, leb-true p 32 hi)
 
 -- the sources of a row in a node are in nodes
-node-sources : (vs : List Request) (rs : List Row) (r : Row) → Shape vs rs r → isNode (r .place) ≡ true → any (λ m. not (isNode (rowOf rs m .place))) (sources r) ≡ false
+node-sources : (vs : List Request) (rs : List Row) (r : Row) → Shape vs r (sourceOf rs r) (viaOf rs r) → isNode (r .place) ≡ true → any (λ m. not (isNode (rowOf rs m .place))) (sources r) ≡ false
 unfolding sources any nonzero filter isOpening isRegistered isHeld isPortEnd isLentCopy
 node-sources vs rs r h e = none-one P (r .source) (r .via ∷ []) (both h .0) (none-one P (r .via) [] (both h .1) refl)
   where
     P : ℕ → Bool
     P m = not (isNode (rowOf rs m .place))
 
-    both : Shape vs rs r → ((r .source ≡ 0) ⊎ (P (r .source) ≡ false)) × ((r .via ≡ 0) ⊎ (P (r .via) ≡ false))
+    both : Shape vs r (sourceOf rs r) (viaOf rs r) → ((r .source ≡ 0) ⊎ (P (r .source) ≡ false)) × ((r .via ≡ 0) ⊎ (P (r .via) ≡ false))
     both (opening d) =
         let a : eqb (r .source) 0 ≡ true = search (and-l, and-r) in
         let b : eqb (r .via) 0 ≡ true = search (and-l, and-r) in

@@ -6,10 +6,10 @@ use mathlib.Core.Path.{_≡_, refl, ap, _∙_}
 use borrow.Author.Tests.{eqb-true, eq-eqb, leb-true}
 use lib.Dec.{eqb}
 use lib.ListN.{length}
-use Rattle.rows.specs.Lists.{sameList}
+use Rattle.rows.specs.Lists.{sameList, each}
 use Rattle.rows.specs.Limits.{processes, rowSlots, requestSlots}
 use Rattle.rows.specs.Tables.{State, empty}
-use Rattle.rows.specs.Sound.{rowsRise, requestsRise, rowsFit, requestsFit, recordsFit, sourcesRight, itemsFew}
+use Rattle.rows.specs.Sound.{rowsRise, requestsRise, rowsFit, requestsFit, recordsFit, sourcesRight, itemsFew, sourced}
 use Rattle.rows.specs.Layout.{tablesLength, processesLength, wordsOf, recordsOf, rowsIn, requestsIn, rowsTo, requestsTo, stateOf, rightLengths, soundWords}
 use Rattle.rows.specs.contracts.Represents.{laidWell, Represents}
 use Rattle.rows.specs.Computes.{computes}
@@ -41,7 +41,7 @@ module _ (st : State) (s : Sound st) where
 
   -- ---- read back
   rows-read : rowsTo (wordsOf st) (rowsIn (wordsOf st)) (rowsIn (wordsOf st)) ≡ st .rows
-  unfolding rowsRise sourcesRight
+  unfolding rowsRise sourcesRight each sourced
   rows-read = rw (rows-in st few-rows few-requests (s .numbers .rows-rise)) (rows-back (wordsOf st) (st .rows) few-rows (row-at st few-rows few-requests) (st .requests) (s .numbers .rows-rise) (s .rows .sources-right))
 
   requests-read : requestsTo (wordsOf st) (requestsIn (wordsOf st)) ≡ st .requests

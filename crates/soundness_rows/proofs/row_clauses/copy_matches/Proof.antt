@@ -1,7 +1,7 @@
 -- `row_clauses::copy_matches` meets its contract: the definition, test by test.
 use borrow.Author.Needs.{needs}
 use mathlib.Core.Path.{refl}
-use Rattle.rows.specs.Sound.{copyMatches}
+use Rattle.rows.specs.Sound.{matchesSource}
 use Rattle.soundness_rows.proofs.row_clauses.copy_matches.Statement.{statement}
 use Rattle.soundness_rows.proofs.row_clauses.copy_matches.Tie as tie
 
@@ -12,7 +12,7 @@ within-requires : tie.Need-within-requires
 within-requires c κs = search needs
 
 returns : tie.Need-returns
-unfolding copyMatches
+unfolding matchesSource
 returns c =
     λ y rs h.
     rw (c .before .before .before .before .before .before .before .before .is-end .ensures, c .before .before .before .before .before .before .before .within .ensures)

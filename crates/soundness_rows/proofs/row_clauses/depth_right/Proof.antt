@@ -5,7 +5,7 @@ use mathlib.Core.Path.{ap}
 use lib.Dec.{leb}
 use Rattle.rows.specs.Limits.{greatestDepth}
 use Rattle.rows.specs.Tables.{depthOver}
-use Rattle.rows.specs.Sound.{depthRight}
+use Rattle.rows.specs.Sound.{hasRightDepth}
 use mathlib.Core.Logic.{⊎-elim}
 use Rattle.rows.proofs.Bools.{eqb-sym}
 use Rattle.soundness_rows.proofs.RowClauses.{greater-first, greater-second}
@@ -16,7 +16,7 @@ follows-requires : tie.Need-follows-requires
 follows-requires c κs = search needs
 
 returns : tie.Need-returns
-unfolding depthRight depthOver greatestDepth
+unfolding hasRightDepth depthOver greatestDepth
 returns c =
     λ y rs h.
     let a = c .before .before .before .before .args in
