@@ -192,7 +192,8 @@ answers-replied text st s [] = refl
 answers-replied text st s (l ∷ ls) =
     let o = callOn st l in
     ap (λ a. printed (o .answer) ++ a) (answers-replied (printed (o .answer)) (o .after) (call-kept st s l) ls)
-    ∙ sym (ap (λ w. w .reply ++ joined (repliesTo w ls)) (call-on-words text st s l) ∙ ap (λ r. r ++ joined (repliesTo (replyWith (printed (o .answer)) (o .after)) ls)) (reply-text (printed (o .answer)) (o .after)))
+    ∙ sym (ap (λ w. w .reply ++ joined (repliesTo w ls)) (call-on-words text st s l)
+    ∙ ap (λ r. r ++ joined (repliesTo (replyWith (printed (o .answer)) (o .after)) ls)) (reply-text (printed (o .answer)) (o .after)))
 
 session-is : (t p input : List ℕ) → rightLengths t p ≡ true → (fs : List Form) (ls : List (List ℕ)) → openingOf (linesOf input) ≡ opens fs ls
     → session input ≡ openEntry t p input .reply ++ joined (repliesTo (openEntry t p input) ls)

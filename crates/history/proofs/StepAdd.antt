@@ -143,7 +143,8 @@ module _ (h : History) (st : State) (i : Inv h st) (s : Sound st) where
       let cn : some n && member n (h .closedPorts) ≡ false = and-rf (some n) (member n (h .closedPorts)) (not-below n (h .closedPorts) (i .ports-below)) in
       let client = portEnd clientEnd n n (inClist p) e d in
       let h₁ = addRow n (e ∷ []) 0 n h in
-      let i₁ : Inv h₁ (withNewRows (client ∷ st .rows) (suc n) st) = add-row h st client (e ∷ []) 0 n i (client-view n (inClist p) e d lo) (one-stands h e up) (unfold some in refl) cn (client-fits h n e) in
+      let i₁ : Inv h₁ (withNewRows (client ∷ st .rows) (suc n) st) =
+      add-row h st client (e ∷ []) 0 n i (client-view n (inClist p) e d lo) (one-stands h e up) (unfold some in refl) cn (client-fits h n e) in
       let up₁ : stands h₁ e ≡ true = stands-same h n (e ∷ []) 0 n (not-below n (h .dropped) (i .dropped-below)) (unfold some in refl) cn (one-stands h e up) e (stands-low h st i e up .1) ∙ up in
       add-row h₁ (withNewRows (client ∷ st .rows) (suc n) st) (portEnd serverEnd (suc n) n (inClist (rowOf (st .rows) e .object)) e d) (e ∷ []) 0 n i₁
       (server-view n (inClist (rowOf (st .rows) e .object)) e d lo) (one-stands h₁ e up₁) (unfold some in refl) cn (server-fits h n e)

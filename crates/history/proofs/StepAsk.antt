@@ -176,14 +176,18 @@ module _ (h : History) (st : State) (i : Inv h st) (s : Sound st) (p c : ℕ) (e
       let hl = noting rs (loanBy st p c es) os h in
       let a = x .row in
       let older : all (λ k. stands hl k) (a ∷ c ∷ []) ≡ true = two-stand hl a c (j .still a (row-stands h st i a t)) (j .still c (row-stands h st i c there)) in
-      let qn : some (st .next) && member (st .next) (h .closedRequests) ≡ false = and-rf (some (st .next)) (member (st .next) (h .closedRequests)) (not-below (st .next) (h .closedRequests) (i .closed-below)) in
-      let v : view (copyLent st c (st .next) (l .next) x) ≡ newNoted (l .next) (a ∷ c ∷ []) (st .next) 0 = view-copy (itemRow st x) (l .next) (x .rights) withSystem a c (copyDepth st c x) (st .next) end ∙ ap (λ ss. newNoted (l .next) ss (st .next) 0) (two-sources a c (row-below st s a t .0) (row-below st s c there .0)) in
+      let qn : some (st .next) && member (st .next) (h .closedRequests) ≡ false =
+      and-rf (some (st .next)) (member (st .next) (h .closedRequests)) (not-below (st .next) (h .closedRequests) (i .closed-below)) in
+      let v : view (copyLent st c (st .next) (l .next) x) ≡ newNoted (l .next) (a ∷ c ∷ []) (st .next) 0 =
+      view-copy (itemRow st x) (l .next) (x .rights) withSystem a c (copyDepth st c x) (st .next) end
+      ∙ ap (λ ss. newNoted (l .next) ss (st .next) 0) (two-sources a c (row-below st s a t .0) (row-below st s c there .0)) in
       record {
         inv =
             seen-inv (noting (newNoted (l .next) (a ∷ c ∷ []) (st .next) 0 ∷ rs) (loanBy st p c es) os h)
             (withNewRows (copyLent st c (st .next) (l .next) x ∷ l .rows) (suc (l .next)) (lending st p c l))
             (lending st p c (lendCopy st c (st .next) x l)) refl (unfold newRequest ofRequest in refl) refl refl
-            (add-row hl (lending st p c l) (copyLent st c (st .next) (l .next) x) (a ∷ c ∷ []) (st .next) 0 (j .inv) v older qn (unfold some in refl) (copy-fits hl (st .next) (l .next) a (loanBy st p c es) (h .requests) refl refl));
+            (add-row hl (lending st p c l) (copyLent st c (st .next) (l .next) x) (a ∷ c ∷ []) (st .next) 0 (j .inv) v older qn (unfold some in refl)
+            (copy-fits hl (st .next) (l .next) a (loanBy st p c es) (h .requests) refl refl));
         still = λ k e.
             let up : stands hl k ≡ true = j .still k e in
             stands-same hl (l .next) (a ∷ c ∷ []) (st .next) 0 (not-below (l .next) (h .dropped) (j .inv .dropped-below)) qn (unfold some in refl) older k
@@ -202,7 +206,8 @@ module _ (h : History) (st : State) (i : Inv h st) (s : Sound st) (p c : ℕ) (e
       pick : member (x .row) (numbers (st .rows)) ≡ true
           → ((l : Lending) (rs : List Noted) → Joint h st p c es os l rs → Joint h st p c es os (lendItems st c (st .next) xs l) (copiesNoted (st .next) c (l .next) (copied (h .rows) xs) rs))
           → (b : Bool) → moves st x ≡ b
-          → Joint h st p c es os (lendItems st c (st .next) xs (cond b (lendEnd x l) (lendCopy st c (st .next) x l))) (copiesNoted (st .next) c (l .next) (cond (not b) (x ∷ copied (h .rows) xs) (copied (h .rows) xs)) rs)
+          → Joint h st p c es os (lendItems st c (st .next) xs (cond b (lendEnd x l) (lendCopy st c (st .next) x l)))
+          (copiesNoted (st .next) c (l .next) (cond (not b) (x ∷ copied (h .rows) xs) (copied (h .rows) xs)) rs)
       pick t ih true q = ih (lendEnd x l) rs (lent-end x l rs j)
       pick t ih false q = ih (lendCopy st c (st .next) x l) (newNoted (l .next) (x .row ∷ c ∷ []) (st .next) 0 ∷ rs) (lent-copy x l rs t q j)
 

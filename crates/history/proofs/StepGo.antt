@@ -39,7 +39,9 @@ record-at ps (suc j) zero x l = rw (ne-eqb (suc j) 0 (λ e. omega arith)) refl
 record-at ps (suc j) (suc k) x l = rw sub-one (pick (eqb (suc j) (suc k)) refl)
   where
     pick : (b : Bool) → eqb (suc j) (suc k) ≡ b → getD (set ps j x) k noProcess ≡ cond b x (getD ps k noProcess)
-    pick true q = let e : j ≡ k = (let z = eqb-true (suc j) (suc k) q in omega arith) in ap (λ k. getD (set ps j x) k noProcess) (sym e) ∙ getD-set-same ps j x noProcess (listed-has-record ps (suc j) l .1)
+    pick true q =
+        let e : j ≡ k = (let z = eqb-true (suc j) (suc k) q in omega arith) in
+        ap (λ k. getD (set ps j x) k noProcess) (sym e) ∙ getD-set-same ps j x noProcess (listed-has-record ps (suc j) l .1)
     pick false q = getD-set-other ps j k x noProcess (λ e. eqb-false (suc j) (suc k) q (ap suc (sym e)))
 
 go-last : (p e : ℕ) (ws : List Went) (k : ℕ) → lastGo (record { process = p; through = e } ∷ ws) k ≡ cond (eqb p k) e (lastGo ws k)

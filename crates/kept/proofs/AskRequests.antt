@@ -61,7 +61,8 @@ module _ (st : State) (s : Sound st) (p c : ℕ) (is : List Item) (a : AskAllowe
   unfolding numbersApart
   numbers-apart =
       requests-all (λ v. not (member (v .number) (numbers (askedRows st c is)))) (unfold newRequest in ap not fresh)
-      (all-and (λ v. ltb (v .number) (st .next)) (λ v. not (member (v .number) (numbers (st .rows)))) (λ v. not (member (v .number) (numbers (askedRows st c is)))) older (st .requests) (requests-below st s) (s .numbers .numbers-apart))
+      (all-and (λ v. ltb (v .number) (st .next)) (λ v. not (member (v .number) (numbers (st .rows)))) (λ v. not (member (v .number) (numbers (askedRows st c is)))) older
+      (st .requests) (requests-below st s) (s .numbers .numbers-apart))
     where
       fresh : member (st .next) (numbers (askedRows st c is)) ≡ false
       fresh = old-number st s p c is a (st .next) (omega arith) ∙ false-of (member (st .next) (numbers (st .rows))) (λ t. let (lo, hi) = row-below st s (st .next) t in omega arith)
@@ -196,14 +197,18 @@ module _ (st : State) (s : Sound st) (p c : ℕ) (is : List Item) (a : AskAllowe
 
       in-clist : (e : ℕ) → isItem st is e ≡ true → isSystem (rowOf (st .rows) e .place) ≡ false
       in-clist e g =
-          let held : rowOf (st .rows) e .place ≡ inClist p = unfold notHeld in eqb-true (rowOf (st .rows) e .place) (inClist p) (not-f (eqb (rowOf (st .rows) e .place) (inClist p)) (named-held st s p c is a e g)) in
+          let held : rowOf (st .rows) e .place ≡ inClist p =
+          unfold notHeld in eqb-true (rowOf (st .rows) e .place) (inClist p)
+          (not-f (eqb (rowOf (st .rows) e .place) (inClist p)) (named-held st s p c is a e g)) in
           ap isSystem held ∙ clist-not-system st s p (a .caller)
 
       -- what the new request lists no unfetched one lists
       unshared : (w : ℕ) → member w (map (λ v. v .number) (st .requests)) ≡ true → isFetched (requestOf (st .requests) w) ≡ false
           → (e : ℕ) → (isItem st is e ≡ true) ⊎ ((suc (st .next) ≤ e) × (e < suc (st .next) + length (copies st is))) → lists e (requestOf (st .requests) w) ≡ false
       unshared w t f e (inl g) =
-          let all-fetched = listers-fetched e (st .requests) (s .holders .older-fetched) (sym (eq-same (isSystem (rowOf (st .rows) e .place)) (awaitsFetch (st .requests) e) (held-so st s e (held-there st p e (named-held st s p c is a e g)))) ∙ in-clist e g) in
+          let all-fetched =
+          listers-fetched e (st .requests) (s .holders .older-fetched)
+          (sym (eq-same (isSystem (rowOf (st .rows) e .place)) (awaitsFetch (st .requests) e) (held-so st s e (held-there st p e (named-held st s p c is a e g)))) ∙ in-clist e g) in
           not-t (lists e (requestOf (st .requests) w)) (rw f at (at w t (λ w. isFetched w || not (lists e w)) all-fetched))
       unshared w t f e (inr (lo, hi)) =
           let new : member e (numbers (st .rows)) ≡ false = false-of (member e (numbers (st .rows))) (λ m. let (l, h) = row-below st s e m in omega arith) in
@@ -213,7 +218,8 @@ module _ (st : State) (s : Sound st) (p c : ℕ) (is : List Item) (a : AskAllowe
       pick n t true f = or-l (isFetched (requestOf (st .requests) n)) (not (any (λ e. lists e (requestOf (st .requests) n)) (asked st p c is .items))) f
       pick n t false f =
           or-r (isFetched (requestOf (st .requests) n)) (not (any (λ e. lists e (requestOf (st .requests) n)) (asked st p c is .items)))
-          (ap not (any-members (λ e. lists e (requestOf (st .requests) n)) (asked st p c is .items) (λ e m. false-of (lists e (requestOf (st .requests) n)) (λ l. clash l (unshared n t f e (lists-cases st s p c is a e (too e m (requestOf (st .requests) n) l)))))))
+          (ap not (any-members (λ e. lists e (requestOf (st .requests) n)) (asked st p c is .items)
+          (λ e m. false-of (lists e (requestOf (st .requests) n)) (λ l. clash l (unshared n t f e (lists-cases st s p c is a e (too e m (requestOf (st .requests) n) l)))))))
         where
           too : (e : ℕ) → member e (asked st p c is .items) ≡ true → (w : Request) → lists e w ≡ true → lists e (asked st p c is) ≡ true
           too e m w l = unfold lists in and-i (some e) (member e (asked st p c is .items)) (and-l (some e) (member e (w .items)) l) m

@@ -116,7 +116,10 @@ module _ (st : State) (s : Sound st) (p : ℕ) (v : Request) (found : requestOf 
   below-next : belowNext (after .next) (after .rows) (after .requests) ≡ true
   unfolding belowNext
   below-next =
-      rw (top-map (λ r. r .number) noRow (moved goes (inClist p)) (moved-number goes (inClist p)) (st .rows), top-map (λ v. v .number) noRequest (nowFetched (v .number)) (now-number (v .number)) (st .requests))
+      rw (
+        top-map (λ r. r .number) noRow (moved goes (inClist p)) (moved-number goes (inClist p)) (st .rows),
+        top-map (λ v. v .number) noRequest (nowFetched (v .number)) (now-number (v .number)) (st .requests),
+      )
       (s .numbers .below-next)
 
   rows-fit : rowsFit (after .rows) ≡ true
