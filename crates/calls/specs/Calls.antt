@@ -8,7 +8,7 @@ use Rattle.rows.specs.declared.Row.{Row}
 use Rattle.rows.specs.declared.Request.{Request}
 use Rattle.rows.specs.Lists.{if_then_else_, filter, any, member, some, nonzero}
 use Rattle.rows.specs.Codes.{clientEnd, serverEnd, isOperation, isSubdirectory, isClient, isServer, isEnd, inNode, inClist, mayHold, mayTransfer, mayRegister, within}
-use Rattle.rows.specs.Tables.{State, rowOf, requestOf, processAt, sources, depthOver, comesFrom, lists, onLoan, isLent}
+use Rattle.rows.specs.Tables.{State, rowOf, requestOf, processAt, sources, depthOver, comesFrom, lists, goesBack, onLoan, isLent}
 use Rattle.rows.specs.Setters.{inPrimeNode, wentThrough}
 use Rattle.rows.specs.Sound.{isFetched}
 use Rattle.closing.specs.Closing.{closeRequest, closePort, dropRow}
@@ -198,9 +198,9 @@ refusalsFetch st p e =
     ∷ []
 
 -- ---- "`reply v`: SEND; closes the request."
--- the ends that a request still lists
+-- the ends that a request still lists: they go back when it closes
 unfoldable pub lentEnds : State → Request → List ℕ
-lentEnds st v = filter (λ e. isEnd (rowOf (st .rows) e .kind)) (nonzero (v .items))
+lentEnds st v = filter (λ e. goesBack (rowOf (st .rows) e)) (nonzero (v .items))
 
 unfoldable pub isAway : State → ℕ → Request → ℕ → Bool
 isAway st p v e = notHeld st p e || any (λ w. ltb (v .number) (w .number) && lists e w) (st .requests)

@@ -7,8 +7,8 @@ use Rattle.rows.specs.declared.Row.{Row}
 use Rattle.rows.specs.declared.Request.{Request}
 use Rattle.rows.specs.Lists.{if_then_else_, filter, some, pad}
 use Rattle.rows.specs.Limits.{mostItems}
-use Rattle.rows.specs.Codes.{isEnd, inClist, withSystem}
-use Rattle.rows.specs.Tables.{State, rowOf, depthOver, lists}
+use Rattle.rows.specs.Codes.{waitingMark, fetchedMark, inClist, withSystem}
+use Rattle.rows.specs.Tables.{State, rowOf, depthOver, lists, goesBack}
 use Rattle.rows.specs.Setters.{withRows, withRequests, withNext, withPlace, withFetched}
 use Rattle.calls.specs.declared.Item.{Item}
 use Rattle.calls.specs.declared.Items.{Items}
@@ -23,7 +23,7 @@ itemRow st i = rowOf (st .rows) (i .row)
 
 -- "Operations and subdirectories are copied; ends move."
 unfoldable pub moves : State → Item → Bool
-moves st i = isEnd (itemRow st i .kind)
+moves st i = goesBack (itemRow st i)
 
 unfoldable pub copies : State → List Item → List Item
 copies st is = filter (λ i. not (moves st i)) is
@@ -64,7 +64,7 @@ unfoldable pub lent : State → ℕ → List Item → Lending
 lent st c is = lendItems st c (st .next) is (record { rows = st .rows; items = []; next = suc (st .next) })
 
 unfoldable pub newRequest : ℕ → ℕ → ℕ → List ℕ → Request
-newRequest v c p is = record { number = v; port = c; asker = p; fetched = 0; items = pad 0 mostItems is }
+newRequest v c p is = record { number = v; port = c; asker = p; fetched = waitingMark; items = pad 0 mostItems is }
 
 unfoldable pub withRequest : State → ℕ → ℕ → List Item → State
 withRequest st p c is =
@@ -76,7 +76,7 @@ unfoldable pub handedTo : ℕ → Request → Row → Row
 handedTo p v r = if lists (r .number) v then withPlace (inClist p) r else r
 
 unfoldable pub nowFetched : ℕ → Request → Request
-nowFetched q v = if eqb (v .number) q then withFetched 1 v else v
+nowFetched q v = if eqb (v .number) q then withFetched fetchedMark v else v
 
 unfoldable pub handedOver : ℕ → Request → State → State
 handedOver p v st =

@@ -63,7 +63,9 @@ module _ (rs : List Noted) (x : Noted) (u : rising rs ≡ true) (top : topOf (λ
       c = notedOf rs (r .port)
 
       test : Noted → Bool
-      test y = (eqb (r .number) (r .port) || eqb (r .number) (suc (r .port))) && (eqb (y .number) (r .port) && (eqb (y .port) (r .port) && (sameList (y .sources) (r .sources) && eqb (r .request) 0)))
+      test y =
+          (eqb (r .number) (r .port) || eqb (r .number) (suc (r .port))) &&
+          (eqb (y .number) (r .port) && (eqb (y .port) (r .port) && (sameList (y .sources) (r .sources) && eqb (r .request) 0)))
 
       pick : (b : Bool) → some (r .port) ≡ b → not b || test c ≡ true → not b || test (notedOf (x ∷ rs) (r .port)) ≡ true
       pick true q t =
@@ -100,10 +102,14 @@ fit-row h n ss q c f top b older w =
       sources-older = unfold each in and-i (all (λ s. member s (noted (h .rows))) ss) _ older (f .sources-older);
       rows-rooted = unfold all in and-i (rooted (h .text) x) _ (unfold rooted in rw (w .sources-there) refl) (f .rows-rooted);
       rows-bear = unfold all in and-i (bearsWell (h .requests) x) _ (w .bears) (f .rows-bear);
-      rows-end = unfold all in and-i (endsWell (x ∷ h .rows) x) _ (w .ends) (all-mono (endsWell (h .rows)) (endsWell (x ∷ h .rows)) (ends-more (h .rows) x (f .rows-rise) top) (h .rows) (f .rows-end));
+      rows-end =
+          unfold all in and-i (endsWell (x ∷ h .rows) x) _ (w .ends)
+          (all-mono (endsWell (h .rows)) (endsWell (x ∷ h .rows)) (ends-more (h .rows) x (f .rows-rise) top) (h .rows) (f .rows-end));
       ports-noted = all-mono (portNoted (h .rows)) (portNoted (x ∷ h .rows)) (port-more (h .rows) x (f .rows-rise) top) (h .requests) (f .ports-noted);
       ends-kept = dropped-more (h .rows) x (f .rows-rise) top (h .dropped) b (f .ends-kept);
-      text-noted = all-mono (λ k. member k (noted (h .rows))) (λ k. member k (noted (x ∷ h .rows))) (λ k t. unfold noted member in or-r (eqb k n) (member k (noted (h .rows))) t) (h .text) (f .text-noted);
+      text-noted =
+          all-mono (λ k. member k (noted (h .rows))) (λ k. member k (noted (x ∷ h .rows)))
+          (λ k t. unfold noted member in or-r (eqb k n) (member k (noted (h .rows))) t) (h .text) (f .text-noted);
     }
 
 -- ---- the new row stands
@@ -126,7 +132,9 @@ module _ (h : History) (n : ℕ) (ss : List ℕ) (q c : ℕ)
 module _ (h h′ : History) (n : ℕ) (same : (k : ℕ) → k < n → stands h′ k ≡ stands h k) where
   open-same : Fit h → topOf (λ r. r .number) (h .rows) < n → h′ .closedRequests ≡ h .closedRequests → h′ .requests ≡ h .requests → openLoans h′ ≡ openLoans h
   unfolding openLoans
-  open-same f top c r = ap (filter (λ v. not (isClosed h′ v))) r ∙ filter-same (portNoted (h .rows)) (λ v. not (isClosed h′ v)) (λ v. not (isClosed h v)) loan-same (h .requests) (f .ports-noted)
+  open-same f top c r =
+      ap (filter (λ v. not (isClosed h′ v))) r
+      ∙ filter-same (portNoted (h .rows)) (λ v. not (isClosed h′ v)) (λ v. not (isClosed h v)) loan-same (h .requests) (f .ports-noted)
     where
       loan-same : (v : Loan) → portNoted (h .rows) v ≡ true → not (isClosed h′ v) ≡ not (isClosed h v)
       loan-same v e = unfold isClosed in rw (same (v .port) (let le = port-low (h .rows) (f .rows-rise) v e in omega arith), c) refl
@@ -144,7 +152,9 @@ pub add-row : (h : History) (st : State) (r : Row) (ss : List ℕ) (q c : ℕ) �
 unfolding withNewRows addRow IsNoted
 add-row h st r ss q c i v older qn cn w =
     record {
-      fit = fit-row h (st .next) ss q c (i .fit) (i .rows-below) (i .dropped-below) (all-mono (λ s. stands h s) (λ s. member s (noted (h .rows))) (λ s t. stands-noted h (i .fit) s t) ss older) w;
+      fit =
+          fit-row h (st .next) ss q c (i .fit) (i .rows-below) (i .dropped-below)
+          (all-mono (λ s. stands h s) (λ s. member s (noted (h .rows))) (λ s t. stands-noted h (i .fit) s t) ss older) w;
       rows = rw (v, i .rows) (sym (standing-new h (st .next) ss q c dn qn cn older));
       requests = i .requests ∙ ap (map ofLoan) (sym opened);
       through = λ p e. i .through p e ∙ sym (through-same h h′ (st .next) same refl p (i .went-below p));

@@ -28,7 +28,8 @@ reached f (r ∷ rs) = let m = reached f rs in mark (f r || any (λ s. member s 
 abbrev leaves : List ℕ → List Noted → List Noted
 leaves m rs = filter (λ r. not (member (r .number) m)) rs
 
-mark-sub : (b : Bool) (r : Noted) (m : List ℕ) (rs : List Noted) (s : ℕ) → (member s m ≡ true → member s (noted rs) ≡ true) → member s (mark b (r .number) m) ≡ true → member s (noted (r ∷ rs)) ≡ true
+mark-sub : (b : Bool) (r : Noted) (m : List ℕ) (rs : List Noted) (s : ℕ) → (member s m ≡ true → member s (noted rs) ≡ true)
+    → member s (mark b (r .number) m) ≡ true → member s (noted (r ∷ rs)) ≡ true
 unfolding mark noted member
 mark-sub true r m rs s h e = or-map (eqb s (r .number)) (member s m) (member s (noted rs)) h e
 mark-sub false r m rs s h e = or-r (eqb s (r .number)) (member s (noted rs)) (h e)
@@ -72,7 +73,8 @@ reached-sweep f (r ∷ rs) u v =
     (reached-step m r rs (false-of _ (λ t. clash (reached-sub f rs (r .number) t) fresh)) fresh (f r || any (λ s. member s m) (r .sources)))
 
 -- ---- a row is reached if f holds of it, or a source of it is reached
-reached-left : (f : Noted → Bool) (rs : List Noted) → rising rs ≡ true → sourced rs ≡ true → (n : ℕ) → member n (noted rs) ≡ true → member n (noted (sweep f rs)) ≡ not (member n (reached f rs))
+reached-left : (f : Noted → Bool) (rs : List Noted) → rising rs ≡ true → sourced rs ≡ true → (n : ℕ) → member n (noted rs) ≡ true
+    → member n (noted (sweep f rs)) ≡ not (member n (reached f rs))
 reached-left f rs u v n t = rw (← reached-sweep f rs u v, leaves-member (reached f rs) rs n, t) refl
 
 not-same : (a b : Bool) → not a ≡ not b → a ≡ b
@@ -89,7 +91,8 @@ reached-eq f rs u v n t =
     sym (reached-left f rs u v n t) ∙ sweep-eq f rs u v n t
     ∙ ap (λ b. not (f (notedOf rs n)) && b)
     (
-    all-eq-on (λ s. member s (noted rs)) (λ s. member s (noted (sweep f rs))) (λ s. not (member s (reached f rs))) (λ s h. reached-left f rs u v s h) (notedOf rs n .sources) (sourced-at rs v n)
+    all-eq-on (λ s. member s (noted rs)) (λ s. member s (noted (sweep f rs))) (λ s. not (member s (reached f rs))) (λ s h. reached-left f rs u v s h)
+    (notedOf rs n .sources) (sourced-at rs v n)
     ∙ all-not (reached f rs) (notedOf rs n .sources)
     )
     ∙ de-morgan (f (notedOf rs n)) (any (λ s. member s (reached f rs)) (notedOf rs n .sources))
@@ -120,7 +123,8 @@ module _ (h : History) (fit : Fit h) (q : ℕ) (isNumber : 0 < q) where
   unfolding IsSource
   comes = by-sources h (λ n. member n (reached bearing (h .rows)) ≡ true → ComesFrom h q n) step fit
     where
-      step : (n : ℕ) → IsNoted h n → ((s : ℕ) → IsSource h s n → member s (reached bearing (h .rows)) ≡ true → ComesFrom h q s) → member n (reached bearing (h .rows)) ≡ true → ComesFrom h q n
+      step : (n : ℕ) → IsNoted h n → ((s : ℕ) → IsSource h s n → member s (reached bearing (h .rows)) ≡ true → ComesFrom h q s)
+          → member n (reached bearing (h .rows)) ≡ true → ComesFrom h q n
       step n t ih e =
           ⊎-elim (λ b. bears n isNumber (eqb-true _ q b))
           (λ a. let w = some-in (reached bearing (h .rows)) (notedOf (h .rows) n .sources) a in bySource n (w .one) (w .is) (ih (w .one) (w .is) (not-f _ (w .fails))))
@@ -129,7 +133,8 @@ module _ (h : History) (fit : Fit h) (q : ℕ) (isNumber : 0 < q) where
   came : {n : ℕ} → ComesFrom h q n → member n (reached bearing (h .rows)) ≡ true
   came (bears n p e) = reached-at n (bears-noted n e) ∙ or-l (bearing (notedOf (h .rows) n)) _ (eq-eqb _ q e)
   came (bySource n s i c) =
-      reached-at n (has-source n s i) ∙ or-r (bearing (notedOf (h .rows) n)) _ (any-at (λ s. member s (reached bearing (h .rows))) (notedOf (h .rows) n .sources) s (unfold IsSource in i) (came c))
+      reached-at n (has-source n s i)
+      ∙ or-r (bearing (notedOf (h .rows) n)) _ (any-at (λ s. member s (reached bearing (h .rows))) (notedOf (h .rows) n .sources) s (unfold IsSource in i) (came c))
 
 comes-from : (h : History) → Fit h → (q n : ℕ) → 0 < q → (member n (reached (λ r. eqb (r .request) q) (h .rows)) ≡ true) ↔ ComesFrom h q n
 unfolding IsNoted
@@ -156,7 +161,9 @@ revoke-spoils q p h r =
 module _ (h : History) (fit : Fit h) where
   -- of the rows that stand, those reached are taken by one more sweep
   sweep-standing : (f : Noted → Bool) (n : ℕ) → stands h n ≡ true → member n (noted (sweep (λ x. spoiled h x || f x) (h .rows))) ≡ not (member n (reached f (h .rows)))
-  sweep-standing f n t = by-sources h (λ n. stands h n ≡ true → member n (noted (sweep (λ x. spoiled h x || f x) (h .rows))) ≡ not (member n (reached f (h .rows)))) step fit n (stands-noted h fit n t) t
+  sweep-standing f n t =
+      by-sources h (λ n. stands h n ≡ true → member n (noted (sweep (λ x. spoiled h x || f x) (h .rows))) ≡ not (member n (reached f (h .rows)))) step fit n
+      (stands-noted h fit n t) t
     where
       step : (n : ℕ) → IsNoted h n → ((s : ℕ) → IsSource h s n → stands h s ≡ true → member s (noted (sweep (λ x. spoiled h x || f x) (h .rows))) ≡ not (member s (reached f (h .rows))))
           → stands h n ≡ true → member n (noted (sweep (λ x. spoiled h x || f x) (h .rows))) ≡ not (member n (reached f (h .rows)))
@@ -166,7 +173,8 @@ module _ (h : History) (fit : Fit h) where
           ∙ ap (λ b. not (b || f r) && all (λ s. member s (noted (sweep (λ x. spoiled h x || f x) (h .rows)))) (r .sources)) (stands-whole h fit n e)
           ∙ ap (λ b. not (f r) && b)
           (
-          all-eq-in (λ s. member s (noted (sweep (λ x. spoiled h x || f x) (h .rows)))) (λ s. not (member s (reached f (h .rows)))) (r .sources) (λ s i. unfold IsSource in ih s i (stands-source h fit n s e i))
+          all-eq-in (λ s. member s (noted (sweep (λ x. spoiled h x || f x) (h .rows)))) (λ s. not (member s (reached f (h .rows)))) (r .sources)
+          (λ s i. unfold IsSource in ih s i (stands-source h fit n s e i))
           ∙ all-not (reached f (h .rows)) (r .sources)
           )
           ∙ de-morgan (f r) (any (λ s. member s (reached f (h .rows))) (r .sources)) ∙ ap not (sym (reached-eq f (h .rows) (fit .rows-rise) (fit .sources-older) n (unfold IsNoted in t)))

@@ -99,7 +99,8 @@ along-call : (h : History) (w : Replied) → Along h w → (l : List ℕ) → Al
 unfolding replyWith
 along-call h w a l =
     let o = callOn (a .st) l in
-    let q : callEntry (w .tables) (w .processes) l ≡ replyWith (printed (o .answer)) (o .after) = ap (λ x. callEntry (x .tables) (x .processes) l) (a .is) ∙ call-on-words (a .reply) (a .st) (a .sound) l in
+    let q : callEntry (w .tables) (w .processes) l ≡ replyWith (printed (o .answer)) (o .after) =
+    ap (λ x. callEntry (x .tables) (x .processes) l) (a .is) ∙ call-on-words (a .reply) (a .st) (a .sound) l in
     let k = step h (a .st) (a .sound) (a .inv) (a .lends) l in
     record {
       reply = printed (o .answer);

@@ -8,7 +8,7 @@ use Rattle.rows.specs.declared.Row.{Row}
 use Rattle.rows.specs.declared.Request.{Request}
 use Rattle.rows.specs.Lists.{if_then_else_, filter, all, topOf, some, nonzero}
 use Rattle.rows.specs.Codes.{isEnd}
-use Rattle.rows.specs.Tables.{State, rowOf, processAt, isListed, sources}
+use Rattle.rows.specs.Tables.{State, rowOf, processAt, isListed, sources, goesBack}
 use Rattle.calls.specs.declared.Call.{Call}
 use Rattle.calls.specs.declared.Answer.{Answer}
 use Rattle.calls.specs.Answers.{refusalOf, valuesOf}
@@ -57,10 +57,11 @@ pub record Inv (h : History) (st : State) : Type 0 where
   pub closed-below : below (st .next) (h .closedRequests) ≡ true
   pub went-below : (p : ℕ) → lastGo (h .went) p < st .next
 
--- the ends that the requests of the tables list, newest request first
+-- the ends that a request of the tables lists: they go back when it closes
 unfoldable pub endsListed : List Row → Request → List ℕ
-endsListed rs v = filter (λ e. isEnd (rowOf rs e .kind)) (nonzero (v .items))
+endsListed rs v = filter (λ e. goesBack (rowOf rs e)) (nonzero (v .items))
 
+-- newest request first
 unfoldable pub loansIn : List Row → List Request → List OnLoan
 loansIn rs [] = []
 loansIn rs (v ∷ vs) = map (λ e. record { request = v .number; lent = e }) (endsListed rs v) ++ loansIn rs vs

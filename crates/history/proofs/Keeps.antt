@@ -50,7 +50,8 @@ settled-inv h st i =
     }
 
 -- nor at what the view does not see of the tables
-pub seen-inv : (h : History) (st st′ : State) → map view (st′ .rows) ≡ map view (st .rows) → map ofRequest (st′ .requests) ≡ map ofRequest (st .requests) → st′ .processes ≡ st .processes → st′ .next ≡ st .next
+pub seen-inv : (h : History) (st st′ : State) → map view (st′ .rows) ≡ map view (st .rows) → map ofRequest (st′ .requests) ≡ map ofRequest (st .requests)
+    → st′ .processes ≡ st .processes → st′ .next ≡ st .next
     → Inv h st → Inv h st′
 seen-inv h st st′ r v p n i =
     record {

@@ -177,7 +177,8 @@ lines-sound w e [] = e
 lines-sound w e (l ∷ ls) = lines-sound (callEntry (w .tables) (w .processes) l) (called-kept (w .tables) (w .processes) l e) ls
 
 -- a call on the words of a sound state is the call on the state
-pub call-on-words : (text : List ℕ) (st : State) → Sound st → (l : List ℕ) → callEntry (replyWith text st .tables) (replyWith text st .processes) l ≡ replyWith (printed (callOn st l .answer)) (callOn st l .after)
+pub call-on-words : (text : List ℕ) (st : State) → Sound st → (l : List ℕ)
+    → callEntry (replyWith text st .tables) (replyWith text st .processes) l ≡ replyWith (printed (callOn st l .answer)) (callOn st l .after)
 unfolding replyWith replyOf
 call-on-words text st s l = call-fits (wordsOf st) (recordsOf (st .processes)) l (sound-words st s) ∙ ap (λ x. replyOf (callOn x l)) (state-words st s)
 
@@ -191,9 +192,11 @@ answers-replied text st s [] = refl
 answers-replied text st s (l ∷ ls) =
     let o = callOn st l in
     ap (λ a. printed (o .answer) ++ a) (answers-replied (printed (o .answer)) (o .after) (call-kept st s l) ls)
-    ∙ sym (ap (λ w. w .reply ++ joined (repliesTo w ls)) (call-on-words text st s l) ∙ ap (λ r. r ++ joined (repliesTo (replyWith (printed (o .answer)) (o .after)) ls)) (reply-text (printed (o .answer)) (o .after)))
+    ∙ sym (ap (λ w. w .reply ++ joined (repliesTo w ls)) (call-on-words text st s l)
+    ∙ ap (λ r. r ++ joined (repliesTo (replyWith (printed (o .answer)) (o .after)) ls)) (reply-text (printed (o .answer)) (o .after)))
 
-session-is : (t p input : List ℕ) → rightLengths t p ≡ true → (fs : List Form) (ls : List (List ℕ)) → openingOf (linesOf input) ≡ opens fs ls → session input ≡ openEntry t p input .reply ++ joined (repliesTo (openEntry t p input) ls)
+session-is : (t p input : List ℕ) → rightLengths t p ≡ true → (fs : List Form) (ls : List (List ℕ)) → openingOf (linesOf input) ≡ opens fs ls
+    → session input ≡ openEntry t p input .reply ++ joined (repliesTo (openEntry t p input) ls)
 unfolding session sessionOf openedBy
 session-is t p input l fs ls e =
     ap sessionOf e ∙ ap (λ a. okText (0 ∷ []) ++ a) (answers-replied (okText (0 ∷ [])) (stateOpened fs) (opened-sound (linesOf input) ls fs e) ls)

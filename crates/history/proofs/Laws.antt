@@ -78,13 +78,19 @@ node-bears-none vs rs r (lent-copy h) e = clash e (not-t (isNode (r .place)) (se
 
 module _ (st : State) (s : Sound st) (n : ℕ) (e : isNode (rowOf (st .rows) n .place) ≡ true) (t : member n (numbers (st .rows)) ≡ true) where
   -- no closing removes it, if no row in a node is a seed
-  closing-stays : (seed : Row → Bool) (qs : List ℕ) → ((k : ℕ) → member k (numbers (st .rows)) ≡ true → isNode (rowOf (st .rows) k .place) ≡ true → seed (rowOf (st .rows) k) ≡ false) → member n (numbers (closing seed qs st .rows)) ≡ true
+  closing-stays : (seed : Row → Bool) (qs : List ℕ)
+      → ((k : ℕ) → member k (numbers (st .rows)) ≡ true → isNode (rowOf (st .rows) k .place) ≡ true → seed (rowOf (st .rows) k) ≡ false)
+      → member n (numbers (closing seed qs st .rows)) ≡ true
   unfolding closing
-  closing-stays seed qs h = left-keys (marked seed (st .rows)) (closes qs (marked seed (st .rows))) st n ∙ ap (λ b. b && not (member n (marked seed (st .rows)))) t ∙ ap not (nodes-stay st (s .numbers) (s .rows) seed h n e)
+  closing-stays seed qs h =
+      left-keys (marked seed (st .rows)) (closes qs (marked seed (st .rows))) st n ∙ ap (λ b. b && not (member n (marked seed (st .rows)))) t
+      ∙ ap not (nodes-stay st (s .numbers) (s .rows) seed h n e)
 
   request-stays : (q : ℕ) → some q ≡ true → member n (numbers (closeRequest q st .rows)) ≡ true
   unfolding closeRequest bears
-  request-stays q z = closing-stays (bears q) (q ∷ []) (λ k u f. ne-eqb (rowOf (st .rows) k .request) q (λ w. let b = node-bears-none (st .requests) (st .rows) (rowOf (st .rows) k) (standing-shape st (s .numbers) (s .rows) k u) f in let l = some-pos q z in omega arith))
+  request-stays q z =
+      closing-stays (bears q) (q ∷ [])
+      (λ k u f. ne-eqb (rowOf (st .rows) k .request) q (λ w. let b = node-bears-none (st .requests) (st .rows) (rowOf (st .rows) k) (standing-shape st (s .numbers) (s .rows) k u) f in let l = some-pos q z in omega arith))
 
   port-stays : (c : ℕ) → member n (numbers (closePort c st .rows)) ≡ true
   unfolding closePort isEndOf

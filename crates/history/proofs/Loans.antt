@@ -55,7 +55,8 @@ unfolding loansLeft
 left-closed h q [] older c = refl
 left-closed h q (e ∷ es) older c = rw (stays-closed h q e (map (λ e. record { request = q; lent = e }) es ++ older) c) (left-closed h q es older c)
 
-pub left-open : (h : History) (q : ℕ) (es : List ℕ) (older : List OnLoan) → closedNumber h q ≡ false → loansLeft h (block q es ++ older) ≡ block q (filter (staysLent h older) es) ++ loansLeft h older
+pub left-open : (h : History) (q : ℕ) (es : List ℕ) (older : List OnLoan) → closedNumber h q ≡ false
+    → loansLeft h (block q es ++ older) ≡ block q (filter (staysLent h older) es) ++ loansLeft h older
 unfolding loansLeft filter staysLent
 left-open h q [] older c = refl
 left-open h q (e ∷ es) older c = rw (same-stays) (pick (left-open h q es older c) (staysLent h older e))
@@ -129,12 +130,17 @@ module _ (h : History) (st : State) (i : Inv h st) where
       left-open h (v .number) (endsListed (st .rows) v) older (not-t (closedNumber h (v .number)) (and-l (not (closedNumber h (v .number))) _ c))
       ∙ rw (stay vs rest v, all-left vs rest) refl
     where
-      stay : (vs : List Request) → all (λ v. not (closedNumber h (v .number))) vs ≡ true → (v : Request) → filter (staysLent h (loansIn (st .rows) vs)) (endsListed (st .rows) v) ≡ endsListed (st .rows) v
-      stay vs rest v = unfold endsListed staysLent in filter-filter (λ e. stands h e && not (shut h (loansIn (st .rows) vs) e)) (λ e. isEnd (rowOf (st .rows) e .kind)) (λ e. isEnd (rowOf (st .rows) e .kind)) (λ e. stays (isEnd (rowOf (st .rows) e .kind)) e refl) (nonzero (v .items))
+      stay : (vs : List Request) → all (λ v. not (closedNumber h (v .number))) vs ≡ true → (v : Request)
+          → filter (staysLent h (loansIn (st .rows) vs)) (endsListed (st .rows) v) ≡ endsListed (st .rows) v
+      stay vs rest v =
+          unfold endsListed staysLent in filter-filter (λ e. stands h e && not (shut h (loansIn (st .rows) vs) e)) (λ e. isEnd (rowOf (st .rows) e .kind))
+          (λ e. isEnd (rowOf (st .rows) e .kind)) (λ e. stays (isEnd (rowOf (st .rows) e .kind)) e refl) (nonzero (v .items))
         where
           stays : (b : Bool) (e : ℕ) → isEnd (rowOf (st .rows) e .kind) ≡ b → b ≡ b && (stands h e && not (shut h (loansIn (st .rows) vs) e))
           stays true e t = rw (end-stands e t, none-shut vs rest e) refl
           stays false e t = refl
 
   pub nothing-settles : loansLeft h (loansIn (st .rows) (st .requests)) ≡ loansIn (st .rows) (st .requests)
-  nothing-settles = all-left (st .requests) (all-keys (λ v. v .number) (λ n. not (closedNumber h n)) (st .requests) (λ n t. and-r (member n (map (λ v. v .number) (h .requests))) _ (sym (open-numbers n) ∙ t)))
+  nothing-settles =
+      all-left (st .requests)
+      (all-keys (λ v. v .number) (λ n. not (closedNumber h n)) (st .requests) (λ n t. and-r (member n (map (λ v. v .number) (h .requests))) _ (sym (open-numbers n) ∙ t)))

@@ -17,22 +17,15 @@ use Rattle.tables.proofs.Sound.{Sound}
 use Rattle.rows.proofs.Lists.{all-append, filter-same}
 use Rattle.tables.proofs.SoundFacts.{row-below}
 use Rattle.calls.specs.declared.Item.{Item}
-use Rattle.calls.specs.declared.Items.{Items}
-use Rattle.calls.specs.declared.Call.the-variants.{Ask}
 use Rattle.calls.specs.Rules.{notHeld, copyOf}
-use Rattle.calls.specs.Loans.{itemsOf, itemRow, moves, copyLent, Lending, toSystem, lendEnd, lendCopy, lendItem, lendItems, lent, newRequest, withRequest}
-use Rattle.calls.specs.Calls.{effect}
-use Rattle.kept.proofs.Allowed.{AskAllowed}
+use Rattle.calls.specs.Loans.{itemRow, moves, copyLent, Lending, toSystem, lendEnd, lendCopy, lendItem, lendItems, lent, newRequest, withRequest}
 use Rattle.kept.proofs.Stand.{held-there}
 use Rattle.kept.proofs.AskList.{nonzero-pad}
 use Rattle.kept.proofs.Moved.{moved, kind-same}
 use Rattle.history.specs.History.{History}
 use Rattle.history.specs.Notes.{isEndNoted, endsNamed, noteAsk}
-use Rattle.history.specs.Reading.{itemsNamed, noteCall}
 use Rattle.history.proofs.Inv.{Inv, Lends, endsListed, loansIn}
-use Rattle.history.proofs.Keeps.{Keeps}
 use Rattle.history.proofs.Find.{end-noted}
-use Rattle.history.proofs.LoansKept.{LendsAfter, taken-made, calm}
 use Rattle.history.proofs.LoansAdd.{kinds-same}
 
 -- ---- lists
@@ -90,7 +83,8 @@ module _ (st : State) (s : Sound st) (c v : ℕ) (x : Item) (l : Lending) (es : 
         low = all-append (λ e. ltb e (l .next)) (l .items) (x .row ∷ []) (j .low) (unfold all in rw (lt-ltb (x .row) (l .next) (omega arith)) refl);
         ends =
             ap (λ f. filter f (filter some (l .items ++ (x .row ∷ [])))) (fun-ext (λ e. ap isEnd (same e)))
-            ∙ ap (filter (λ e. isEnd (rowOf (l .rows) e .kind))) (filter-append some (l .items) (x .row ∷ []) ∙ ap (λ ns. filter some (l .items) ++ ns) (filter-one some (x .row) (pos-some (x .row) lo)))
+            ∙ ap (filter (λ e. isEnd (rowOf (l .rows) e .kind)))
+            (filter-append some (l .items) (x .row ∷ []) ∙ ap (λ ns. filter some (l .items) ++ ns) (filter-one some (x .row) (pos-some (x .row) lo)))
             ∙ filter-append (λ e. isEnd (rowOf (l .rows) e .kind)) (filter some (l .items)) (x .row ∷ [])
             ∙ rw (j .ends, filter-one (λ e. isEnd (rowOf (l .rows) e .kind)) (x .row) end) refl;
       }
@@ -108,13 +102,17 @@ module _ (st : State) (s : Sound st) (c v : ℕ) (x : Item) (l : Lending) (es : 
       record {
         more = omega arith;
         old = λ k lt. ap (λ y. y .kind) (old k (omega arith)) ∙ j .old k lt;
-        low = all-append (λ e. ltb e (suc (l .next))) (l .items) (l .next ∷ []) (all-mono (λ e. ltb e (l .next)) (λ e. ltb e (suc (l .next))) (λ e w. let lt = ltb-true e (l .next) w in lt-ltb e (suc (l .next)) (omega arith)) (l .items) (j .low))
+        low =
+            all-append (λ e. ltb e (suc (l .next))) (l .items) (l .next ∷ [])
+            (all-mono (λ e. ltb e (l .next)) (λ e. ltb e (suc (l .next))) (λ e w. let lt = ltb-true e (l .next) w in lt-ltb e (suc (l .next)) (omega arith)) (l .items) (j .low))
             (unfold all in rw (lt-ltb (l .next) (suc (l .next)) (omega arith)) refl);
         ends =
-            ap (filter (λ e. isEnd (rowOf (r ∷ l .rows) e .kind))) (filter-append some (l .items) (l .next ∷ []) ∙ ap (λ ns. filter some (l .items) ++ ns) (filter-one some (l .next) (pos-some (l .next) (omega arith))))
+            ap (filter (λ e. isEnd (rowOf (r ∷ l .rows) e .kind)))
+            (filter-append some (l .items) (l .next ∷ []) ∙ ap (λ ns. filter some (l .items) ++ ns) (filter-one some (l .next) (pos-some (l .next) (omega arith))))
             ∙ filter-append (λ e. isEnd (rowOf (r ∷ l .rows) e .kind)) (filter some (l .items)) (l .next ∷ [])
             ∙ rw (filter-none (λ e. isEnd (rowOf (r ∷ l .rows) e .kind)) (l .next) new) (append-nil (filter (λ e. isEnd (rowOf (r ∷ l .rows) e .kind)) (filter some (l .items))))
-            ∙ filter-same (λ e. ltb e (l .next)) (λ e. isEnd (rowOf (r ∷ l .rows) e .kind)) (λ e. isEnd (rowOf (l .rows) e .kind)) (λ e w. ap (λ y. isEnd (y .kind)) (old e (ltb-true e (l .next) w))) (filter some (l .items)) items
+            ∙ filter-same (λ e. ltb e (l .next)) (λ e. isEnd (rowOf (r ∷ l .rows) e .kind)) (λ e. isEnd (rowOf (l .rows) e .kind))
+            (λ e w. ap (λ y. isEnd (y .kind)) (old e (ltb-true e (l .next) w))) (filter some (l .items)) items
             ∙ j .ends;
       }
 
@@ -142,17 +140,13 @@ module _ (h : History) (st : State) (i : Inv h st) (l : Lends h st) (s : Sound s
       ap (map (λ x. x .row))
       (filter-same (λ x. not (notHeld st p (x .row))) (moves st) (isEndNoted (h .rows)) (λ x t. sym (end-noted h st i s x (held-there st p (x .row) (not-t (notHeld st p (x .row)) t)))) xs e)
 
-  asked-loans : (p c : ℕ) (xs : List Item) → all (λ x. not (notHeld st p (x .row))) xs ≡ true
+  pub asked-loans : (p c : ℕ) (xs : List Item) → all (λ x. not (notHeld st p (x .row))) xs ≡ true
       → loansIn (withRequest st p c xs .rows) (withRequest st p c xs .requests) ≡ noteAsk p c xs (st .next) h .loans
   unfolding withRequest newRequest loansIn endsListed lent noteAsk
   asked-loans p c xs e =
       let m = lendItems st c (st .next) xs (record { rows = st .rows; items = []; next = suc (st .next) }) in
       let j : Lent st m (map (λ x. x .row) (filter (moves st) xs)) = lent-all st s p c (st .next) xs e (record { rows = st .rows; items = []; next = suc (st .next) }) [] (begun) in
-      rw (nonzero-pad mostItems (m .items), j .ends, named-ends p xs e, kinds-same st s (m .rows) (λ k t. j .old k (row-below st (s .numbers) k t .1)), l .lends) refl
+      rw (nonzero-pad mostItems (m .items), j .ends, named-ends p xs e, kinds-same (st .rows) (m .rows) (λ k t. j .old k (row-below st (s .numbers) k t .1)) (st .requests) (s .loans .items-lent), l .lends) refl
     where
       begun : Lent st (record { rows = st .rows; items = []; next = suc (st .next) }) []
       begun = record { more = omega arith; old = λ k lt. refl; low = unfold all in refl; ends = unfold nonzero filter in refl }
-
-  pub ask-lends : (p c : ℕ) (is : Items) → AskAllowed st p c (itemsOf is) → Keeps h (Ask p c is) (effect st (Ask p c is)) → LendsAfter h (Ask p c is) (effect st (Ask p c is))
-  unfolding effect noteCall itemsNamed itemsOf
-  ask-lends p c is a k = taken-made _ _ k (λ i. calm _ _ i (asked-loans p c (itemsOf is) (a .held)))

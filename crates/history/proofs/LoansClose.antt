@@ -20,14 +20,10 @@ use Rattle.rows.proofs.Agree.{keys-kept}
 use Rattle.closing.specs.Closing.{listedIn, leaves, trimmed, remaining, settled, closes, closing, closeRequest, isEndOf, closePort, isRow, dropRow}
 use Rattle.rows.specs.Setters.{withPlace}
 use Rattle.closing.proofs.Lookups.{remaining-keys, returned-keeps, left-keys, row-after}
-use Rattle.calls.specs.declared.Call.the-variants.{Drop, Close, Reply, Refuse, Revoke}
-use Rattle.calls.specs.Calls.{effect}
 use Rattle.history.specs.History.{History}
-use Rattle.history.specs.Notes.{stands, loansLeft, noteDrop, noteClose, noteRevoke, noteEnd}
-use Rattle.history.specs.Reading.{noteCall}
+use Rattle.history.specs.Notes.{stands, loansLeft, noteDrop, noteClose, noteRevoke}
 use Rattle.history.proofs.Inv.{Inv, Lends, endsListed, loansIn}
-use Rattle.history.proofs.Keeps.{Keeps}
-use Rattle.history.proofs.LoansKept.{LendsAfter, taken-done, Settles}
+use Rattle.history.proofs.LoansKept.{Settles}
 use Rattle.history.proofs.Find.{in-tables}
 use Rattle.history.proofs.Loans.{closedNumber, shut, staysLent, left-closed, left-open, shut-first, end-listed, open-numbers}
 
@@ -139,26 +135,14 @@ module _ (h : History) (st : State) (i : Inv h st) (l : Lends h st) (s : Sound s
       let g = marked seed (st .rows) in settled-settles h h′ st g (closes qs g) i (s .numbers .requests-rise) i′ asked l same
 
   -- request v of the tables is closed, and q is noted as closed
-  request-settles : (q v : ℕ) → Inv (noteRevoke q h) (closeRequest v st) → Settles (noteRevoke q h) (closeRequest v st)
+  pub request-settles : (q v : ℕ) → Inv (noteRevoke q h) (closeRequest v st) → Settles (noteRevoke q h) (closeRequest v st)
   unfolding noteRevoke closeRequest
   request-settles q v = closing-settles (noteRevoke q h) (bears v) (v ∷ []) refl refl
 
-  pub drop-lends : (p e : ℕ) → Keeps h (Drop p e) (effect st (Drop p e)) → LendsAfter h (Drop p e) (effect st (Drop p e))
-  unfolding effect noteCall
-  drop-lends p e k = taken-done _ k (unfold noteDrop dropRow in closing-settles (noteDrop e h) (isRow e) [] refl refl)
+  pub drop-settles : (e : ℕ) → Inv (noteDrop e h) (dropRow e st) → Settles (noteDrop e h) (dropRow e st)
+  unfolding noteDrop dropRow
+  drop-settles e = closing-settles (noteDrop e h) (isRow e) [] refl refl
 
-  pub close-lends : (p c : ℕ) → Keeps h (Close p c) (effect st (Close p c)) → LendsAfter h (Close p c) (effect st (Close p c))
-  unfolding effect noteCall
-  close-lends p c k = taken-done _ k (unfold noteClose closePort in closing-settles (noteClose c h) (isEndOf c) [] refl refl)
-
-  pub reply-lends : (p e : ℕ) → Keeps h (Reply p e) (effect st (Reply p e)) → LendsAfter h (Reply p e) (effect st (Reply p e))
-  unfolding effect noteCall noteEnd
-  reply-lends p e k = taken-done _ k (request-settles _ _)
-
-  pub refuse-lends : (p e : ℕ) → Keeps h (Refuse p e) (effect st (Refuse p e)) → LendsAfter h (Refuse p e) (effect st (Refuse p e))
-  unfolding effect noteCall noteEnd
-  refuse-lends p e k = taken-done _ k (request-settles _ _)
-
-  pub revoke-lends : (p q : ℕ) → Keeps h (Revoke p q) (effect st (Revoke p q)) → LendsAfter h (Revoke p q) (effect st (Revoke p q))
-  unfolding effect noteCall
-  revoke-lends p q k = taken-done _ k (request-settles q q)
+  pub close-settles : (c : ℕ) → Inv (noteClose c h) (closePort c st) → Settles (noteClose c h) (closePort c st)
+  unfolding noteClose closePort
+  close-settles c = closing-settles (noteClose c h) (isEndOf c) [] refl refl

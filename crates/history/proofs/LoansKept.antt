@@ -45,7 +45,8 @@ abbrev pub Settles : History → State → Type 0
 Settles h st = loansIn (st .rows) (st .requests) ≡ loansLeft h (h .loans)
 
 -- an accepted call
-pub taken : {h : History} {c : Call} (o : Out) (n : ℕ) → refusalOf (o .answer) ≡ 0 → firstValue (valuesOf (o .answer)) ≡ n → Keeps h c o → (Inv (noteCall c n h) (o .after) → Settles (noteCall c n h) (o .after)) → LendsAfter h c o
+pub taken : {h : History} {c : Call} (o : Out) (n : ℕ) → refusalOf (o .answer) ≡ 0 → firstValue (valuesOf (o .answer)) ≡ n → Keeps h c o
+    → (Inv (noteCall c n h) (o .after) → Settles (noteCall c n h) (o .after)) → LendsAfter h c o
 unfolding noteAnswer
 taken {h} {c} o n z e i f = record { after = rw (z, e) (record { lends = unfold loansSettled in f (unsettled-inv (noteCall c n h) (o .after) (rw (z, e) at (i .inv))) }) }
 

@@ -114,4 +114,6 @@ module _ (text : List ℕ) (fs : List Form) (rest : List (List ℕ)) (e : openin
   begun-inv = subst (λ h. Inv h (stateOpened fs)) (sym begun-is) with-rows
 
   pub begun-lends : Lends (begun text) (stateOpened fs)
-  begun-lends = subst (λ h. Lends h (stateOpened fs)) (sym begun-is) (record { lends = unfold stateOpened begunWith loansIn in (ap (λ vs. loansIn (openedFrom empty fs .rows) vs) (opened-requests fs)) })
+  begun-lends =
+      subst (λ h. Lends h (stateOpened fs)) (sym begun-is)
+      (record { lends = unfold stateOpened begunWith loansIn in (ap (λ vs. loansIn (openedFrom empty fs .rows) vs) (opened-requests fs)) })

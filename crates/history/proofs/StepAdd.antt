@@ -15,17 +15,14 @@ use Rattle.tables.proofs.Sound.{Sound}
 use Rattle.rows.proofs.RowSources.{node-there}
 use Rattle.tables.proofs.SoundFacts.{row-below}
 use Rattle.rows.specs.Sound.{isHeld}
-use Rattle.calls.specs.declared.Call.the-variants.{Hold, Register, Port}
 use Rattle.calls.specs.Rules.{withNewRows, copyOf}
-use Rattle.calls.specs.Calls.{portDepth, withHeld, withRegistered, portEnd, withPort, effect}
+use Rattle.calls.specs.Calls.{portDepth, withHeld, withRegistered, portEnd, withPort}
 use Rattle.kept.proofs.Hold.{was-held}
-use Rattle.kept.proofs.Allowed.{HoldAllowed, RegisterAllowed, PortAllowed}
+use Rattle.kept.proofs.Allowed.{HoldAllowed, RegisterAllowed}
 use Rattle.history.specs.History.{History}
 use Rattle.history.specs.Notes.{notedOf, stands, lastGo, addRow, heldSources, noteHold, firstOnly, noteRegister, notePort}
-use Rattle.history.specs.Reading.{noteCall}
 use Rattle.history.proofs.Fit.{isEmpty, bearsWell, endsWell}
 use Rattle.history.proofs.Inv.{Inv, view, throughNow}
-use Rattle.history.proofs.Keeps.{Keeps, taken-made}
 use Rattle.history.proofs.Added.{newNoted, FitsNew, not-below, add-row, stands-same}
 use Rattle.history.proofs.Sweep.{noted-here, noted-other}
 use Rattle.history.proofs.Find.{row-stands, row-noted, stands-low, node-no-end}
@@ -61,7 +58,8 @@ module _ (h : History) (p s : ℕ) where
   unfolding throughNow heldSources nonzero filter
   held-sources lo = rw (pos-some s lo) (pick (some (lastGo (h .went) p) && stands h (lastGo (h .went) p)) refl)
     where
-      pick : (b : Bool) → some (lastGo (h .went) p) && stands h (lastGo (h .went) p) ≡ b → s ∷ filter some (cond b (lastGo (h .went) p) 0 ∷ []) ≡ cond b (s ∷ lastGo (h .went) p ∷ []) (s ∷ [])
+      pick : (b : Bool) → some (lastGo (h .went) p) && stands h (lastGo (h .went) p) ≡ b
+          → s ∷ filter some (cond b (lastGo (h .went) p) 0 ∷ []) ≡ cond b (s ∷ lastGo (h .went) p ∷ []) (s ∷ [])
       pick true q = rw (and-l (some (lastGo (h .went) p)) _ q) refl
       pick false q = unfold some in refl
 
@@ -105,7 +103,7 @@ server-fits h n e =
     record { sources-there = refl; bears = refl; ends = rw (client, eqb-self (suc n), eqb-self n, eqb-self e, or-r (eqb (suc n) n) true refl) (or-r (not (some n)) true refl) }
 
 module _ (h : History) (st : State) (i : Inv h st) (s : Sound st) where
-  held-inv : (p e : ℕ) → HoldAllowed st p e → Inv (noteHold p e (st .next) h) (withHeld st p e)
+  pub held-inv : (p e : ℕ) → HoldAllowed st p e → Inv (noteHold p e (st .next) h) (withHeld st p e)
   unfolding noteHold withHeld
   held-inv p e a =
       let t = a .there in
@@ -123,7 +121,7 @@ module _ (h : History) (st : State) (i : Inv h st) (s : Sound st) where
   unfolding isHeld
   held-source p e a = let h = was-held st s p e a in node-there (st .rows) (rowOf (st .rows) e .source) (search (and-l, and-r))
 
-  registered-inv : (p e : ℕ) → RegisterAllowed st p e → Inv (noteRegister e (st .next) h) (withRegistered st p e)
+  pub registered-inv : (p e : ℕ) → RegisterAllowed st p e → Inv (noteRegister e (st .next) h) (withRegistered st p e)
   unfolding noteRegister withRegistered
   registered-inv p e r =
       let a = rowOf (st .rows) e .source in
@@ -135,7 +133,7 @@ module _ (h : History) (st : State) (i : Inv h st) (s : Sound st) where
       (unfold isEmpty in refl) (one-stands h a (row-stands h st i a up)))
 
   -- ---- port
-  port-inv : (p e : ℕ) → member e (numbers (st .rows)) ≡ true → Inv (notePort e (st .next) h) (withPort st p e)
+  pub port-inv : (p e : ℕ) → member e (numbers (st .rows)) ≡ true → Inv (notePort e (st .next) h) (withPort st p e)
   unfolding notePort withPort withNewRows addRow
   port-inv p e t =
       let n = st .next in
@@ -145,20 +143,8 @@ module _ (h : History) (st : State) (i : Inv h st) (s : Sound st) where
       let cn : some n && member n (h .closedPorts) ≡ false = and-rf (some n) (member n (h .closedPorts)) (not-below n (h .closedPorts) (i .ports-below)) in
       let client = portEnd clientEnd n n (inClist p) e d in
       let h₁ = addRow n (e ∷ []) 0 n h in
-      let i₁ : Inv h₁ (withNewRows (client ∷ st .rows) (suc n) st) = add-row h st client (e ∷ []) 0 n i (client-view n (inClist p) e d lo) (one-stands h e up) (unfold some in refl) cn (client-fits h n e) in
+      let i₁ : Inv h₁ (withNewRows (client ∷ st .rows) (suc n) st) =
+      add-row h st client (e ∷ []) 0 n i (client-view n (inClist p) e d lo) (one-stands h e up) (unfold some in refl) cn (client-fits h n e) in
       let up₁ : stands h₁ e ≡ true = stands-same h n (e ∷ []) 0 n (not-below n (h .dropped) (i .dropped-below)) (unfold some in refl) cn (one-stands h e up) e (stands-low h st i e up .1) ∙ up in
       add-row h₁ (withNewRows (client ∷ st .rows) (suc n) st) (portEnd serverEnd (suc n) n (inClist (rowOf (st .rows) e .object)) e d) (e ∷ []) 0 n i₁
       (server-view n (inClist (rowOf (st .rows) e .object)) e d lo) (one-stands h₁ e up₁) (unfold some in refl) cn (server-fits h n e)
-
-  -- ---- the calls
-  pub hold-keeps : (p e : ℕ) → HoldAllowed st p e → Keeps h (Hold p e) (effect st (Hold p e))
-  unfolding effect noteCall
-  hold-keeps p e a = taken-made _ _ (held-inv p e a)
-
-  pub register-keeps : (p e : ℕ) → RegisterAllowed st p e → Keeps h (Register p e) (effect st (Register p e))
-  unfolding effect noteCall
-  register-keeps p e a = taken-made _ _ (registered-inv p e a)
-
-  pub port-keeps : (p e : ℕ) → PortAllowed st p e → Keeps h (Port p e) (effect st (Port p e))
-  unfolding effect noteCall
-  port-keeps p e a = taken-made _ _ (port-inv p e (a .row .there))

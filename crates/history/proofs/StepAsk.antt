@@ -16,20 +16,16 @@ use Rattle.tables.proofs.Sound.{Sound}
 use Rattle.tables.proofs.SoundFacts.{row-below}
 use Rattle.rows.specs.Setters.{withPlace}
 use Rattle.calls.specs.declared.Item.{Item}
-use Rattle.calls.specs.declared.Items.{Items}
-use Rattle.calls.specs.declared.Call.the-variants.{Ask}
 use Rattle.calls.specs.Rules.{notHeld, withNewRows}
-use Rattle.calls.specs.Loans.{itemsOf, itemRow, moves, copyDepth, copyLent, Lending, toSystem, lendEnd, lendCopy, lendItem, lendItems, lent, newRequest, withRequest}
-use Rattle.calls.specs.Calls.{effect}
+use Rattle.calls.specs.Loans.{itemRow, moves, copyDepth, copyLent, Lending, toSystem, lendEnd, lendCopy, lendItem, lendItems, lent, newRequest, withRequest}
 use Rattle.kept.proofs.Allowed.{AskAllowed}
 use Rattle.kept.proofs.Stand.{held-there}
 use Rattle.kept.proofs.Moved.{moved, moved-same}
 use Rattle.history.specs.History.{withNoted, withRequests, withLoans, Noted, Loan, OnLoan, History}
 use Rattle.history.specs.Notes.{noted, notedOf, noLoan, loanOf, spoiled, standing, stands, isClosed, openLoans, addRow, endsNamed, copiesNoted, copied, noteAsk}
-use Rattle.history.specs.Reading.{itemsNamed, noteCall}
 use Rattle.history.proofs.Fit.{isEmpty, bearsWell, endsWell, portNoted, Fit}
 use Rattle.history.proofs.Inv.{Inv, view, ofRequest, ofLoan, throughNow}
-use Rattle.history.proofs.Keeps.{seen-inv, Keeps, taken-made}
+use Rattle.history.proofs.Keeps.{seen-inv}
 use Rattle.history.proofs.View.{map-through}
 use Rattle.history.proofs.Added.{newNoted, FitsNew, below-up, not-below, add-row, stands-same}
 use Rattle.history.proofs.Find.{row-stands, row-noted, stands-low, client-port, end-noted}
@@ -167,7 +163,9 @@ module _ (h : History) (st : State) (i : Inv h st) (s : Sound st) (p c : ℕ) (e
   unfolding lendEnd
   lent-end x l rs j =
       record {
-        inv = seen-inv (noting rs (loanBy st p c es) os h) (lending st p c l) (lending st p c (lendEnd x l)) (map-through view (toSystem (x .row)) (system-view (x .row)) (l .rows)) (unfold newRequest ofRequest in refl) refl refl (j .inv);
+        inv =
+            seen-inv (noting rs (loanBy st p c es) os h) (lending st p c l) (lending st p c (lendEnd x l))
+            (map-through view (toSystem (x .row)) (system-view (x .row)) (l .rows)) (unfold newRequest ofRequest in refl) refl refl (j .inv);
         still = j .still;
       }
 
@@ -178,14 +176,22 @@ module _ (h : History) (st : State) (i : Inv h st) (s : Sound st) (p c : ℕ) (e
       let hl = noting rs (loanBy st p c es) os h in
       let a = x .row in
       let older : all (λ k. stands hl k) (a ∷ c ∷ []) ≡ true = two-stand hl a c (j .still a (row-stands h st i a t)) (j .still c (row-stands h st i c there)) in
-      let qn : some (st .next) && member (st .next) (h .closedRequests) ≡ false = and-rf (some (st .next)) (member (st .next) (h .closedRequests)) (not-below (st .next) (h .closedRequests) (i .closed-below)) in
-      let v : view (copyLent st c (st .next) (l .next) x) ≡ newNoted (l .next) (a ∷ c ∷ []) (st .next) 0 = view-copy (itemRow st x) (l .next) (x .rights) withSystem a c (copyDepth st c x) (st .next) end ∙ ap (λ ss. newNoted (l .next) ss (st .next) 0) (two-sources a c (row-below st (s .numbers) a t .0) (row-below st (s .numbers) c there .0)) in
+      let qn : some (st .next) && member (st .next) (h .closedRequests) ≡ false =
+      and-rf (some (st .next)) (member (st .next) (h .closedRequests)) (not-below (st .next) (h .closedRequests) (i .closed-below)) in
+      let v : view (copyLent st c (st .next) (l .next) x) ≡ newNoted (l .next) (a ∷ c ∷ []) (st .next) 0 =
+      view-copy (itemRow st x) (l .next) (x .rights) withSystem a c (copyDepth st c x) (st .next) end
+      ∙ ap (λ ss. newNoted (l .next) ss (st .next) 0) (two-sources a c (row-below st (s .numbers) a t .0) (row-below st (s .numbers) c there .0)) in
       record {
-        inv = seen-inv (noting (newNoted (l .next) (a ∷ c ∷ []) (st .next) 0 ∷ rs) (loanBy st p c es) os h) (withNewRows (copyLent st c (st .next) (l .next) x ∷ l .rows) (suc (l .next)) (lending st p c l)) (lending st p c (lendCopy st c (st .next) x l)) refl (unfold newRequest ofRequest in refl) refl refl
-            (add-row hl (lending st p c l) (copyLent st c (st .next) (l .next) x) (a ∷ c ∷ []) (st .next) 0 (j .inv) v older qn (unfold some in refl) (copy-fits hl (st .next) (l .next) a (loanBy st p c es) (h .requests) refl refl));
+        inv =
+            seen-inv (noting (newNoted (l .next) (a ∷ c ∷ []) (st .next) 0 ∷ rs) (loanBy st p c es) os h)
+            (withNewRows (copyLent st c (st .next) (l .next) x ∷ l .rows) (suc (l .next)) (lending st p c l))
+            (lending st p c (lendCopy st c (st .next) x l)) refl (unfold newRequest ofRequest in refl) refl refl
+            (add-row hl (lending st p c l) (copyLent st c (st .next) (l .next) x) (a ∷ c ∷ []) (st .next) 0 (j .inv) v older qn (unfold some in refl)
+            (copy-fits hl (st .next) (l .next) a (loanBy st p c es) (h .requests) refl refl));
         still = λ k e.
             let up : stands hl k ≡ true = j .still k e in
-            stands-same hl (l .next) (a ∷ c ∷ []) (st .next) 0 (not-below (l .next) (h .dropped) (j .inv .dropped-below)) qn (unfold some in refl) older k (stands-low hl (lending st p c l) (j .inv) k up .1) ∙ up;
+            stands-same hl (l .next) (a ∷ c ∷ []) (st .next) 0 (not-below (l .next) (h .dropped) (j .inv .dropped-below)) qn (unfold some in refl) older k
+            (stands-low hl (lending st p c l) (j .inv) k up .1) ∙ up;
       }
 
   -- ---- all items
@@ -200,7 +206,8 @@ module _ (h : History) (st : State) (i : Inv h st) (s : Sound st) (p c : ℕ) (e
       pick : member (x .row) (numbers (st .rows)) ≡ true
           → ((l : Lending) (rs : List Noted) → Joint h st p c es os l rs → Joint h st p c es os (lendItems st c (st .next) xs l) (copiesNoted (st .next) c (l .next) (copied (h .rows) xs) rs))
           → (b : Bool) → moves st x ≡ b
-          → Joint h st p c es os (lendItems st c (st .next) xs (cond b (lendEnd x l) (lendCopy st c (st .next) x l))) (copiesNoted (st .next) c (l .next) (cond (not b) (x ∷ copied (h .rows) xs) (copied (h .rows) xs)) rs)
+          → Joint h st p c es os (lendItems st c (st .next) xs (cond b (lendEnd x l) (lendCopy st c (st .next) x l)))
+          (copiesNoted (st .next) c (l .next) (cond (not b) (x ∷ copied (h .rows) xs) (copied (h .rows) xs)) rs)
       pick t ih true q = ih (lendEnd x l) rs (lent-end x l rs j)
       pick t ih false q = ih (lendCopy st c (st .next) x l) (newNoted (l .next) (x .row ∷ c ∷ []) (st .next) 0 ∷ rs) (lent-copy x l rs t q j)
 
@@ -215,7 +222,7 @@ module _ (h : History) (st : State) (i : Inv h st) (s : Sound st) where
       client-view : (r : Row) → isClient (r .kind) ≡ true → view r .port ≡ r .object
       client-view r k = unfold view isEnd in rw k refl
 
-  ask-inv : (p c : ℕ) (xs : List Item) → AskAllowed st p c xs → Inv (noteAsk p c xs (st .next) h) (withRequest st p c xs)
+  pub ask-inv : (p c : ℕ) (xs : List Item) → AskAllowed st p c xs → Inv (noteAsk p c xs (st .next) h) (withRequest st p c xs)
   unfolding noteAsk withRequest lent
   ask-inv p c xs a =
       let t = a .port .there in
@@ -223,7 +230,3 @@ module _ (h : History) (st : State) (i : Inv h st) (s : Sound st) where
       let os = map (λ e. record { request = st .next; lent = e }) es ++ h .loans in
       lent-all h st i s p c es os t xs (a .held) (record { rows = st .rows; items = []; next = suc (st .next) }) (h .rows)
       (begun h st i p c es os (row-stands h st i c t) (port-there p c es t (a .client))) .inv
-
-  pub ask-keeps : (p c : ℕ) (is : Items) → AskAllowed st p c (itemsOf is) → Keeps h (Ask p c is) (effect st (Ask p c is))
-  unfolding effect noteCall itemsNamed itemsOf
-  ask-keeps p c is a = taken-made _ _ (ask-inv p c (itemsOf is) a)

@@ -16,15 +16,12 @@ use Rattle.rows.proofs.Keyed.{first-key, first-there, all-first}
 use Rattle.tables.proofs.Sound.{Sound}
 use Rattle.tables.proofs.SoundFacts.{requests-between}
 use Rattle.closing.specs.Closing.{closeRequest, isEndOf, closePort, isRow, dropRow}
-use Rattle.calls.specs.declared.Call.the-variants.{Drop, Close, Reply, Refuse, Revoke}
 use Rattle.calls.specs.Rules.{askedOf}
-use Rattle.calls.specs.Calls.{effect}
-use Rattle.kept.proofs.Allowed.{DropAllowed, CloseAllowed, ServerAllowed, ReplyAllowed, RevokeAllowed}
+use Rattle.kept.proofs.Allowed.{DropAllowed, CloseAllowed, ServerAllowed, RevokeAllowed}
 use Rattle.history.specs.History.{Noted, History}
 use Rattle.history.specs.Notes.{noLoan, notedOf, spoiled, stands, openLoans, openRequest, noteDrop, noteClose, noteRevoke, noteEnd}
-use Rattle.history.specs.Reading.{noteCall}
 use Rattle.history.proofs.Inv.{Inv, view, ofRequest, ofLoan, noOpen}
-use Rattle.history.proofs.Keeps.{fit-same, Keeps, taken-done}
+use Rattle.history.proofs.Keeps.{fit-same}
 use Rattle.history.proofs.View.{first-through}
 use Rattle.history.proofs.Added.{below-cons}
 use Rattle.history.proofs.Closed.{closed-keeps}
@@ -34,7 +31,9 @@ use Rattle.history.proofs.Comes.{revoke-spoils}
 -- ---- what more is spoiled
 drop-spoils : (e : ℕ) (h : History) (r : Noted) → spoiled (noteDrop e h) r ≡ spoiled h r || eqb (r .number) e
 unfolding spoiled noteDrop member
-drop-spoils e h r = pick (eqb (r .number) e) (member (r .number) (h .dropped)) ((some (r .request) && member (r .request) (h .closedRequests)) || (some (r .port) && member (r .port) (h .closedPorts)))
+drop-spoils e h r =
+    pick (eqb (r .number) e) (member (r .number) (h .dropped))
+    ((some (r .request) && member (r .request) (h .closedRequests)) || (some (r .port) && member (r .port) (h .closedPorts)))
   where
     pick : (e a b : Bool) → (e || a) || b ≡ (a || b) || e
     pick true true b = refl
@@ -74,10 +73,12 @@ module _ (st : State) (s : Sound st) where
   found-there key n e = first-there key noRequest (λ v. not (eqb (v .number) 0)) refl (st .requests) n (ap not e)
 
   -- what is found by any key
-  found-range : (key : Request → ℕ) (n : ℕ) → eqb (firstWith key noRequest (st .requests) n .number) 0 ≡ false → (0 < firstWith key noRequest (st .requests) n .number) × (firstWith key noRequest (st .requests) n .number < st .next)
+  found-range : (key : Request → ℕ) (n : ℕ) → eqb (firstWith key noRequest (st .requests) n .number) 0 ≡ false
+      → (0 < firstWith key noRequest (st .requests) n .number) × (firstWith key noRequest (st .requests) n .number < st .next)
   found-range key n e =
       let v = firstWith key noRequest (st .requests) n in
-      let r : some (v .number) && ltb (v .number) (st .next) ≡ true = all-first key noRequest (λ v. some (v .number) && ltb (v .number) (st .next)) (st .requests) n (requests-between st (s .numbers)) (found-there key n e) in
+      let r : some (v .number) && ltb (v .number) (st .next) ≡ true =
+      all-first key noRequest (λ v. some (v .number) && ltb (v .number) (st .next)) (st .requests) n (requests-between st (s .numbers)) (found-there key n e) in
       (some-pos (v .number) (and-l (some (v .number)) _ r), ltb-true (v .number) (st .next) (and-r (some (v .number)) _ r))
 
   pub request-range : (q : ℕ) → eqb (requestOf (st .requests) q .number) 0 ≡ false → (0 < q) × (q < st .next)
@@ -117,7 +118,7 @@ member-one v q ks = pick (eqb v q)
 
 module _ (h : History) (st : State) (i : Inv h st) (s : Sound st) where
   -- ---- revoke, reply, refuse
-  pub revoked-inv : (q : ℕ) → 0 < q → q < st .next → Inv (noteRevoke q h) (closeRequest q st)
+  revoked-inv : (q : ℕ) → 0 < q → q < st .next → Inv (noteRevoke q h) (closeRequest q st)
   unfolding closeRequest noteRevoke
   revoked-inv q lo hi =
       closed-keeps h (noteRevoke q h) st (λ r. eqb (r .request) q) (bears q) (q ∷ []) i (s .numbers .rows-rise) refl refl refl
@@ -128,7 +129,7 @@ module _ (h : History) (st : State) (i : Inv h st) (s : Sound st) where
   revoke-inv p q a = let (lo, hi) = request-range st s q (a .asked) in revoked-inv q lo hi
 
   -- the request that the server of a port sees is closed
-  served-inv : (p e : ℕ) → ServerAllowed st p e → Inv (noteEnd e h) (closeRequest (askedOf st e .number) st)
+  pub served-inv : (p e : ℕ) → ServerAllowed st p e → Inv (noteEnd e h) (closeRequest (askedOf st e .number) st)
   unfolding noteEnd askedOf openOn
   served-inv p e a =
       let c = rowOf (st .rows) e .object in
@@ -138,43 +139,22 @@ module _ (h : History) (st : State) (i : Inv h st) (s : Sound st) where
       rw (← same) (revoked-inv (v .number) lo hi)
 
   -- ---- drop
-  dropped-inv : (e : ℕ) → member e (numbers (st .rows)) ≡ true → isEnd (rowOf (st .rows) e .kind) ≡ false → Inv (noteDrop e h) (dropRow e st)
+  pub dropped-inv : (p e : ℕ) → DropAllowed st p e → Inv (noteDrop e h) (dropRow e st)
   unfolding dropRow noteDrop all
-  dropped-inv e t end =
-      let up : stands h e ≡ true = row-stands h st i e t in
+  dropped-inv p e a =
+      let up : stands h e ≡ true = row-stands h st i e (a .row .there) in
       let (lo, hi) = stands-low h st i e up in
-      let plain : notedOf (h .rows) e .port ≡ 0 = ap (λ r. r .port) (row-noted h st i e up) ∙ plain-port (rowOf (st .rows) e) end in
+      let plain : notedOf (h .rows) e .port ≡ 0 = ap (λ r. r .port) (row-noted h st i e up) ∙ plain-port (rowOf (st .rows) e) (a .no-end) in
       closed-keeps h (noteDrop e h) st (λ r. eqb (r .number) e) (isRow e) [] i (s .numbers .rows-rise) refl refl refl
       (unfold noteDrop in drop-spoils e h) (λ r. unfold isRow view in refl) (λ v. unfold member in refl)
       (fit-same h (noteDrop e h) refl refl refl (and-i (eqb (notedOf (h .rows) e .port) 0) _ (eq-eqb (notedOf (h .rows) e .port) 0 plain) (i .fit .ends-kept)) (i .fit))
       (below-cons (st .next) e (h .dropped) hi (i .dropped-below)) (i .ports-below) (i .closed-below)
 
   -- ---- close
-  closed-inv : (p c : ℕ) → CloseAllowed st p c → Inv (noteClose c h) (closePort c st)
+  pub closed-inv : (p c : ℕ) → CloseAllowed st p c → Inv (noteClose c h) (closePort c st)
   unfolding closePort noteClose
   closed-inv p c a =
       let (lo, hi) = stands-low h st i c (row-stands h st i c (a .row .there)) in
       closed-keeps h (noteClose c h) st (λ r. eqb (r .port) c) (isEndOf c) [] i (s .numbers .rows-rise) refl refl refl
       (unfold noteClose in close-spoils c lo h) (end-of c lo) (λ v. unfold member in refl)
       (fit-same h (noteClose c h) refl refl refl (i .fit .ends-kept) (i .fit)) (i .dropped-below) (below-cons (st .next) c (h .closedPorts) hi (i .ports-below)) (i .closed-below)
-
-  -- ---- the calls
-  pub drop-keeps : (p e : ℕ) → DropAllowed st p e → Keeps h (Drop p e) (effect st (Drop p e))
-  unfolding effect noteCall
-  drop-keeps p e a = taken-done _ (dropped-inv e (a .row .there) (a .no-end))
-
-  pub close-keeps : (p c : ℕ) → CloseAllowed st p c → Keeps h (Close p c) (effect st (Close p c))
-  unfolding effect noteCall
-  close-keeps p c a = taken-done _ (closed-inv p c a)
-
-  pub reply-keeps : (p e : ℕ) → ReplyAllowed st p e → Keeps h (Reply p e) (effect st (Reply p e))
-  unfolding effect noteCall
-  reply-keeps p e a = taken-done _ (served-inv p e (a .serves))
-
-  pub refuse-keeps : (p e : ℕ) → ServerAllowed st p e → Keeps h (Refuse p e) (effect st (Refuse p e))
-  unfolding effect noteCall
-  refuse-keeps p e a = taken-done _ (served-inv p e a)
-
-  pub revoke-keeps : (p q : ℕ) → RevokeAllowed st p q → Keeps h (Revoke p q) (effect st (Revoke p q))
-  unfolding effect noteCall
-  revoke-keeps p q a = taken-done _ (revoke-inv p q a)

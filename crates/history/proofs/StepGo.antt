@@ -1,4 +1,4 @@
--- go, fetch and comes keep the invariant.
+-- go and fetch keep the invariant.
 use Prim.Native.Nat.{ℕ, zero, suc, _-_, _<_}
 use mathlib.Core.Bool.{Bool, true, false, cond, _&&_}
 use mathlib.Core.List.{List, _∷_, map}
@@ -18,19 +18,16 @@ use Rattle.rows.specs.Tables.{State, noProcess, processAt, isListed, sources, l
 use Rattle.rows.proofs.Bools.{clash, some-pos, none-zero}
 use Rattle.tables.proofs.SoundFacts.{listed-has-record}
 use Rattle.rows.specs.Setters.{withPlace}
-use Rattle.calls.specs.declared.Call.the-variants.{Go, Fetch, Comes}
-use Rattle.calls.specs.Answers.{refusalOf, valuesOf}
-use Rattle.calls.specs.Rules.{askedOf, withRecord}
+use Rattle.calls.specs.Rules.{withRecord}
 use Rattle.calls.specs.Loans.{handedTo, nowFetched, handedOver}
-use Rattle.calls.specs.Calls.{done, goHome, goThrough, fetchedAnswer, effect}
+use Rattle.calls.specs.Calls.{goHome, goThrough}
 use Rattle.kept.proofs.Allowed.{GoAllowed}
 use Rattle.kept.proofs.Moved.{moved, moved-same}
 use Rattle.kept.proofs.Loans.{now-same}
 use Rattle.history.specs.History.{Went, History}
 use Rattle.history.specs.Notes.{spoiled, standing, stands, isClosed, openLoans, wentNowhere, lastGo, noteGo}
-use Rattle.history.specs.Reading.{noteCall}
-use Rattle.history.proofs.Inv.{Inv, view, ofRequest, ofLoan, throughNow, firstValue}
-use Rattle.history.proofs.Keeps.{fit-same, seen-inv, Keeps, taken, taken-done}
+use Rattle.history.proofs.Inv.{Inv, view, ofRequest, ofLoan, throughNow}
+use Rattle.history.proofs.Keeps.{fit-same, seen-inv}
 use Rattle.history.proofs.View.{map-through}
 use Rattle.history.proofs.Find.{row-stands, stands-low}
 
@@ -42,7 +39,9 @@ record-at ps (suc j) zero x l = rw (ne-eqb (suc j) 0 (λ e. omega arith)) refl
 record-at ps (suc j) (suc k) x l = rw sub-one (pick (eqb (suc j) (suc k)) refl)
   where
     pick : (b : Bool) → eqb (suc j) (suc k) ≡ b → getD (set ps j x) k noProcess ≡ cond b x (getD ps k noProcess)
-    pick true q = let e : j ≡ k = (let z = eqb-true (suc j) (suc k) q in omega arith) in ap (λ k. getD (set ps j x) k noProcess) (sym e) ∙ getD-set-same ps j x noProcess (listed-has-record ps (suc j) l .1)
+    pick true q =
+        let e : j ≡ k = (let z = eqb-true (suc j) (suc k) q in omega arith) in
+        ap (λ k. getD (set ps j x) k noProcess) (sym e) ∙ getD-set-same ps j x noProcess (listed-has-record ps (suc j) l .1)
     pick false q = getD-set-other ps j k x noProcess (λ e. eqb-false (suc j) (suc k) q (ap suc (sym e)))
 
 go-last : (p e : ℕ) (ws : List Went) (k : ℕ) → lastGo (record { process = p; through = e } ∷ ws) k ≡ cond (eqb p k) e (lastGo ws k)
@@ -85,7 +84,9 @@ module _ (h : History) (st : State) (i : Inv h st) where
         at n = cond (some n && stands h n) n 0
 
         noted-through : throughNow (noteGo p e h) k ≡ at (cond (eqb p k) e (lastGo (h .went) k))
-        noted-through = ap (λ n. cond (some n && stands (noteGo p e h) n) n 0) (go-last p e (h .went) k) ∙ ap (λ b. cond (some (cond (eqb p k) e (lastGo (h .went) k)) && b) (cond (eqb p k) e (lastGo (h .went) k)) 0) (go-stands (cond (eqb p k) e (lastGo (h .went) k)))
+        noted-through =
+            ap (λ n. cond (some n && stands (noteGo p e h) n) n 0) (go-last p e (h .went) k)
+            ∙ ap (λ b. cond (some (cond (eqb p k) e (lastGo (h .went) k)) && b) (cond (eqb p k) e (lastGo (h .went) k)) 0) (go-stands (cond (eqb p k) e (lastGo (h .went) k)))
 
         pick : (b : Bool) → some ((cond b x (processAt (st .processes) k)) .prime) ≡ true → (cond b x (processAt (st .processes) k)) .through ≡ at (cond b e (lastGo (h .went) k))
         pick true t = to ∙ gone-to
@@ -126,13 +127,12 @@ module _ (h : History) (st : State) (i : Inv h st) where
   unfolding goThrough
   through-inv p e l up = go-inv p e _ l refl (λ t. up)
 
-  pub go-keeps : (p e : ℕ) → GoAllowed st p e → Keeps h (Go p e) (effect st (Go p e))
-  unfolding effect noteCall
-  go-keeps p e a = pick (eqb e 0) refl
+  pub gone-inv : (p e : ℕ) → GoAllowed st p e → Inv (noteGo p e h) (if eqb e 0 then goHome st p else goThrough st p e)
+  gone-inv p e a = pick (eqb e 0) refl
     where
-      pick : (b : Bool) → eqb e 0 ≡ b → Keeps h (Go p e) (done (if b then goHome st p else goThrough st p e))
-      pick true q = taken-done _ (home-inv p e (a .caller) (eqb-true e 0 q))
-      pick false q = taken-done _ (through-inv p e (a .caller) (row-stands h st i e (a .row q .there)))
+      pick : (b : Bool) → eqb e 0 ≡ b → Inv (noteGo p e h) (if b then goHome st p else goThrough st p e)
+      pick true q = home-inv p e (a .caller) (eqb-true e 0 q)
+      pick false q = through-inv p e (a .caller) (row-stands h st i e (a .row q .there))
 
   -- ---- fetch
   hand-view : (p : ℕ) (v : Request) (r : Row) → view (handedTo p v r) ≡ view r
@@ -140,18 +140,10 @@ module _ (h : History) (st : State) (i : Inv h st) where
   hand-view p v r = moved-same (λ n. lists n v) (inClist p) view (λ r. unfold view withPlace sources in refl) r
 
   fetched-view : (q : ℕ) (v : Request) → ofRequest (nowFetched q v) ≡ ofRequest v
-  fetched-view q v = now-same q ofRequest (λ n c a k is. unfold ofRequest in refl) v
+  fetched-view q v = now-same q ofRequest (λ k v. unfold ofRequest in refl) v
 
-  fetched-inv : (p : ℕ) (v : Request) → Inv h (handedOver p v st)
+  pub fetched-inv : (p : ℕ) (v : Request) → Inv h (handedOver p v st)
   unfolding handedOver
   fetched-inv p v =
-      seen-inv h st (handedOver p v st) (map-through view (handedTo p v) (hand-view p v) (st .rows)) (map-through ofRequest (nowFetched (v .number)) (fetched-view (v .number)) (st .requests)) refl refl i
-
-  pub fetch-keeps : (p e : ℕ) → Keeps h (Fetch p e) (effect st (Fetch p e))
-  unfolding effect noteCall fetchedAnswer refusalOf valuesOf firstValue
-  fetch-keeps p e = taken _ (askedOf st e .number) refl refl (fetched-inv p (askedOf st e))
-
-  -- ---- comes
-  pub comes-keeps : (e q : ℕ) → Keeps h (Comes e q) (effect st (Comes e q))
-  unfolding effect noteCall refusalOf valuesOf firstValue
-  comes-keeps e q = taken _ _ refl refl i
+      seen-inv h st (handedOver p v st) (map-through view (handedTo p v) (hand-view p v) (st .rows))
+      (map-through ofRequest (nowFetched (v .number)) (fetched-view (v .number)) (st .requests)) refl refl i

@@ -100,7 +100,9 @@ module _ (st : State) (s : Sound st) (p c : ℕ) (is : List Item) (a : AskAllowe
   unfolding copyListed requestOf firstWith newRequest
   request-old r e = pick (eqb (st .next) (r .request)) refl
     where
-      unborne : eqb (st .next) (r .request) ≡ true → (eqb (r .request) 0 ≡ true) ⊎ (ltb (r .request) (r .number) && lists (r .number) (firstWith (λ v. v .number) noRequest (st .requests) (r .request)) ≡ true) → ⊥
+      unborne : eqb (st .next) (r .request) ≡ true
+          → (eqb (r .request) 0 ≡ true) ⊎ (ltb (r .request) (r .number) && lists (r .number) (firstWith (λ v. v .number) noRequest (st .requests) (r .request)) ≡ true)
+          → ⊥
       unborne q (inl z) =
           let b : st .next ≡ r .request = eqb-true (st .next) (r .request) q in
           let y : r .request ≡ 0 = eqb-true (r .request) 0 z in
@@ -109,9 +111,11 @@ module _ (st : State) (s : Sound st) (p c : ℕ) (is : List Item) (a : AskAllowe
       unborne q (inr l) =
           let b : st .next ≡ r .request = eqb-true (st .next) (r .request) q in
           let none : firstWith (λ v. v .number) noRequest (st .requests) (r .request) ≡ noRequest = first-none (λ v. v .number) noRequest (st .requests) (r .request) (rw (← b) next-unused) in
-          clash (and-r (ltb (r .request) (r .number)) (lists (r .number) (firstWith (λ v. v .number) noRequest (st .requests) (r .request))) l) (ap (lists (r .number)) none ∙ no-request-lists (r .number))
+          clash (and-r (ltb (r .request) (r .number)) (lists (r .number) (firstWith (λ v. v .number) noRequest (st .requests) (r .request))) l)
+          (ap (lists (r .number)) none ∙ no-request-lists (r .number))
 
       pick : (b : Bool) → eqb (st .next) (r .request) ≡ b
           → cond b (asked st p c is) (firstWith (λ v. v .number) noRequest (st .requests) (r .request)) ≡ firstWith (λ v. v .number) noRequest (st .requests) (r .request)
-      pick true q = absurd (unborne q (or-cases (eqb (r .request) 0) (ltb (r .request) (r .number) && lists (r .number) (firstWith (λ v. v .number) noRequest (st .requests) (r .request))) e))
+      pick true q =
+          absurd (unborne q (or-cases (eqb (r .request) 0) (ltb (r .request) (r .number) && lists (r .number) (firstWith (λ v. v .number) noRequest (st .requests) (r .request))) e))
       pick false q = refl

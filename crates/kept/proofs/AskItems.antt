@@ -107,4 +107,5 @@ module _ (st : State) (c v : ℕ) where
       pick : ((l : Lending) → lendItems st c v is l .next ≡ l .next + length (filter (λ i. not (moves st i)) is)) → (b : Bool)
           → lendItems st c v is (cond b (lendEnd i l) (lendCopy st c v i l)) .next ≡ l .next + length (cond (not b) (i ∷ filter (λ i. not (moves st i)) is) (filter (λ i. not (moves st i)) is))
       pick ih true = ih (lendEnd i l) ∙ (unfold lendEnd in refl)
-      pick ih false = let z : lendItems st c v is (lendCopy st c v i l) .next ≡ suc (l .next) + length (filter (λ i. not (moves st i)) is) = (unfold lendCopy in ih (lendCopy st c v i l)) in omega arith
+      pick ih false =
+          let z : lendItems st c v is (lendCopy st c v i l) .next ≡ suc (l .next) + length (filter (λ i. not (moves st i)) is) = (unfold lendCopy in ih (lendCopy st c v i l)) in omega arith

@@ -145,7 +145,8 @@ module _ (st : State) where
           there (inl q) = inl q
           there (inr (lo, hi)) = inr (omega arith, omega arith)
 
-          here : (eqb e n ≡ true) ⊎ (member e (listed st is (suc n)) ≡ true) → (any (λ i. moves st i && eqb (i .row) e) is ≡ true) ⊎ ((n ≤ e) × (e < n + suc (length (filter (λ i. not (moves st i)) is))))
+          here : (eqb e n ≡ true) ⊎ (member e (listed st is (suc n)) ≡ true)
+              → (any (λ i. moves st i && eqb (i .row) e) is ≡ true) ⊎ ((n ≤ e) × (e < n + suc (length (filter (λ i. not (moves st i)) is))))
           here (inl q) = let z : e ≡ n = eqb-true e n q in inr (omega arith, omega arith)
           here (inr q) = there (ih (suc n) q)
 

@@ -13,7 +13,7 @@ use Rattle.rows.specs.Lists.{any, all, each, topOf, member, distinct, between, 
 use Rattle.rows.specs.Limits.{greatestNumber, requestSlots, mostItems}
 use Rattle.rows.specs.Codes.{clientEnd, isClient, isEnd, inClist, isSystem}
 use Rattle.rows.specs.Tables.{State, noRow, noRequest, rowOf, requestOf, openOn, isListed, numbers, lists}
-use Rattle.rows.specs.Sound.{requestsRise, numbersApart, belowNext, nextInRange, requestsFit, fetchedInRange, isPairedWith, portStands, portsStand, requestersListed, itemsFew, itemsApart, mayBeListed, itemsLent, onePerPort, isFetched, olderFetchedBy, olderFetched, awaitsFetch}
+use Rattle.rows.specs.Sound.{markInRange, requestsRise, numbersApart, belowNext, nextInRange, requestsFit, fetchedInRange, isPairedWith, portStands, portsStand, requestersListed, itemsFew, itemsApart, mayBeListed, itemsLent, onePerPort, isFetched, olderFetchedBy, olderFetched, awaitsFetch}
 use Rattle.rows.proofs.Bools.{false-of, clash, and-l, and-r, and-i, or-l, or-r, not-t, not-f, eqb-self, pos-some, all-mono, all-and, member-here, member-there}
 use Rattle.rows.proofs.Keyed.{all-first, first-key, rises-cons, rises-range}
 use Rattle.tables.proofs.Sound.{Sound}
@@ -61,7 +61,8 @@ module _ (st : State) (s : Sound st) (p c : ℕ) (is : List Item) (a : AskAllowe
   unfolding numbersApart
   numbers-apart =
       requests-all (λ v. not (member (v .number) (numbers (askedRows st c is)))) (unfold newRequest in ap not fresh)
-      (all-and (λ v. ltb (v .number) (st .next)) (λ v. not (member (v .number) (numbers (st .rows)))) (λ v. not (member (v .number) (numbers (askedRows st c is)))) older (st .requests) (requests-below st (s .numbers)) (s .numbers .numbers-apart))
+      (all-and (λ v. ltb (v .number) (st .next)) (λ v. not (member (v .number) (numbers (st .rows)))) (λ v. not (member (v .number) (numbers (askedRows st c is)))) older
+      (st .requests) (requests-below st (s .numbers)) (s .numbers .numbers-apart))
     where
       fresh : member (st .next) (numbers (askedRows st c is)) ≡ false
       fresh = old-number st s p c is a (st .next) (omega arith) ∙ false-of (member (st .next) (numbers (st .rows))) (λ t. let (lo, hi) = row-below st (s .numbers) (st .next) t in omega arith)
@@ -89,7 +90,7 @@ module _ (st : State) (s : Sound st) (p c : ℕ) (is : List Item) (a : AskAllowe
 
   pub fetched-in-range : fetchedInRange (askedState st p c is .requests) ≡ true
   unfolding fetchedInRange
-  fetched-in-range = requests-all (λ v. leb (v .fetched) 1) (unfold newRequest in refl) (s .loans .fetched-in-range)
+  fetched-in-range = requests-all markInRange (unfold newRequest in refl) (s .loans .fetched-in-range)
 
   -- ---- the port and the requester
   -- the other end of port c has number c + 1
@@ -111,7 +112,8 @@ module _ (st : State) (s : Sound st) (p c : ℕ) (is : List Item) (a : AskAllowe
       older v e =
           unfold portStands in
           and-i (isClient (rowOf (askedRows st c is) (v .port) .kind)) (ltb (suc (v .port)) (v .number))
-          (client (v .port) (and-l (isClient (rowOf (st .rows) (v .port) .kind)) (ltb (suc (v .port)) (v .number)) e)) (and-r (isClient (rowOf (st .rows) (v .port) .kind)) (ltb (suc (v .port)) (v .number)) e)
+          (client (v .port) (and-l (isClient (rowOf (st .rows) (v .port) .kind)) (ltb (suc (v .port)) (v .number)) e))
+          (and-r (isClient (rowOf (st .rows) (v .port) .kind)) (ltb (suc (v .port)) (v .number)) e)
 
   pub requesters-listed : requestersListed (askedState st p c is .processes) (askedState st p c is .requests) ≡ true
   unfolding requestersListed
@@ -122,7 +124,9 @@ module _ (st : State) (s : Sound st) (p c : ℕ) (is : List Item) (a : AskAllowe
   one-per-port = and-i (not (member c (map (λ v. v .port) (st .requests)))) (distinct (map (λ v. v .port) (st .requests))) (ap not unused) (s .loans .one-per-port)
     where
       positive : all (λ v. some (v .number)) (st .requests) ≡ true
-      positive = of-requests (λ v. some (v .number)) (λ n t. rw (number n t) (pos-some n (rises-range (λ v. v .number) (st .requests) (unfold requestsRise in s .numbers .requests-rise) n t .0)))
+      positive =
+          of-requests (λ v. some (v .number))
+          (λ n t. rw (number n t) (pos-some n (rises-range (λ v. v .number) (st .requests) (unfold requestsRise in s .numbers .requests-rise) n t .0)))
         where
           number : (n : ℕ) → member n (map (λ v. v .number) (st .requests)) ≡ true → requestOf (st .requests) n .number ≡ n
           number n t = unfold requestOf in first-key (λ v. v .number) noRequest (st .requests) n t
@@ -143,7 +147,8 @@ module _ (st : State) (s : Sound st) (p c : ℕ) (is : List Item) (a : AskAllowe
   items-few =
       let few = a .few in
       let l = listed-length st is (suc (st .next)) in
-      requests-all (λ v. eqb (length (v .items)) mostItems) (eq-eqb (length (asked st p c is .items)) mostItems (length-pad 0 mostItems (listed st is (suc (st .next))) (omega arith))) (s .loans .items-few)
+      requests-all (λ v. eqb (length (v .items)) mostItems)
+      (eq-eqb (length (asked st p c is .items)) mostItems (length-pad 0 mostItems (listed st is (suc (st .next))) (omega arith))) (s .loans .items-few)
 
   pub items-apart : itemsApart (askedState st p c is .requests) ≡ true
   unfolding itemsApart
@@ -173,13 +178,16 @@ module _ (st : State) (s : Sound st) (p c : ℕ) (is : List Item) (a : AskAllowe
           rw (named-end st is e g, row-number (st .rows) e (held-there st p e (named-held st s p c is a e g)), lt-ltb e (st .next) (named-old st s p c is a e g .1)) refl)
       lent e (inr (lo, hi)) =
           unfold mayBeListed newRequest in
-          or-r (isEnd (rowOf (askedRows st c is) e .kind) && ltb (rowOf (askedRows st c is) e .number) (st .next)) (some (rowOf (askedRows st c is) e .request) && eqb (rowOf (askedRows st c is) e .request) (st .next))
+          or-r (isEnd (rowOf (askedRows st c is) e .kind) && ltb (rowOf (askedRows st c is) e .number) (st .next))
+          (some (rowOf (askedRows st c is) e .request) && eqb (rowOf (askedRows st c is) e .request) (st .next))
           (rw (bears-stacked st c (st .next) (copies st is) (suc (st .next)) (lentRows st is) e lo hi, pos-some (st .next) (next-some st (s .numbers))) (eqb-self (st .next)))
 
   -- ---- the older requests that list an end isItem are fetched
   pub older-fetched : olderFetched (askedState st p c is .requests) ≡ true
   unfolding olderFetched each
-  older-fetched = and-i (olderFetchedBy (asked st p c is) (st .requests)) (each olderFetchedBy (st .requests)) (unfold olderFetchedBy in of-requests fetched-or (λ n t. pick n t (isFetched (requestOf (st .requests) n)) refl)) (s .holders .older-fetched)
+  older-fetched =
+      and-i (olderFetchedBy (asked st p c is) (st .requests)) (each olderFetchedBy (st .requests))
+      (unfold olderFetchedBy in of-requests fetched-or (λ n t. pick n t (isFetched (requestOf (st .requests) n)) refl)) (s .holders .older-fetched)
     where
       fetched-or : Request → Bool
       fetched-or w = isFetched w || not (any (λ e. lists e w) (asked st p c is .items))
@@ -189,14 +197,18 @@ module _ (st : State) (s : Sound st) (p c : ℕ) (is : List Item) (a : AskAllowe
 
       in-clist : (e : ℕ) → isItem st is e ≡ true → isSystem (rowOf (st .rows) e .place) ≡ false
       in-clist e g =
-          let held : rowOf (st .rows) e .place ≡ inClist p = unfold notHeld in eqb-true (rowOf (st .rows) e .place) (inClist p) (not-f (eqb (rowOf (st .rows) e .place) (inClist p)) (named-held st s p c is a e g)) in
+          let held : rowOf (st .rows) e .place ≡ inClist p =
+          unfold notHeld in eqb-true (rowOf (st .rows) e .place) (inClist p)
+          (not-f (eqb (rowOf (st .rows) e .place) (inClist p)) (named-held st s p c is a e g)) in
           ap isSystem held ∙ clist-not-system st (s .placed) p (a .caller)
 
       -- what the new request lists no unfetched one lists
       unshared : (w : ℕ) → member w (map (λ v. v .number) (st .requests)) ≡ true → isFetched (requestOf (st .requests) w) ≡ false
           → (e : ℕ) → (isItem st is e ≡ true) ⊎ ((suc (st .next) ≤ e) × (e < suc (st .next) + length (copies st is))) → lists e (requestOf (st .requests) w) ≡ false
       unshared w t f e (inl g) =
-          let all-fetched = listers-fetched e (st .requests) (s .holders .older-fetched) (sym (eq-same (isSystem (rowOf (st .rows) e .place)) (awaitsFetch (st .requests) e) (held-so (st .rows) (st .requests) (s .holders .system-holds) e (held-there st p e (named-held st s p c is a e g)))) ∙ in-clist e g) in
+          let all-fetched =
+          listers-fetched e (st .requests) (s .holders .older-fetched)
+          (sym (eq-same (isSystem (rowOf (st .rows) e .place)) (awaitsFetch (st .requests) e) (held-so (st .rows) (st .requests) (s .holders .system-holds) e (held-there st p e (named-held st s p c is a e g)))) ∙ in-clist e g) in
           not-t (lists e (requestOf (st .requests) w)) (rw f at (at w t (λ w. isFetched w || not (lists e w)) all-fetched))
       unshared w t f e (inr (lo, hi)) =
           let new : member e (numbers (st .rows)) ≡ false = false-of (member e (numbers (st .rows))) (λ m. let (l, h) = row-below st (s .numbers) e m in omega arith) in
@@ -206,7 +218,8 @@ module _ (st : State) (s : Sound st) (p c : ℕ) (is : List Item) (a : AskAllowe
       pick n t true f = or-l (isFetched (requestOf (st .requests) n)) (not (any (λ e. lists e (requestOf (st .requests) n)) (asked st p c is .items))) f
       pick n t false f =
           or-r (isFetched (requestOf (st .requests) n)) (not (any (λ e. lists e (requestOf (st .requests) n)) (asked st p c is .items)))
-          (ap not (any-members (λ e. lists e (requestOf (st .requests) n)) (asked st p c is .items) (λ e m. false-of (lists e (requestOf (st .requests) n)) (λ l. clash l (unshared n t f e (lists-cases st s p c is a e (too e m (requestOf (st .requests) n) l)))))))
+          (ap not (any-members (λ e. lists e (requestOf (st .requests) n)) (asked st p c is .items)
+          (λ e m. false-of (lists e (requestOf (st .requests) n)) (λ l. clash l (unshared n t f e (lists-cases st s p c is a e (too e m (requestOf (st .requests) n) l)))))))
         where
           too : (e : ℕ) → member e (asked st p c is .items) ≡ true → (w : Request) → lists e w ≡ true → lists e (asked st p c is) ≡ true
           too e m w l = unfold lists in and-i (some e) (member e (asked st p c is .items)) (and-l (some e) (member e (w .items)) l) m

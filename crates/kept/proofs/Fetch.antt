@@ -3,16 +3,16 @@ use Prim.Native.Nat.{ℕ, _<_, _≤_}
 use mathlib.Core.Bool.{Bool, true, false, not, cond, _&&_, _||_}
 use mathlib.Core.List.{List, [], _∷_, map}
 use mathlib.Core.Path.{_≡_, refl, sym, ap, _∙_, subst}
-use lib.Dec.{leb, ltb, eqb}
+use lib.Dec.{ltb, eqb}
 use lib.ListN.{length, length-map}
 use borrow.Author.Tests.{eqb-true}
 use Rattle.rows.specs.declared.Row.{Row}
 use Rattle.rows.specs.declared.Request.{Request}
 use Rattle.rows.specs.Lists.{any, all, rises, member, distinct, some, nonzero}
 use Rattle.rows.specs.Limits.{processes, mostItems}
-use Rattle.rows.specs.Codes.{isSubdirectory, isEnd, inClist, withSystem, isNode, isSystem}
+use Rattle.rows.specs.Codes.{fetchedMark, isSubdirectory, isEnd, inClist, withSystem, isNode, isSystem}
 use Rattle.rows.specs.Tables.{State, noRow, noRequest, rowOf, requestOf, openOn, isListed, numbers, lists}
-use Rattle.rows.specs.Sound.{rowsRise, requestsRise, numbersApart, belowNext, nextInRange, rowsFit, requestsFit, recordsFit, objectsInRange, rightsInRange, placeInRange, placesInRange, fetchedInRange, sourcesRight, depthsRight, copiesMatch, recordsInRange, endPaired, endsPaired, portStands, portsStand, requestersListed, itemsFew, itemsApart, itemsLent, mayBeListed, onePerPort, copyListed, copiesListed, isFetched, olderFetchedBy, olderFetched, awaitsFetch, same, systemHolds, processesPlaced, hasRightDepth, matchesSource}
+use Rattle.rows.specs.Sound.{rowsRise, requestsRise, numbersApart, belowNext, nextInRange, rowsFit, requestsFit, recordsFit, objectsInRange, rightsInRange, placeInRange, placesInRange, markInRange, fetchedInRange, sourcesRight, depthsRight, copiesMatch, recordsInRange, endPaired, endsPaired, portStands, portsStand, requestersListed, itemsFew, itemsApart, itemsLent, mayBeListed, onePerPort, copyListed, copiesListed, isFetched, olderFetchedBy, olderFetched, awaitsFetch, same, systemHolds, processesPlaced, hasRightDepth, matchesSource}
 use Rattle.rows.proofs.Bools.{false-of, true-of, clash, and-l, or-l, or-r, any-eq, all-mono, all-eq, all-at}
 use Rattle.rows.proofs.Keyed.{all-first, rises-map, rises-range, keys-map}
 use Rattle.tables.proofs.Sound.{Sound}
@@ -21,7 +21,7 @@ use Rattle.rows.proofs.Places.{clist-not-node, clist-no-system, system-no-node}
 use Rattle.tables.proofs.SoundFacts.{clist-not-system, clist-in-range, row-number, same-eq, eq-same, same-place, placed-still}
 use Rattle.tables.proofs.Awaits.{listers-fetched}
 use Rattle.rows.proofs.RowSources.{subdirectory-there}
-use Rattle.rows.specs.Setters.{withPlace}
+use Rattle.rows.specs.Setters.{withPlace, withFetched}
 use Rattle.calls.specs.Loans.{handedTo, nowFetched, handedOver}
 use Rattle.calls.specs.Rules.{askedOf}
 use Rattle.kept.proofs.Allowed.{FetchAllowed}
@@ -105,18 +105,21 @@ module _ (st : State) (s : Sound st) (p : ℕ) (v : Request) (found : requestOf 
 
   -- a test of requests that does not look at whether they are fetched
   requests-all : (P : Request → Bool)
-      → ((n c a k : ℕ) (is : List ℕ) → P (record { number = n; port = c; asker = a; fetched = 1; items = is }) ≡ P (record { number = n; port = c; asker = a; fetched = k; items = is }))
+      → ((k : ℕ) (v : Request) → P (withFetched k v) ≡ P v)
       → all P (st .requests) ≡ true → all P requests′ ≡ true
   requests-all P h e = all-map P (nowFetched (v .number)) (st .requests) ∙ all-eq (λ w. P (nowFetched (v .number) w)) P (now-same (v .number) P h) (st .requests) ∙ e
 
   numbers-apart : numbersApart (after .rows) (after .requests) ≡ true
   unfolding numbersApart
-  numbers-apart = requests-all (λ v. not (member (v .number) (numbers rows′))) (λ n c a k is. refl) (rw numbers-same (s .numbers .numbers-apart))
+  numbers-apart = requests-all (λ v. not (member (v .number) (numbers rows′))) (λ k v. refl) (rw numbers-same (s .numbers .numbers-apart))
 
   below-next : belowNext (after .next) (after .rows) (after .requests) ≡ true
   unfolding belowNext
   below-next =
-      rw (top-map (λ r. r .number) noRow (moved goes (inClist p)) (moved-number goes (inClist p)) (st .rows), top-map (λ v. v .number) noRequest (nowFetched (v .number)) (now-number (v .number)) (st .requests))
+      rw (
+        top-map (λ r. r .number) noRow (moved goes (inClist p)) (moved-number goes (inClist p)) (st .rows),
+        top-map (λ v. v .number) noRequest (nowFetched (v .number)) (now-number (v .number)) (st .requests),
+      )
       (s .numbers .below-next)
 
   rows-fit : rowsFit (after .rows) ≡ true
@@ -139,7 +142,8 @@ module _ (st : State) (s : Sound st) (p : ℕ) (v : Request) (found : requestOf 
   unfolding placesInRange
   places-in-range =
       all-map (placeInRange (st .processes)) (moved goes (inClist p)) (st .rows)
-      ∙ all-mono (placeInRange (st .processes)) (λ r. placeInRange (st .processes) (moved goes (inClist p) r)) (λ r e. unfold moved in pick r (goes (r .number)) e) (st .rows) (s .rows .places-in-range)
+      ∙ all-mono (placeInRange (st .processes)) (λ r. placeInRange (st .processes) (moved goes (inClist p) r))
+      (λ r e. unfold moved in pick r (goes (r .number)) e) (st .rows) (s .rows .places-in-range)
     where
       pick : (r : Row) (b : Bool) → placeInRange (st .processes) r ≡ true → placeInRange (st .processes) (cond b (withPlace (inClist p) r) r) ≡ true
       pick r true e = clist-in-range st (s .placed) p listed (withPlace (inClist p) r) (unfold withPlace in refl)
@@ -148,10 +152,10 @@ module _ (st : State) (s : Sound st) (p : ℕ) (v : Request) (found : requestOf 
   fetched-in-range : fetchedInRange (after .requests) ≡ true
   unfolding fetchedInRange
   fetched-in-range =
-      all-map (λ v. leb (v .fetched) 1) (nowFetched (v .number)) (st .requests)
-      ∙ all-mono (λ v. leb (v .fetched) 1) (λ w. leb (nowFetched (v .number) w .fetched) 1) (λ w e. unfold nowFetched in pick w (eqb (w .number) (v .number)) e) (st .requests) (s .loans .fetched-in-range)
+      all-map markInRange (nowFetched (v .number)) (st .requests)
+      ∙ all-mono markInRange (λ w. markInRange (nowFetched (v .number) w)) (λ w e. unfold nowFetched in pick w (eqb (w .number) (v .number)) e) (st .requests) (s .loans .fetched-in-range)
     where
-      pick : (w : Request) (b : Bool) → leb (w .fetched) 1 ≡ true → leb ((cond b (record { number = w .number; port = w .port; asker = w .asker; fetched = 1; items = w .items }) w) .fetched) 1 ≡ true
+      pick : (w : Request) (b : Bool) → markInRange w ≡ true → markInRange (cond b (withFetched fetchedMark w) w) ≡ true
       pick w true e = refl
       pick w false e = e
 
@@ -159,7 +163,7 @@ module _ (st : State) (s : Sound st) (p : ℕ) (v : Request) (found : requestOf 
   unfolding sourcesRight
   sources-right =
       sources-moved goes (inClist p) none-goes (clist-not-node p) (st .requests) requests′ (st .rows) may-move
-      (λ r _. ap (λ w. w .port) (request-now (v .number) (st .requests) (r .request) positive) ∙ now-same (v .number) (λ w. w .port) (λ n c a k is. refl) (requestOf (st .requests) (r .request)))
+      (λ r _. ap (λ w. w .port) (request-now (v .number) (st .requests) (r .request) positive) ∙ now-same (v .number) (λ w. w .port) (λ k v. refl) (requestOf (st .requests) (r .request)))
       (s .loans .copies-listed) (s .rows .sources-right)
 
   depths-right : depthsRight (after .rows) ≡ true
@@ -180,32 +184,32 @@ module _ (st : State) (s : Sound st) (p : ℕ) (v : Request) (found : requestOf 
   ports-stand : portsStand (after .rows) (after .requests) ≡ true
   unfolding portsStand
   ports-stand =
-      requests-all (portStands rows′) (λ n c a k is. unfold portStands in refl)
+      requests-all (portStands rows′) (λ k v. unfold portStands in refl)
       (all-eq (portStands rows′) (portStands (st .rows)) (ports-moved goes (inClist p) none-goes (st .rows)) (st .requests) ∙ s .loans .ports-stand)
 
   requesters-listed : requestersListed (after .processes) (after .requests) ≡ true
   unfolding requestersListed
-  requesters-listed = requests-all (λ v. isListed (st .processes) (v .asker)) (λ n c a k is. refl) (s .loans .requesters-listed)
+  requesters-listed = requests-all (λ v. isListed (st .processes) (v .asker)) (λ k v. refl) (s .loans .requesters-listed)
 
   items-few : itemsFew (after .requests) ≡ true
   unfolding itemsFew
-  items-few = requests-all (λ v. eqb (length (v .items)) mostItems) (λ n c a k is. refl) (s .loans .items-few)
+  items-few = requests-all (λ v. eqb (length (v .items)) mostItems) (λ k v. refl) (s .loans .items-few)
 
   items-apart : itemsApart (after .requests) ≡ true
   unfolding itemsApart
-  items-apart = requests-all (λ v. distinct (nonzero (v .items))) (λ n c a k is. refl) (s .loans .items-apart)
+  items-apart = requests-all (λ v. distinct (nonzero (v .items))) (λ k v. refl) (s .loans .items-apart)
 
   items-lent : itemsLent (after .rows) (after .requests) ≡ true
   unfolding itemsLent
   items-lent =
-      requests-all (λ v. all (λ e. mayBeListed v (rowOf rows′ e)) (nonzero (v .items))) (λ n c a k is. unfold mayBeListed in refl)
+      requests-all (λ v. all (λ e. mayBeListed v (rowOf rows′ e)) (nonzero (v .items))) (λ k v. unfold mayBeListed in refl)
       (all-eq (λ v. all (λ e. mayBeListed v (rowOf rows′ e)) (nonzero (v .items))) (λ v. all (λ e. mayBeListed v (rowOf (st .rows) e)) (nonzero (v .items)))
       (λ w. all-eq (λ e. mayBeListed w (rowOf rows′ e)) (λ e. mayBeListed w (rowOf (st .rows) e)) (listed-moved goes (inClist p) none-goes (st .rows) w) (nonzero (w .items))) (st .requests)
       ∙ s .loans .items-lent)
 
   one-per-port : onePerPort (after .requests) ≡ true
   unfolding onePerPort
-  one-per-port = ap distinct (keys-map (λ v. v .port) (nowFetched (v .number)) (now-same (v .number) (λ w. w .port) (λ n c a k is. refl)) (st .requests)) ∙ s .loans .one-per-port
+  one-per-port = ap distinct (keys-map (λ v. v .port) (nowFetched (v .number)) (now-same (v .number) (λ w. w .port) (λ k v. refl)) (st .requests)) ∙ s .loans .one-per-port
 
   copies-listed : copiesListed (after .requests) (after .rows) ≡ true
   unfolding copiesListed
@@ -227,7 +231,7 @@ module _ (st : State) (s : Sound st) (p : ℕ) (v : Request) (found : requestOf 
       every ws = unfold all in elim ws [ [] ↦ refl | (w ∷ (ws → ih)) ↦ ih ]
 
       items-same : (w : Request) → nowFetched (v .number) w .items ≡ w .items
-      items-same w = now-same (v .number) (λ w. w .items) (λ n c a k is. refl) w
+      items-same w = now-same (v .number) (λ w. w .items) (λ k v. refl) w
 
       shares : (w u : Request) → any (λ e. lists e (nowFetched (v .number) u)) (nowFetched (v .number) w .items) ≡ any (λ e. lists e u) (w .items)
       shares w u =

@@ -9,7 +9,8 @@ use native.Mathlib.Omega.{arith}
 use Rattle.rows.specs.declared.Row.{Row}
 use Rattle.rows.specs.declared.Request.{Request}
 use Rattle.rows.specs.Lists.{all, each, firstWith, rises, member, some}
-use Rattle.rows.specs.Codes.{isSystem}
+use Rattle.rows.specs.Codes.{isSystem, fetchedMark}
+use Rattle.rows.specs.Setters.{withFetched}
 use Rattle.rows.specs.Tables.{noRow, noRequest, rowOf, requestOf, numbers, lists}
 use Rattle.rows.specs.Sound.{isFetched, olderFetchedBy, awaitsFetch, same, systemHolds, rowsRise}
 use Rattle.rows.proofs.Bools.{false-of, clash, and-l, and-r, eqb-sym-f, and-rf}
@@ -24,27 +25,26 @@ unfolding lists noRequest member
 no-request-lists e = and-rf (some e) false refl
 
 -- ---- a request that becomes fetched
--- a reading that does not look at whether it is fetched
-pub now-same : {A : Type 0} (q : ℕ) (f : Request → A) → ((n c a k : ℕ) (is : List ℕ) → f (record { number = n; port = c; asker = a; fetched = 1; items = is }) ≡ f (record { number = n; port = c; asker = a; fetched = k; items = is }))
-    → (v : Request) → f (nowFetched q v) ≡ f v
+-- a reading that does not look at the mark
+pub now-same : {A : Type 0} (q : ℕ) (f : Request → A) → ((k : ℕ) (v : Request) → f (withFetched k v) ≡ f v) → (v : Request) → f (nowFetched q v) ≡ f v
 unfolding nowFetched
 now-same {A} q f h v = pick (eqb (v .number) q)
   where
-    pick : (b : Bool) → f (cond b (record { number = v .number; port = v .port; asker = v .asker; fetched = 1; items = v .items }) v) ≡ f v
-    pick true = h (v .number) (v .port) (v .asker) (v .fetched) (v .items)
+    pick : (b : Bool) → f (cond b (withFetched fetchedMark v) v) ≡ f v
+    pick true = h fetchedMark v
     pick false = refl
 
 pub now-number : (q : ℕ) (v : Request) → nowFetched q v .number ≡ v .number
-now-number q v = now-same q (λ v. v .number) (λ n c a k is. refl) v
+now-number q v = now-same q (λ v. v .number) (λ k v. refl) v
 
 pub now-lists : (q e : ℕ) (v : Request) → lists e (nowFetched q v) ≡ lists e v
-now-lists q e v = now-same q (lists e) (λ n c a k is. unfold lists in refl) v
+now-lists q e v = now-same q (lists e) (λ k v. unfold lists in refl) v
 
 pub still-fetched : (q : ℕ) (v : Request) → isFetched v ≡ true → isFetched (nowFetched q v) ≡ true
 unfolding nowFetched isFetched
 still-fetched q v e = pick (eqb (v .number) q)
   where
-    pick : (b : Bool) → eqb ((cond b (record { number = v .number; port = v .port; asker = v .asker; fetched = 1; items = v .items }) v) .fetched) 1 ≡ true
+    pick : (b : Bool) → eqb ((cond b (withFetched fetchedMark v) v) .fetched) fetchedMark ≡ true
     pick true = refl
     pick false = e
 

@@ -26,7 +26,8 @@ use Rattle.kept.proofs.Stand.{depth-is}
 
 -- an end from operation row e is a new row
 module _ (st : State) (s : Sound st) (rs : List Row) (e d : ℕ) where
-  end-new : (kind n c p : ℕ) → isEnd kind ≡ true → objectInRange (st .processes) (portEnd kind n c (inClist p) e d) ≡ true → isListed (st .processes) p ≡ true → isOperation (rowOf rs e .kind) ≡ true
+  end-new : (kind n c p : ℕ) → isEnd kind ≡ true → objectInRange (st .processes) (portEnd kind n c (inClist p) e d) ≡ true → isListed (st .processes) p ≡ true
+      → isOperation (rowOf rs e .kind) ≡ true
       → d ≡ depthOver rs e 0 → tooDeep d ≡ false → New st rs n (portEnd kind n c (inClist p) e d)
   unfolding portEnd rightInRange hasRightSources isPortEnd matchesSource
   end-new kind n c p k o l h z t =
@@ -55,7 +56,8 @@ unfolding objectInRange portEnd isOperation isSubdirectory isClient isServer ope
 server-object ps n place e d = rw (eqb-self (suc n)) refl
 
 -- each is the other's other end
-ends-pair : (n p m e d : ℕ) (rs : List Row) → let client = portEnd clientEnd n n p e d in let server = portEnd serverEnd (suc n) n m e d in all (endPaired (server ∷ client ∷ rs)) (server ∷ client ∷ []) ≡ true
+ends-pair : (n p m e d : ℕ) (rs : List Row) → let client =
+    portEnd clientEnd n n p e d in let server = portEnd serverEnd (suc n) n m e d in all (endPaired (server ∷ client ∷ rs)) (server ∷ client ∷ []) ≡ true
 unfolding all endPaired isPairedWith otherEnd rowOf firstWith portEnd isEnd isClient isServer clientEnd serverEnd
 ends-pair n p m e d rs =
     let z : pred (suc n) ≡ n = omega arith in

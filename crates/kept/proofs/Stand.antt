@@ -24,7 +24,8 @@ unfolding notHeld
 held-there st p e h = clist-there (st .rows) p e (not-f (eqb (rowOf (st .rows) e .place) (inClist p)) h)
 
 -- a copy of an operation or a subdirectory names what the row names
-pub copy-object : (ps : List Process) (r : Row) (n rights place source via depth q : ℕ) → isCopied (r .kind) ≡ true → objectInRange ps r ≡ true → objectInRange ps (copyOf r n rights place source via depth q) ≡ true
+pub copy-object : (ps : List Process) (r : Row) (n rights place source via depth q : ℕ) → isCopied (r .kind) ≡ true → objectInRange ps r ≡ true
+    → objectInRange ps (copyOf r n rights place source via depth q) ≡ true
 unfolding objectInRange copyOf isEnd
 copy-object ps r n rights place source via depth q c t =
     or-map (isOperation (r .kind) && (isListed ps (r .object) && leb (r .operation) greatestOperation)) _ _ (λ u.
@@ -35,4 +36,6 @@ copy-object ps r n rights place source via depth q c t =
 
 pub depth-is : (r : Row) (rs : List Row) → r .depth ≡ depthOver rs (r .source) (r .via) → tooDeep (r .depth) ≡ false → depthRight r rs ≡ true
 unfolding hasRightDepth tooDeep depthOver
-depth-is r rs e t = and-i (eqb (r .depth) (depthOver rs (r .source) (r .via))) (leb (r .depth) greatestDepth) (eq-eqb _ _ e) (le-leb (r .depth) greatestDepth (ltb-false greatestDepth (r .depth) t))
+depth-is r rs e t =
+    and-i (eqb (r .depth) (depthOver rs (r .source) (r .via))) (leb (r .depth) greatestDepth) (eq-eqb _ _ e)
+    (le-leb (r .depth) greatestDepth (ltb-false greatestDepth (r .depth) t))

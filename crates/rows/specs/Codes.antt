@@ -37,6 +37,16 @@ isEnd k = isClient k || isServer k
 unfoldable pub isCopied : ℕ → Bool
 isCopied k = isOperation k || isSubdirectory k
 
+-- the mark of a request: it waits for fetch, or is fetched
+abbrev pub waitingMark : ℕ
+waitingMark = 0
+
+abbrev pub fetchedMark : ℕ
+fetchedMark = 1
+
+abbrev pub greatestMark : ℕ
+greatestMark = fetchedMark
+
 -- "place (a node, a process's c-list, or the system)"
 unfoldable pub inNode : ℕ → ℕ
 inNode n = n

@@ -9,8 +9,8 @@ use Rattle.rows.specs.declared.Request.{Request}
 use Rattle.rows.specs.declared.Process.{Process}
 use Rattle.rows.specs.Lists.{if_then_else_, any, all, each, topOf, rises, member, distinct, between, some, nonzero}
 use Rattle.rows.specs.Limits.{processes, nodes, greatestOperation, allRights, greatestNumber, rowSlots, requestSlots, greatestDepth, mostItems}
-use Rattle.rows.specs.Codes.{isOperation, isSubdirectory, isClient, isServer, isEnd, isCopied, inClist, isNode, isClist, isSystem, ownerOf, within}
-use Rattle.rows.specs.Tables.{State, rowOf, requestOf, isListed, numbers, lists}
+use Rattle.rows.specs.Codes.{isOperation, isSubdirectory, isClient, isServer, isEnd, isCopied, fetchedMark, greatestMark, inClist, isNode, isClist, isSystem, ownerOf, within}
+use Rattle.rows.specs.Tables.{State, rowOf, requestOf, isListed, numbers, lists, goesBack}
 
 -- ==== numbers: of the next number, rows and requests
 -- "Row and request numbers rise, are never shared and are below the next number, which is at most 1,000,001."
@@ -144,8 +144,11 @@ endsPaired rows = all (endPaired rows) rows
 
 -- ==== loans: of rows, requests and processes
 -- "All fields are in range"
+abbrev pub markInRange : Request → Bool
+markInRange v = leb (v .fetched) greatestMark
+
 unfoldable pub fetchedInRange : List Request → Bool
-fetchedInRange requests = all (λ v. leb (v .fetched) 1) requests
+fetchedInRange requests = all markInRange requests
 
 -- "Each open request is newer than its standing port and its ends, has a listed requester and at most 4 items, none twice, only ends and copies as above; a port has one at most."
 unfoldable pub portStands : List Row → Request → Bool
@@ -166,7 +169,7 @@ itemsApart requests = all (λ v. distinct (nonzero (v .items))) requests
 
 -- an end older than the request, or a copy that bears its number
 unfoldable pub mayBeListed : Request → Row → Bool
-mayBeListed v r = (isEnd (r .kind) && ltb (r .number) (v .number)) || (some (r .request) && eqb (r .request) (v .number))
+mayBeListed v r = (goesBack r && ltb (r .number) (v .number)) || (some (r .request) && eqb (r .request) (v .number))
 
 unfoldable pub itemsLent : List Row → List Request → Bool
 itemsLent rows requests = all (λ v. all (λ e. mayBeListed v (rowOf rows e)) (nonzero (v .items))) requests
@@ -184,7 +187,7 @@ copiesListed vs rows = all (copyListed vs) rows
 -- ==== holders: of rows and requests
 -- "Where several requests list an end, all but the newest are fetched."
 unfoldable pub isFetched : Request → Bool
-isFetched v = eqb (v .fetched) 1
+isFetched v = eqb (v .fetched) fetchedMark
 
 -- the older requests that list an item of v are fetched
 unfoldable pub olderFetchedBy : Request → List Request → Bool

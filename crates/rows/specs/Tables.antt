@@ -83,6 +83,10 @@ unfoldable pub comesFrom : List Row → ℕ → ℕ → Bool
 comesFrom rs q e = reaches (bears q) rs e
 
 -- ---- loans
+-- "Operations and subdirectories are copied; ends move.": a row that is lent itself goes back when its loan closes
+abbrev pub goesBack : Row → Bool
+goesBack r = isEnd (r .kind)
+
 unfoldable pub lists : ℕ → Request → Bool
 lists e v = some e && member e (v .items)
 
@@ -92,7 +96,7 @@ onLoan vs e = any (lists e) vs
 
 -- "A row is *lent* if it is on loan, bears a request's number, or has a lent source."
 unfoldable pub lentItself : List Request → Row → Bool
-lentItself vs r = (isEnd (r .kind) && onLoan vs (r .number)) || some (r .request)
+lentItself vs r = (goesBack r && onLoan vs (r .number)) || some (r .request)
 
 unfoldable pub isLent : State → ℕ → Bool
 isLent st e = reaches (lentItself (st .requests)) (st .rows) e
