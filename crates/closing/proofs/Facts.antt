@@ -11,13 +11,13 @@ use Rattle.rows.specs.declared.Request.{Request}
 use Rattle.rows.specs.Lists.{all, member, some, nonzero}
 use Rattle.rows.specs.Codes.{isEnd, isClient, isNode}
 use Rattle.rows.specs.Tables.{State, noRow, noRequest, rowOf, requestOf, numbers, lists}
-use Rattle.rows.specs.Sound.{sourceRight, isOpening, isRegistered, isHeld, isPortEnd, isLentCopy, copyListed, copiesListed, mayBeListed, itemsLent, sourceOf, viaOf}
+use Rattle.rows.specs.Sound.{isOpening, isRegistered, isHeld, isPortEnd, isLentCopy, copyListed, copiesListed, mayBeListed, itemsLent, sourceOf, viaOf}
 use Rattle.rows.proofs.Bools.{false-of, clash, and-l, and-r, not-t, or-cases, all-at, zero-none}
 use Rattle.rows.proofs.Keyed.{first-key, first-there, all-first}
 use Rattle.tables.proofs.Sound.{Sound}
 use Rattle.rows.proofs.Lists.{member-nonzero}
 use Rattle.rows.proofs.Places.{copied-no-end}
-use Rattle.rows.proofs.RowSources.{Shape, opening, registered, held, port-end, lent-copy, shape}
+use Rattle.rows.proofs.RowSources.{Shape, opening, registered, held, port-end, lent-copy}
 use Rattle.tables.proofs.Standing.{standing-shape}
 use Rattle.tables.proofs.SoundFacts.{row-number}
 use Rattle.closing.specs.contracts.Marks.{Stands}
@@ -39,9 +39,6 @@ end-shape vs rs r k (registered h) = clash k (copied-no-end (r .kind) (search (a
 end-shape vs rs r k (held h) = clash k (copied-no-end (r .kind) (search (and-l, and-r)))
 end-shape vs rs r k (port-end h) = h
 end-shape vs rs r k (lent-copy h) = clash k (copied-no-end (r .kind) (search (and-l, and-r)))
-
-pub end-right : (vs : List Request) (rs : List Row) (r : Row) → isEnd (r .kind) ≡ true → sourceRight vs r rs ≡ true → isPortEnd r (sourceOf rs r) ≡ true
-end-right vs rs r k e = end-shape vs rs r k (shape vs r (sourceOf rs r) (viaOf rs r) e)
 
 end-facts : (rs : List Row) (r : Row) → isPortEnd r (sourceOf rs r) ≡ true → EndFacts r
 unfolding isPortEnd

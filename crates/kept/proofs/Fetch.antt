@@ -15,7 +15,7 @@ use Rattle.rows.specs.Tables.{State, noRow, noRequest, rowOf, requestOf, openOn
 use Rattle.rows.specs.Sound.{rowsRise, requestsRise, numbersApart, belowNext, nextInRange, rowsFit, requestsFit, recordsFit, objectsInRange, rightsInRange, placeInRange, placesInRange, markInRange, fetchedInRange, sourcesRight, depthsRight, copiesMatch, recordsInRange, endPaired, endsPaired, portStands, portsStand, requestersListed, itemsFew, itemsApart, itemsLent, mayBeListed, onePerPort, copyListed, copiesListed, isFetched, olderFetchedBy, olderFetched, awaitsFetch, same, systemHolds, processesPlaced, hasRightDepth, matchesSource}
 use Rattle.rows.proofs.Bools.{false-of, true-of, clash, and-l, or-l, or-r, any-eq, all-mono, all-eq, all-at}
 use Rattle.rows.proofs.Keyed.{all-first, rises-map, rises-range, keys-map}
-use Rattle.tables.proofs.Sound.{Sound}
+use Rattle.tables.proofs.Sound.{Numbers, RowsSound, LoansSound, HoldersSound, ProcessesSound, Sound}
 use Rattle.rows.proofs.Lists.{member-nonzero, all-map}
 use Rattle.rows.proofs.Places.{clist-not-node, clist-no-system, system-no-node}
 use Rattle.tables.proofs.SoundFacts.{clist-not-system, clist-in-range, row-number, same-eq, eq-same, same-place, placed-still}
@@ -95,10 +95,6 @@ module _ (st : State) (s : Sound st) (p : ℕ) (v : Request) (found : requestOf 
   unfolding rowsRise
   rows-rise = rises-map (λ r. r .number) (moved goes (inClist p)) (moved-number goes (inClist p)) (st .rows) ∙ s .numbers .rows-rise
 
-  requests-rise : requestsRise (after .requests) ≡ true
-  unfolding requestsRise
-  requests-rise = rises-map (λ v. v .number) (nowFetched (v .number)) (now-number (v .number)) (st .requests) ∙ s .numbers .requests-rise
-
   numbers-same : numbers rows′ ≡ numbers (st .rows)
   unfolding numbers
   numbers-same = keys-map (λ r. r .number) (moved goes (inClist p)) (moved-number goes (inClist p)) (st .rows)
@@ -108,35 +104,6 @@ module _ (st : State) (s : Sound st) (p : ℕ) (v : Request) (found : requestOf 
       → ((k : ℕ) (v : Request) → P (withFetched k v) ≡ P v)
       → all P (st .requests) ≡ true → all P requests′ ≡ true
   requests-all P h e = all-map P (nowFetched (v .number)) (st .requests) ∙ all-eq (λ w. P (nowFetched (v .number) w)) P (now-same (v .number) P h) (st .requests) ∙ e
-
-  numbers-apart : numbersApart (after .rows) (after .requests) ≡ true
-  unfolding numbersApart
-  numbers-apart = requests-all (λ v. not (member (v .number) (numbers rows′))) (λ k v. refl) (rw numbers-same (s .numbers .numbers-apart))
-
-  below-next : belowNext (after .next) (after .rows) (after .requests) ≡ true
-  unfolding belowNext
-  below-next =
-      rw (
-        top-map (λ r. r .number) noRow (moved goes (inClist p)) (moved-number goes (inClist p)) (st .rows),
-        top-map (λ v. v .number) noRequest (nowFetched (v .number)) (now-number (v .number)) (st .requests),
-      )
-      (s .numbers .below-next)
-
-  rows-fit : rowsFit (after .rows) ≡ true
-  unfolding rowsFit
-  rows-fit = rw (length-map (st .rows) (moved goes (inClist p))) (s .numbers .rows-fit)
-
-  requests-fit : requestsFit (after .requests) ≡ true
-  unfolding requestsFit
-  requests-fit = rw (length-map (st .requests) (nowFetched (v .number))) (s .numbers .requests-fit)
-
-  objects-in-range : objectsInRange (after .processes) (after .rows) ≡ true
-  unfolding objectsInRange
-  objects-in-range = objects-moved goes (inClist p) none-goes (st .processes) (st .rows) ∙ s .rows .objects-in-range
-
-  rights-in-range : rightsInRange (after .rows) ≡ true
-  unfolding rightsInRange
-  rights-in-range = rights-moved goes (inClist p) none-goes (st .rows) ∙ s .rows .rights-in-range
 
   places-in-range : placesInRange (after .processes) (after .rows) ≡ true
   unfolding placesInRange
@@ -158,58 +125,6 @@ module _ (st : State) (s : Sound st) (p : ℕ) (v : Request) (found : requestOf 
       pick : (w : Request) (b : Bool) → markInRange w ≡ true → markInRange (cond b (withFetched fetchedMark w) w) ≡ true
       pick w true e = refl
       pick w false e = e
-
-  sources-right : sourcesRight (after .requests) (after .rows) ≡ true
-  unfolding sourcesRight
-  sources-right =
-      sources-moved goes (inClist p) none-goes (clist-not-node p) (st .requests) requests′ (st .rows) may-move
-      (λ r _. ap (λ w. w .port) (request-now (v .number) (st .requests) (r .request) positive) ∙ now-same (v .number) (λ w. w .port) (λ k v. refl) (requestOf (st .requests) (r .request)))
-      (s .loans .copies-listed) (s .rows .sources-right)
-
-  depths-right : depthsRight (after .rows) ≡ true
-  unfolding depthsRight
-  depths-right = sourced-moved goes (inClist p) none-goes hasRightDepth depth-placeless (st .rows) (s .rows .depths-right)
-
-  copies-match : copiesMatch (after .rows) ≡ true
-  unfolding copiesMatch
-  copies-match = sourced-moved goes (inClist p) none-goes matchesSource copy-placeless (st .rows) (s .rows .copies-match)
-
-  ends-paired : endsPaired (after .rows) ≡ true
-  unfolding endsPaired
-  ends-paired =
-      all-map (endPaired rows′) (moved goes (inClist p)) (st .rows)
-      ∙ all-eq (λ r. endPaired rows′ (moved goes (inClist p) r)) (endPaired (st .rows)) (paired-moved goes (inClist p) none-goes (st .rows)) (st .rows)
-      ∙ s .rows .ends-paired
-
-  ports-stand : portsStand (after .rows) (after .requests) ≡ true
-  unfolding portsStand
-  ports-stand =
-      requests-all (portStands rows′) (λ k v. unfold portStands in refl)
-      (all-eq (portStands rows′) (portStands (st .rows)) (ports-moved goes (inClist p) none-goes (st .rows)) (st .requests) ∙ s .loans .ports-stand)
-
-  requesters-listed : requestersListed (after .processes) (after .requests) ≡ true
-  unfolding requestersListed
-  requesters-listed = requests-all (λ v. isListed (st .processes) (v .asker)) (λ k v. refl) (s .loans .requesters-listed)
-
-  items-few : itemsFew (after .requests) ≡ true
-  unfolding itemsFew
-  items-few = requests-all (λ v. eqb (length (v .items)) mostItems) (λ k v. refl) (s .loans .items-few)
-
-  items-apart : itemsApart (after .requests) ≡ true
-  unfolding itemsApart
-  items-apart = requests-all (λ v. distinct (nonzero (v .items))) (λ k v. refl) (s .loans .items-apart)
-
-  items-lent : itemsLent (after .rows) (after .requests) ≡ true
-  unfolding itemsLent
-  items-lent =
-      requests-all (λ v. all (λ e. mayBeListed v (rowOf rows′ e)) (nonzero (v .items))) (λ k v. unfold mayBeListed in refl)
-      (all-eq (λ v. all (λ e. mayBeListed v (rowOf rows′ e)) (nonzero (v .items))) (λ v. all (λ e. mayBeListed v (rowOf (st .rows) e)) (nonzero (v .items)))
-      (λ w. all-eq (λ e. mayBeListed w (rowOf rows′ e)) (λ e. mayBeListed w (rowOf (st .rows) e)) (listed-moved goes (inClist p) none-goes (st .rows) w) (nonzero (w .items))) (st .requests)
-      ∙ s .loans .items-lent)
-
-  one-per-port : onePerPort (after .requests) ≡ true
-  unfolding onePerPort
-  one-per-port = ap distinct (keys-map (λ v. v .port) (nowFetched (v .number)) (now-same (v .number) (λ w. w .port) (λ k v. refl)) (st .requests)) ∙ s .loans .one-per-port
 
   copies-listed : copiesListed (after .requests) (after .rows) ≡ true
   unfolding copiesListed
@@ -285,52 +200,81 @@ module _ (st : State) (s : Sound st) (p : ℕ) (v : Request) (found : requestOf 
           let g : goes e ≡ false = false-of (goes e) (λ g. clash (eq-same (isSystem (rowOf (st .rows) e .place)) (awaitsFetch (st .requests) e) (held-so (st .rows) (st .requests) (s .holders .system-holds) e m) ∙ awaited e g) in-clist) in
           moved-stays goes (inClist p) (rowOf (st .rows) e) (ap goes (row-number (st .rows) e m) ∙ g)
 
-  fetched-sound : Sound after
-  fetched-sound =
+  numbers-fetched : Numbers (after .next) (after .rows) (after .requests)
+  unfolding requestsRise numbersApart belowNext nextInRange rowsFit requestsFit
+  numbers-fetched =
       record {
-        numbers =
-            record {
-              rows-rise = rows-rise;
-              requests-rise = requests-rise;
-              numbers-apart = numbers-apart;
-              below-next = below-next;
-              next-in-range = unfold nextInRange in s .numbers .next-in-range;
-              rows-fit = rows-fit;
-              requests-fit = requests-fit;
-            };
-        rows =
-            record {
-              objects-in-range = objects-in-range;
-              rights-in-range = rights-in-range;
-              places-in-range = places-in-range;
-              sources-right = sources-right;
-              depths-right = depths-right;
-              copies-match = copies-match;
-              ends-paired = ends-paired;
-            };
-        loans =
-            record {
-              fetched-in-range = fetched-in-range;
-              ports-stand = ports-stand;
-              requesters-listed = requesters-listed;
-              items-few = items-few;
-              items-apart = items-apart;
-              items-lent = items-lent;
-              one-per-port = one-per-port;
-              copies-listed = copies-listed;
-            };
-        holders =
-            record {
-              older-fetched = older-fetched;
-              system-holds = system-holds;
-            };
-        placed =
-            record {
-              records-fit = unfold recordsFit in s .placed .records-fit;
-              records-in-range = unfold recordsInRange in s .placed .records-in-range;
-              processes-placed = processes-placed;
-            };
+        rows-rise = rows-rise;
+        requests-rise = rises-map (λ v. v .number) (nowFetched (v .number)) (now-number (v .number)) (st .requests) ∙ s .numbers .requests-rise;
+        numbers-apart = requests-all (λ v. not (member (v .number) (numbers rows′))) (λ k v. refl) (rw numbers-same (s .numbers .numbers-apart));
+        below-next =
+            rw (
+              top-map (λ r. r .number) noRow (moved goes (inClist p)) (moved-number goes (inClist p)) (st .rows),
+              top-map (λ v. v .number) noRequest (nowFetched (v .number)) (now-number (v .number)) (st .requests),
+            )
+            (s .numbers .below-next);
+        next-in-range = s .numbers .next-in-range;
+        rows-fit = rw (length-map (st .rows) (moved goes (inClist p))) (s .numbers .rows-fit);
+        requests-fit = rw (length-map (st .requests) (nowFetched (v .number))) (s .numbers .requests-fit);
       }
+
+  rows-fetched : RowsSound (after .rows) (after .requests) (after .processes)
+  unfolding objectsInRange rightsInRange sourcesRight depthsRight copiesMatch endsPaired
+  rows-fetched =
+      record {
+        objects-in-range = objects-moved goes (inClist p) none-goes (st .processes) (st .rows) ∙ s .rows .objects-in-range;
+        rights-in-range = rights-moved goes (inClist p) none-goes (st .rows) ∙ s .rows .rights-in-range;
+        places-in-range = places-in-range;
+        sources-right =
+            sources-moved goes (inClist p) none-goes (clist-not-node p) (st .requests) requests′ (st .rows) may-move
+            (λ r _. ap (λ w. w .port) (request-now (v .number) (st .requests) (r .request) positive) ∙ now-same (v .number) (λ w. w .port) (λ k v. refl) (requestOf (st .requests) (r .request)))
+            (s .loans .copies-listed) (s .rows .sources-right);
+        depths-right = sourced-moved goes (inClist p) none-goes hasRightDepth depth-placeless (st .rows) (s .rows .depths-right);
+        copies-match = sourced-moved goes (inClist p) none-goes matchesSource copy-placeless (st .rows) (s .rows .copies-match);
+        ends-paired =
+            all-map (endPaired rows′) (moved goes (inClist p)) (st .rows)
+            ∙ all-eq (λ r. endPaired rows′ (moved goes (inClist p) r)) (endPaired (st .rows)) (paired-moved goes (inClist p) none-goes (st .rows)) (st .rows)
+            ∙ s .rows .ends-paired;
+      }
+
+  loans-fetched : LoansSound (after .rows) (after .requests) (after .processes)
+  unfolding portsStand requestersListed itemsFew itemsApart itemsLent onePerPort
+  loans-fetched =
+      record {
+        fetched-in-range = fetched-in-range;
+        ports-stand =
+            requests-all (portStands rows′) (λ k v. unfold portStands in refl)
+            (all-eq (portStands rows′) (portStands (st .rows)) (ports-moved goes (inClist p) none-goes (st .rows)) (st .requests) ∙ s .loans .ports-stand);
+        requesters-listed = requests-all (λ v. isListed (st .processes) (v .asker)) (λ k v. refl) (s .loans .requesters-listed);
+        items-few = requests-all (λ v. eqb (length (v .items)) mostItems) (λ k v. refl) (s .loans .items-few);
+        items-apart = requests-all (λ v. distinct (nonzero (v .items))) (λ k v. refl) (s .loans .items-apart);
+        items-lent =
+            requests-all (λ v. all (λ e. mayBeListed v (rowOf rows′ e)) (nonzero (v .items))) (λ k v. unfold mayBeListed in refl)
+            (all-eq (λ v. all (λ e. mayBeListed v (rowOf rows′ e)) (nonzero (v .items))) (λ v. all (λ e. mayBeListed v (rowOf (st .rows) e)) (nonzero (v .items)))
+            (λ w. all-eq (λ e. mayBeListed w (rowOf rows′ e)) (λ e. mayBeListed w (rowOf (st .rows) e)) (listed-moved goes (inClist p) none-goes (st .rows) w) (nonzero (w .items))) (st .requests)
+            ∙ s .loans .items-lent);
+        one-per-port = ap distinct (keys-map (λ v. v .port) (nowFetched (v .number)) (now-same (v .number) (λ w. w .port) (λ k v. refl)) (st .requests)) ∙ s .loans .one-per-port;
+        copies-listed = copies-listed;
+      }
+
+  holders-fetched : HoldersSound (after .rows) (after .requests)
+  holders-fetched =
+      record {
+        older-fetched = older-fetched;
+        system-holds = system-holds;
+      }
+
+  processes-fetched : ProcessesSound (after .rows) (after .processes)
+  unfolding recordsFit recordsInRange
+  processes-fetched =
+      record {
+        records-fit = s .placed .records-fit;
+        records-in-range = s .placed .records-in-range;
+        processes-placed = processes-placed;
+      }
+
+  fetched-sound : Sound after
+  fetched-sound = record { numbers = numbers-fetched; rows = rows-fetched; loans = loans-fetched; holders = holders-fetched; placed = processes-fetched }
 
 -- the request open on a port is found by its number
 open-found : (vs : List Request) (c : ℕ) → rises (λ v. v .number) vs ≡ true → some (openOn vs c .number) ≡ true → requestOf vs (openOn vs c .number) ≡ openOn vs c

@@ -10,8 +10,8 @@ use Rattle.rows.specs.declared.Row.{Row}
 use Rattle.rows.specs.declared.Request.{Request}
 use Rattle.rows.specs.Lists.{all, each, firstWith, rises, member, some}
 use Rattle.rows.specs.Codes.{isSystem, fetchedMark}
-use Rattle.rows.specs.Tables.{noRow, noRequest, rowOf, requestOf, numbers, lists, State}
 use Rattle.rows.specs.Setters.{withFetched}
+use Rattle.rows.specs.Tables.{noRow, noRequest, rowOf, requestOf, numbers, lists}
 use Rattle.rows.specs.Sound.{isFetched, olderFetchedBy, awaitsFetch, same, systemHolds, rowsRise}
 use Rattle.rows.proofs.Bools.{false-of, clash, and-l, and-r, eqb-sym-f, and-rf}
 use Rattle.rows.proofs.Keyed.{all-first, first-map, first-none, rises-rest, rises-fresh}
