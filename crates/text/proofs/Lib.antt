@@ -15,3 +15,5 @@ pub mod OpeningRecords
 pub mod Opening
 -- a number of any length is read as its exact value, or as 1,000,001
 pub mod Numbers
+-- runs, pieces and whole patterns, step by step as the reader takes them
+pub mod PatternLaws

@@ -31,3 +31,24 @@ pub struct Entry {
     pub operation: u32,
     pub rights: u32,
 }
+
+// The items of an ask as they are read: how many, whether each is in range and no row is named twice, the rows and the rights; and the position after them.
+pub struct Asked {
+    pub next: usize,
+    pub count: usize,
+    pub ranged: bool,
+    pub apart: bool,
+    pub rows: [u32; 64],
+    pub rights: [u32; 64],
+}
+
+// An answer's text: the first `length` bytes; 0 after them.
+pub const REPLY: usize = 256;
+
+pub struct Reply {
+    pub bytes: [u8; REPLY],
+    pub length: usize,
+}
+
+// ---- functions
+pub mod patterns;

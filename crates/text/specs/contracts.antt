@@ -1,0 +1,2 @@
+-- The vocabulary of contracts over the text. A reader of the definitions need not read it.
+pub mod Sizes
