@@ -17,3 +17,5 @@ pub mod Opening
 pub mod Numbers
 -- runs, pieces and whole patterns, step by step as the reader takes them
 pub mod PatternLaws
+-- the items of an ask: one more kept, those read and those left
+pub mod AskLaws

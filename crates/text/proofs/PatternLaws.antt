@@ -1,17 +1,18 @@
 -- Laws of the readers: ranges of bytes, runs, one piece of a pattern, and what is left of a pattern.
 use Prim.Native.Nat.{ℕ, _≤_, _<_, _+_}
+use Prim.Native.String.{String}
 use native.Mathlib.Numerals.{add-one}
 use native.Mathlib.Omega.{arith}
 use mathlib.Core.Bool.{true, false, Bool}
 use mathlib.Core.List.{List}
-use mathlib.Core.Path.{_≡_}
+use mathlib.Core.Path.{_≡_, ap}
 use lib.Dec.{leb}
 use lib.ListN.{length, getD, drop, drop-of-length-le, List·getD-eq-default}
 use lib.Seq.{drop-cons}
 use borrow.Author.Tests.{le-leb, lt-leb, leb-true, ne-eqb, le-ltb, lt-ltb, eq-eqb}
 use Rattle.rows.proofs.Bools.{and-l}
-use Rattle.rows.specs.Lists.{between}
-use Rattle.text.specs.Patterns.{isDigit, isLetter, run, number, bad, counted, digits, word, worded, letters, itself, passed, piece, pieces}
+use Rattle.rows.specs.Lists.{between, bytes}
+use Rattle.text.specs.Patterns.{isDigit, isLetter, run, number, bad, counted, digits, word, worded, letters, itself, passed, piece, pieces, began, form}
 use Rattle.text.specs.declared.Read.{Read}
 
 -- ---- ranges of bytes
@@ -130,3 +131,8 @@ pieces-more s r t k h = rw (add-one, drop-cons t k 0 h)
 pub pieces-end : (s : List ℕ) (r : Read) (t : List ℕ) (k : ℕ) → length t ≤ k → pieces s r (drop k t) ≡ r
 unfolding pieces
 pieces-end s r t k h = rw (drop-of-length-le t h)
+
+-- a pattern in a local
+pub form-of : (s : List ℕ) (i : ℕ) (t : List ℕ) (p : String) → t ≡ bytes p → pieces s (began i) t ≡ form s i p
+unfolding form
+form-of s i t p e = ap (λ (x : List ℕ). pieces s (began i) x) e

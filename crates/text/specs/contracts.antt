@@ -1,2 +1,3 @@
 -- The vocabulary of contracts over the text. A reader of the definitions need not read it.
 pub mod Sizes
+pub mod Asks

@@ -51,4 +51,5 @@ pub struct Reply {
 }
 
 // ---- functions
+pub mod call_line;
 pub mod patterns;

@@ -4,7 +4,7 @@ use crate::Run;
 ghost use mathlib.Core.Path.{_≡_};
 ghost use Prim.Native.Nat.{_≤_};
 ghost use Rattle.text.specs.Patterns.{isDigit, isLetter, grown, spelt, digits, letters, bad, began, counted, worded};
-ghost use Rattle.text.specs.Patterns.{number, word, itself, piece, pieces, whole};
+ghost use Rattle.text.specs.Patterns.{number, word, itself, piece, pieces, form, whole};
 ghost use Rattle.text.specs.contracts.Sizes.{ABOVE, LONG-WORD};
 
 const GREATEST_NUMBER: u64 = 1000000;
@@ -239,4 +239,13 @@ pub fn is_whole(s: &[u8], f: Read) -> bool
     ensures { λ r. ⌜ r ≡ whole (now (s .entry)) f ⌝ }
 {
     f.good & (f.next == s.len())
+}
+
+// Whether `)` and the line feed stand at a position and s ends there.
+// Ruled out: yes where the line feed is missing; yes where a second line follows.
+pub fn ends_at(s: &[u8], at: usize) -> bool
+    ensures { λ r. ⌜ r ≡ whole (now (s .entry)) (form (now (s .entry)) at ")\n") ⌝ }
+{
+    let f = read_form(s, at, b")\n");
+    is_whole(s, f)
 }
