@@ -19,3 +19,5 @@ pub mod Numbers
 pub mod PatternLaws
 -- the items of an ask: one more kept, those read and those left
 pub mod AskLaws
+-- replies: one byte more, one text after another, the digits of a number
+pub mod ReplyLaws

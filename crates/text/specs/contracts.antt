@@ -1,3 +1,4 @@
 -- The vocabulary of contracts over the text. A reader of the definitions need not read it.
 pub mod Sizes
 pub mod Asks
+pub mod Replies

@@ -164,8 +164,8 @@ fn add_item(a: Asked, f: Read) -> Asked
 fn gather(line: &[u8], at: usize) -> Asked
     ensures { λ r. ⌜ r ≡ askedOf (gathered GROUPS (now (line .entry)) at) ⌝ }
 {
-    let rows = [0u32; 64];
-    let rights = [0u32; 64];
+    let rows = [0u32; GROUPS];
+    let rights = [0u32; GROUPS];
     let mut a = Asked {
         next: at,
         count: 0,

@@ -53,3 +53,4 @@ pub struct Reply {
 // ---- functions
 pub mod call_line;
 pub mod patterns;
+pub mod replies;

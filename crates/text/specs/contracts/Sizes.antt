@@ -19,6 +19,13 @@ GROUPS = 64
 abbrev pub REPLY : ℕ
 REPLY = 256
 
+-- the digits of a number at most; a space and a number
+abbrev pub DIGITS : ℕ
+DIGITS = 10
+
+abbrev pub VALUE : ℕ
+VALUE = 11
+
 -- ---- they are those of the definitions
 pub record SizesMeant : Type 0 where
   pub above : ABOVE ≡ suc greatestNumber
