@@ -22,7 +22,7 @@ use Rattle.text.specs.declared.Read.{Read}
 use Rattle.changes.proofs.Put.{set-pad-end}
 
 -- ---- lists with one element more
-all-snoc : {A : Type 0} (f : A → Bool) (xs : List A) (y : A) → all f (xs ++ (y ∷ [])) ≡ all f xs && f y
+pub all-snoc : {A : Type 0} (f : A → Bool) (xs : List A) (y : A) → all f (xs ++ (y ∷ [])) ≡ all f xs && f y
 unfolding all
 all-snoc f [] y = and-true (f y)
 all-snoc f (x ∷ xs) y = pick (f x) (all-snoc f xs y)

@@ -21,3 +21,7 @@ pub mod PatternLaws
 pub mod AskLaws
 -- replies: one byte more, one text after another, the digits of a number
 pub mod ReplyLaws
+-- the lines of an opening text, the entries of a node form, what is given
+pub mod OpeningLaws
+-- the two passes over an opening text
+pub mod PassLaws

@@ -10,7 +10,7 @@ use lib.Dec.{leb}
 use lib.ListN.{length, getD, drop, drop-of-length-le, List·getD-eq-default}
 use lib.Seq.{drop-cons}
 use borrow.Author.Tests.{le-leb, lt-leb, leb-true, ne-eqb, le-ltb, lt-ltb, eq-eqb}
-use Rattle.rows.proofs.Bools.{and-l}
+use Rattle.rows.proofs.Bools.{and-l, and-r}
 use Rattle.rows.specs.Lists.{between, bytes}
 use Rattle.text.specs.Patterns.{isDigit, isLetter, run, number, bad, counted, digits, word, worded, letters, itself, passed, piece, pieces, began, form}
 use Rattle.text.specs.declared.Read.{Read}
@@ -31,6 +31,10 @@ over lo hi b p q = rw (le-leb lo b p, lt-leb b hi q)
 low-of : (lo hi b : ℕ) → between lo hi b ≡ true → lo ≤ b
 unfolding between
 low-of lo hi b e = leb-true lo b (and-l (leb lo b) (leb b hi) e)
+
+pub high-of : (lo hi b : ℕ) → between lo hi b ≡ true → b ≤ hi
+unfolding between
+high-of lo hi b e = leb-true b hi (and-r (leb lo b) (leb b hi) e)
 
 pub digit-low : (b : ℕ) → isDigit b ≡ true → 48 ≤ b
 unfolding isDigit

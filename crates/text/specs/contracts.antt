@@ -2,3 +2,4 @@
 pub mod Sizes
 pub mod Asks
 pub mod Replies
+pub mod Openings

@@ -8,28 +8,26 @@ use crate::patterns::read_form;
 use calls::Call;
 use calls::Item;
 use calls::Items;
+use rows::codes::ALL_RIGHTS;
+use rows::codes::LAST_PROCESS;
 ghost use mathlib.Core.Path.{_≡_};
 ghost use Prim.Native.Nat.{_+_, _<_, _≤_};
 ghost use lib.ListN.{length};
 ghost use Rattle.rows.specs.Lists.{member};
-ghost use Rattle.text.specs.CallLines.{isProcess, isNumber, ranged, simple, simpleForm, comesForm};
-ghost use Rattle.text.specs.CallLines.{Gathered, gathered, itemOf, itemRanged, packed, judged, askForm, readingOf};
+ghost use Rattle.text.specs.CallLines.{isProcess, isNumber, ranged, simple, simpleForm};
+ghost use Rattle.text.specs.CallLines.{Gathered, gathered, packed, judged, askForm, readingOf};
 ghost use Rattle.text.specs.contracts.Sizes.{GROUPS};
-ghost use Rattle.text.specs.contracts.Asks.{askedOf, withItem};
-
-const LAST_PROCESS: u32 = 64;
+ghost use Rattle.text.specs.contracts.Asks.{askedOf, withItem, otherCall};
 
 const GREATEST_NUMBER: u32 = 1000000;
-
-const ALL_RIGHTS: u32 = 7;
 
 const MOST_ITEMS: usize = 4;
 
 // groups in brackets: more than any line has
-const GROUPS: usize = 64;
+pub const GROUPS: usize = 64;
 
 // the bytes of the longest line, with its line feed
-const LONGEST_LINE: usize = 256;
+pub const LONGEST_LINE: usize = 256;
 
 // the codes of the words: a letter is worth 1 to 26 in base 32
 const GO: u64 = 239;
@@ -53,7 +51,8 @@ const REFUSE: u64 = 609441381;
 const REVOKE: u64 = 609959269;
 
 // ---- ranges
-fn is_process(p: u32) -> bool
+// Whether a number is a process's. Ruled out: yes for 0; yes for 65.
+pub fn is_process(p: u32) -> bool
     ensures { λ r. ⌜ r ≡ isProcess p ⌝ }
 {
     (1 <= p) & (p <= LAST_PROCESS)
@@ -112,7 +111,7 @@ fn simple_form(line: &[u8]) -> Reading
 
 // `(comes e q)`, else a call of one number.
 fn comes_form(line: &[u8]) -> Reading
-    ensures { λ r. ⌜ r ≡ comesForm (now (line .entry)) (simpleForm (now (line .entry))) ⌝ }
+    ensures { λ r. ⌜ r ≡ otherCall (now (line .entry)) ⌝ }
 {
     let f = read_form(line, 0, b"(comes # #)\n");
     if is_whole(line, f) {
@@ -230,7 +229,7 @@ fn judge(p: u32, c: u32, a: Asked) -> Reading
 
 // `(p ask c (e r) ..)`, else another form.
 fn ask_form(line: &[u8]) -> Reading
-    ensures { λ r. ⌜ r ≡ askForm (now (line .entry)) (comesForm (now (line .entry)) (simpleForm (now (line .entry)))) ⌝ }
+    ensures { λ r. ⌜ r ≡ askForm (now (line .entry)) (otherCall (now (line .entry))) ⌝ }
 {
     let f = read_form(line, 0, b"(# ask #");
     let at = f.next;

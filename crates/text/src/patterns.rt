@@ -3,7 +3,7 @@ use crate::Read;
 use crate::Run;
 ghost use mathlib.Core.Path.{_≡_};
 ghost use Prim.Native.Nat.{_≤_};
-ghost use Rattle.text.specs.Patterns.{isDigit, isLetter, grown, spelt, digits, letters, bad, began, counted, worded};
+ghost use Rattle.text.specs.Patterns.{isDigit, isLetter, grown, spelt, digits, letters, bad, began, counted};
 ghost use Rattle.text.specs.Patterns.{number, word, itself, piece, pieces, form, whole};
 ghost use Rattle.text.specs.contracts.Sizes.{ABOVE, LONG-WORD};
 

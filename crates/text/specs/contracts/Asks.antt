@@ -5,7 +5,8 @@ use lib.ListN.{length}
 use Rattle.rows.specs.Lists.{all, distinct, pad}
 use Rattle.text.specs.declared.Read.{Read}
 use Rattle.text.specs.declared.Asked.{Asked}
-use Rattle.text.specs.CallLines.{Gathered, itemOf, itemRanged}
+use Rattle.text.specs.declared.Reading.{Reading}
+use Rattle.text.specs.CallLines.{Gathered, itemOf, itemRanged, comesForm, simpleForm}
 use Rattle.text.specs.contracts.Sizes.{GROUPS}
 
 unfoldable pub askedOf : Gathered → Asked
@@ -22,3 +23,7 @@ askedOf g =
 -- one more item, as its form was read
 abbrev pub withItem : Gathered → Read → Gathered
 withItem g f = record { items = g .items ++ (itemOf f ∷ []); next = f .next }
+
+-- what a line reads as if it is no ask
+abbrev pub otherCall : List ℕ → Reading
+otherCall s = comesForm s (simpleForm s)

@@ -52,7 +52,8 @@ loop-again c =
     let at = l .before .before .args .at in
     let is = f .read-form .ensures ∙ form-of s (l .loop .a .next) _ " (# #)" (l .loop .inv .0) in
     let k = l .loop .inv .1 in
-    (l .loop .inv .0, gathering-goes-on 64 s at (l .loop .a) k (f .read-form .result) (c .add-item .result) is (not-false _ (c .before .if2 .left)) (omega arith) (c .add-item .ensures .0 (k .read) (k .held)))
+    let added = c .add-item .ensures .0 (k .read) (k .held) in
+    (l .loop .inv .0, gathering-goes-on 64 s at (l .loop .a) k (f .read-form .result) (c .add-item .result) is (not-false _ (c .before .if2 .left)) (omega arith) added)
 
 returns-2 : tie.Need-returns-2 Inv-loop μ-loop
 returns-2 c =

@@ -6,7 +6,6 @@ use Rattle.rows.specs.Lists.{bytes}
 use Rattle.text.specs.Answers.{noText, spaced}
 use Rattle.text.specs.contracts.Replies.{openingText, inReply}
 use Rattle.text.proofs.ReplyLaws.{two-parts}
-use Rattle.changes.proofs.Parts.{put}
 use borrow.Author.Needs.{needs}
 use Rattle.text.proofs.replies.print_opening.Statement.{statement}
 use Rattle.text.proofs.replies.print_opening.Tie as tie

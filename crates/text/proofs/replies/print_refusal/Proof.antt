@@ -6,7 +6,6 @@ use Rattle.rows.specs.Lists.{bytes}
 use Rattle.calls.specs.Answers.{refusalOf, valuesOf}
 use Rattle.text.specs.Answers.{printed, okText, spaced, noText}
 use Rattle.text.specs.contracts.Replies.{inReply}
-use Rattle.changes.proofs.Parts.{put}
 use borrow.Author.Needs.{needs}
 use Rattle.text.proofs.replies.print_refusal.Statement.{statement}
 use Rattle.text.proofs.replies.print_refusal.Tie as tie
