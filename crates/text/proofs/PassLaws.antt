@@ -12,7 +12,8 @@ use Rattle.rows.proofs.Bools.{clash}
 use Rattle.rows.specs.Limits.{mostBytes}
 use Rattle.rows.specs.Lists.{any}
 use Rattle.rows.specs.Sound.{same}
-use Rattle.text.specs.Opening.{Form, Line, FirstPass, lastLine, readTo, formLine, formRefusal, firstPass, stoppedBy, badLine, lineOf, nodeForm, processForm, linesOf, processLine, openLine, entriesFrom, nodeLine, Entries, formListed, givesNode, missingAt, secondPass}
+use Rattle.text.specs.Opening.{Form, Line, FirstPass, lastLine, readTo, formLine, formRefusal, firstPass, stoppedBy, badLine, lineOf}
+use Rattle.text.specs.Opening.{nodeForm, processForm, linesOf, processLine, openLine, entriesFrom, nodeLine, Entries, formListed, givesNode, missingAt, secondPass}
 use Rattle.text.specs.Patterns.{whole, form, mostGroups}
 use Rattle.text.specs.contracts.Openings.{lineRead, NodeTold, FormSteps, Steps, Gives, gone-on, stopped, firstLine, Ends, entriesAt, naming, namingOf, listedFrom, ReadTo, verdictOf}
 use Rattle.text.specs.contracts.Sizes.{GROUPS}
@@ -127,7 +128,8 @@ module _ (t : List ℕ) (at n : ℕ) (g : Given) (k : Passing t at n g) (e : ℕ
   unfolding Steps
   passing-goes-on going = pick (lineOf (take (e - at) (drop at t))) (k .whole ∙ left-by t at e n (k .read) h is) st
     where
-      taken : (f : Form) → firstPass [] 1 (linesOf t) ≡ byLine (k .read) n (linesOf (drop e t)) (formLine f) → FormSteps (k .read) f r → (b : Bool) → eqb (formRefusal (k .read) f) 0 ≡ b → Passing t e (n + 1) (r .given)
+      taken : (f : Form) → firstPass [] 1 (linesOf t) ≡ byLine (k .read) n (linesOf (drop e t)) (formLine f) → FormSteps (k .read) f r
+          → (b : Bool) → eqb (formRefusal (k .read) f) 0 ≡ b → Passing t e (n + 1) (r .given)
       taken f w s true q =
           let z = eqb-true (formRefusal (k .read) f) 0 q in
           record { read = f ∷ k .read; gives = s .taken z .1; whole = rw add-one (w ∙ form-taken (k .read) n (linesOf (drop e t)) f z) }
@@ -145,7 +147,8 @@ module _ (t : List ℕ) (at n : ℕ) (g : Given) (k : Passing t at n g) (e : ℕ
       p : Passed
       p = record { refusal = r .refusal; line = n; given = r .given }
 
-      stopped-at : (f : Form) → firstPass [] 1 (linesOf t) ≡ byLine (k .read) n (linesOf (drop e t)) (formLine f) → FormSteps (k .read) f r → (b : Bool) → eqb (formRefusal (k .read) f) 0 ≡ b → Ends (firstPass [] 1 (linesOf t)) p
+      stopped-at : (f : Form) → firstPass [] 1 (linesOf t) ≡ byLine (k .read) n (linesOf (drop e t)) (formLine f) → FormSteps (k .read) f r
+          → (b : Bool) → eqb (formRefusal (k .read) f) 0 ≡ b → Ends (firstPass [] 1 (linesOf t)) p
       stopped-at f w s true q = clash (s .taken (eqb-true (formRefusal (k .read) f) 0 q) .0) stops
       stopped-at f w s false q =
           let z = eqb-false (formRefusal (k .read) f) 0 q in

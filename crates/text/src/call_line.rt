@@ -11,7 +11,7 @@ use calls::Items;
 use rows::codes::ALL_RIGHTS;
 use rows::codes::LAST_PROCESS;
 ghost use mathlib.Core.Path.{_≡_};
-ghost use Prim.Native.Nat.{_+_, _<_, _≤_};
+ghost use Prim.Native.Nat.{_+_, _<_};
 ghost use lib.ListN.{length};
 ghost use Rattle.rows.specs.Lists.{member};
 ghost use Rattle.text.specs.CallLines.{isProcess, isNumber, ranged, simple, simpleForm};

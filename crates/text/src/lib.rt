@@ -109,6 +109,7 @@ pub struct Verdict {
 
 // ---- functions
 pub mod call_line;
+pub mod opening_lines;
 pub mod opening_text;
 pub mod patterns;
 pub mod replies;

@@ -1,8 +1,6 @@
 // An opening text of any bytes: accepted, or refused with a number at a line (specs/Opening.antt). Its lines are read
 // where they stand, in two passes.
-use crate::EntriesRead;
 use crate::Entry;
-use crate::EntryRead;
 use crate::Given;
 use crate::LineRead;
 use crate::Naming;
@@ -10,156 +8,29 @@ use crate::Passed;
 use crate::Step;
 use crate::Verdict;
 use crate::call_line::GROUPS;
-use crate::call_line::LONGEST_LINE;
 use crate::call_line::is_process;
-use crate::patterns::ends_at;
-use crate::patterns::is_whole;
+use crate::opening_lines::entry_at;
+use crate::opening_lines::line_end;
+use crate::opening_lines::read_line;
 use crate::patterns::read_form;
-use rows::codes::A_SUBDIRECTORY;
-use rows::codes::ALL_RIGHTS;
 use rows::codes::AN_OPERATION;
-use rows::codes::LAST_OPERATION;
 use rows::codes::is_node;
 ghost use mathlib.Core.Path.{_≡_};
 ghost use mathlib.Core.Bool.{false};
 ghost use mathlib.Core.List.{List, [], _∷_};
-ghost use Prim.Native.Nat.{ℕ, _+_, _<_, _≤_};
-ghost use lib.ListN.{length, getD, drop};
-ghost use Rattle.rows.specs.Lists.{all};
-ghost use Rattle.text.specs.Opening.{linesOf, Form, nodeForm, processForm, entriesFrom, lineOf, nodeLine, processLine};
-ghost use Rattle.text.specs.Opening.{openLine, badLine, entryRanged, formRefusal, entryListed, firstPass, readTo};
-ghost use Rattle.text.specs.Opening.{missingAt, openingOf};
+ghost use Prim.Native.Nat.{_≤_};
+ghost use lib.ListN.{getD};
+ghost use Rattle.text.specs.Opening.{linesOf, Form, nodeForm, processForm, lineOf, formRefusal, entryListed};
+ghost use Rattle.text.specs.Opening.{firstPass, openingOf};
 ghost use Rattle.text.specs.contracts.Sizes.{GROUPS, NODES, PROCESSES};
-ghost use Rattle.text.specs.contracts.Openings.{firstLine, entryRead, entriesRead, lineRead, Gives, FormSteps, Steps};
-ghost use Rattle.text.specs.contracts.Openings.{NodeTold, stopped, gone-on};
-ghost use Rattle.text.specs.contracts.Openings.{Ends, listedFrom, entriesAt, namingOf, naming, ReadTo, verdictOf};
+ghost use Rattle.text.specs.contracts.Openings.{Gives, RefusesNode, StepsNode, FormSteps, Steps};
+ghost use Rattle.text.specs.contracts.Openings.{stopped, gone-on, Ends, listedFrom, nodeListed, namingOf};
+ghost use Rattle.text.specs.contracts.Openings.{naming, Misses, verdictOf};
 
 const MOST_ENTRIES: usize = 16;
 
-// ---- lines
-// The position after the line that begins at a position, its line feed with it.
-fn line_end(text: &[u8], at: usize) -> usize
-    requires { ⌜ at ≤ length (now text) ⌝ }
-    ensures ends { λ r. ⌜ r ≡ at + firstLine (drop at (now (text .entry))) ⌝ }
-    ensures within { λ r. ⌜ r ≤ length (now (text .entry)) ⌝ }
-{
-    let mut i = at;
-    while i < text.len() {
-        if text[i] == b'\n' {
-            return i + 1;
-        }
-        i += 1;
-    }
-    i
-}
-
-// ---- entries
-// The entry at a position: `(op 2 5 7)` or `(dir 2 3)` after a space.
-fn entry_at(line: &[u8], at: usize) -> EntryRead
-    ensures { λ r. ⌜ r ≡ entryRead (now (line .entry)) at ⌝ }
-{
-    let o = read_form(line, at, b" (op # # #)");
-    if o.good {
-        let entry = Entry {
-            kind: AN_OPERATION,
-            object: o.a,
-            operation: o.b,
-            rights: o.c,
-        };
-        return EntryRead {
-            good: true,
-            next: o.next,
-            entry,
-        };
-    }
-    let d = read_form(line, at, b" (dir # #)");
-    let entry = Entry {
-        kind: A_SUBDIRECTORY,
-        object: d.b,
-        operation: 0,
-        rights: d.c,
-    };
-    EntryRead {
-        good: d.good,
-        next: d.next,
-        entry,
-    }
-}
-
-fn entry_ranged(e: Entry) -> bool
-    ensures { λ r. ⌜ r ≡ entryRanged e ⌝ }
-{
-    let good = e.rights <= ALL_RIGHTS;
-    if e.kind == AN_OPERATION {
-        return good & (is_process(e.object) & (e.operation <= LAST_OPERATION));
-    }
-    good & is_node(e.object)
-}
-
-// The entries from a position on.
-fn entries_at(line: &[u8], at: usize) -> EntriesRead
-    ensures { λ r. ⌜ r ≡ entriesRead (entriesFrom GROUPS (now (line .entry)) at) ⌝ }
-{
-    let mut r = EntriesRead {
-        next: at,
-        count: 0,
-        ranged: true,
-    };
-    while r.count < GROUPS {
-        let i = r.next;
-        let e = entry_at(line, i);
-        if !e.good {
-            return r;
-        }
-        let entry = e.entry;
-        r = EntriesRead {
-            next: e.next,
-            count: r.count + 1,
-            ranged: r.ranged & entry_ranged(entry),
-        };
-    }
-    r
-}
-
-// ---- a line
-fn last_form(line: &[u8]) -> LineRead
-    ensures { λ r. ⌜ r ≡ lineRead (openLine (now (line .entry)) badLine) ⌝ }
-{
-    let f = read_form(line, 0, b"(open)\n");
-    if is_whole(line, f) {
-        return LineRead::Last;
-    }
-    LineRead::Bad
-}
-
-fn process_form(line: &[u8]) -> LineRead
-    ensures { λ r. ⌜ r ≡ lineRead (processLine (now (line .entry)) (openLine (now (line .entry)) badLine)) ⌝ }
-{
-    let f = read_form(line, 0, b"(process # #)\n");
-    if is_whole(line, f) {
-        return LineRead::Process(f.b, f.c);
-    }
-    last_form(line)
-}
-
-// What a line is: a node form, a process form, `(open)`, or bad.
-fn read_line(line: &[u8]) -> LineRead
-    ensures { λ r. ⌜ r ≡ lineRead (lineOf (now (line .entry))) ⌝ }
-{
-    if LONGEST_LINE < line.len() {
-        return LineRead::Bad;
-    }
-    let f = read_form(line, 0, b"(node #");
-    let at = f.next;
-    let es = entries_at(line, at);
-    let end = es.next;
-    if f.good & ends_at(line, end) {
-        return LineRead::Node(f.c, es.count, es.ranged);
-    }
-    process_form(line)
-}
-
 // ---- what is given
+// Nothing is given yet.
 fn none_given() -> Given
     ensures { λ r. ⌜ Gives r [] ⌝ }
 {
@@ -179,6 +50,7 @@ fn is_given(run: &[bool], n: u32) -> bool
     false
 }
 
+// One more node is given.
 fn with_node(g: Given, n: u32) -> Given
     requires { ⌜ n ≤ NODES ⌝ }
     ensures { λ r. ⌜ ((fs : List Form) (es : List Entry) → Gives g fs → Gives r (nodeForm n es ∷ fs)) ⌝ }
@@ -189,6 +61,7 @@ fn with_node(g: Given, n: u32) -> Given
     Given { nodes, processes }
 }
 
+// One more process is given.
 fn with_process(g: Given, p: u32, n: u32) -> Given
     requires { ⌜ p ≤ PROCESSES ⌝ }
     ensures { λ r. ⌜ ((fs : List Form) → Gives g fs → Gives r (processForm p n ∷ fs)) ⌝ }
@@ -202,7 +75,7 @@ fn with_process(g: Given, p: u32, n: u32) -> Given
 // ---- the first pass: 2, 3, 4 and 6
 // The refusal of a node form after the forms given, the lowest number first; 0 for none.
 fn node_refusal(g: Given, n: u32, count: usize, ranged: bool) -> u32
-    ensures refused { λ r. ⌜ ((fs : List Form) (es : List Entry) → Gives g fs → NodeTold count ranged es → r ≡ formRefusal fs (nodeForm n es)) ⌝ }
+    ensures refused { λ r. ⌜ RefusesNode g n count ranged r ⌝ }
     ensures within { λ r. ⌜ (r ≡ 0 → n ≤ NODES) ⌝ }
 {
     let good = is_node(n) & ranged;
@@ -257,8 +130,9 @@ fn go_on(g: Given) -> Step
     }
 }
 
+// What a node form does after the forms given.
 fn node_step(g: Given, n: u32, count: usize, ranged: bool) -> Step
-    ensures { λ r. ⌜ ((fs : List Form) (es : List Entry) → Gives g fs → NodeTold count ranged es → FormSteps fs (nodeForm n es) r) ⌝ }
+    ensures { λ r. ⌜ StepsNode g n count ranged r ⌝ }
 {
     let k = node_refusal(g, n, count, ranged);
     if k == 0 {
@@ -267,6 +141,7 @@ fn node_step(g: Given, n: u32, count: usize, ranged: bool) -> Step
     stop(g, k)
 }
 
+// What a process form does after the forms given.
 fn process_step(g: Given, p: u32, n: u32) -> Step
     ensures { λ r. ⌜ ((fs : List Form) → Gives g fs → FormSteps fs (processForm p n) r) ⌝ }
 {
@@ -350,8 +225,9 @@ fn entries_listed(line: &[u8], at: usize, g: Given) -> bool
     true
 }
 
+// Whether the entries of a node form name only what is given.
 fn node_listed(line: &[u8], g: Given) -> bool
-    ensures { λ r. ⌜ ((fs : List Form) → Gives g fs → r ≡ listedFrom fs GROUPS (now (line .entry)) (entriesAt (now (line .entry)))) ⌝ }
+    ensures { λ r. ⌜ ((fs : List Form) → Gives g fs → r ≡ nodeListed fs (now (line .entry))) ⌝ }
 {
     let f = read_form(line, 0, b"(node #");
     let at = f.next;
@@ -387,7 +263,7 @@ fn line_listed(line: &[u8], g: Given) -> Naming
 
 // The first line that names what is not given, 0 for none.
 fn second_pass(text: &[u8], g: Given) -> usize
-    ensures { λ r. ⌜ ((fs : List Form) (rest : List (List ℕ)) → ReadTo (now (text .entry)) fs rest → Gives g fs → r ≡ missingAt fs fs) ⌝ }
+    ensures { λ r. ⌜ Misses g (now (text .entry)) r ⌝ }
 {
     let mut at = 0;
     let mut n = 1;

@@ -19,8 +19,8 @@ use Rattle.text.specs.declared.Naming.the-variants.{Listed, Missing, End
 use Rattle.text.specs.declared.Verdict.{Verdict}
 use Rattle.text.specs.Patterns.{form}
 use Rattle.text.specs.Opening.{operationEntry, subdirectoryEntry, Entries, entryRanged, Form, nodeForm, processForm, Line, lastLine, formLine, badLine}
-use Rattle.text.specs.Opening.{linesOf, entriesFrom, givesNode, givesProcess, formRefusal, entryListed, formListed, firstPass, FirstPass, readTo, stoppedBy, Opening, opens, refusedAt}
-use Rattle.text.specs.contracts.Sizes.{NODES, PROCESSES}
+use Rattle.text.specs.Opening.{linesOf, entriesFrom, givesNode, givesProcess, formRefusal, entryListed, formListed, missingAt, firstPass, FirstPass, readTo, stoppedBy, Opening, opens, refusedAt}
+use Rattle.text.specs.contracts.Sizes.{GROUPS, NODES, PROCESSES}
 
 -- ---- lines
 -- how long the first line of a text is, with its line feed
@@ -74,6 +74,13 @@ pub record FormSteps (fs : List Form) (f : Form) (r : Step) : Type 0 where
   pub taken : formRefusal fs f ≡ 0 → (r .going ≡ true) × Gives (r .given) (f ∷ fs)
   pub refused : (formRefusal fs f ≡ 0 → ⊥) → (r .going ≡ false) × (r .refusal ≡ formRefusal fs f)
 
+-- of a node form whose entries are told by their number and range: its refusal; what it does
+abbrev pub RefusesNode : Given → ℕ → ℕ → Bool → ℕ → Type 0
+RefusesNode g n count ranged k = (fs : List Form) (es : List Entry) → Gives g fs → NodeTold count ranged es → k ≡ formRefusal fs (nodeForm n es)
+
+abbrev pub StepsNode : Given → ℕ → ℕ → Bool → Step → Type 0
+StepsNode g n count ranged r = (fs : List Form) (es : List Entry) → Gives g fs → NodeTold count ranged es → FormSteps fs (nodeForm n es) r
+
 -- what a line does after the forms fs
 unfoldable pub Steps : List Form → Line → Step → Type 0
 Steps fs lastLine r = (r .going ≡ false) × (r .refusal ≡ 0) × Gives (r .given) fs
@@ -94,6 +101,10 @@ listedFrom fs n s i = all (entryListed fs) (entriesFrom n s i .entries)
 unfoldable pub entriesAt : List ℕ → ℕ
 entriesAt s = form s 0 "(node #" .next
 
+-- whether the entries of a node form do
+abbrev pub nodeListed : List Form → List ℕ → Bool
+nodeListed fs s = listedFrom fs GROUPS s (entriesAt s)
+
 unfoldable pub namingOf : Bool → Naming
 namingOf listed = if listed then Listed else Missing
 
@@ -106,6 +117,10 @@ naming fs (formLine f) = namingOf (formListed fs f)
 -- the first pass reads the text up to `(open)`
 abbrev pub ReadTo : List ℕ → List Form → List (List ℕ) → Type 0
 ReadTo text fs rest = firstPass [] 1 (linesOf text) ≡ readTo fs rest
+
+-- n is the first line that names what the forms do not give, 0 for none
+abbrev pub Misses : Given → List ℕ → ℕ → Type 0
+Misses g text n = (fs : List Form) (rest : List (List ℕ)) → ReadTo text fs rest → Gives g fs → n ≡ missingAt fs fs
 
 -- ---- the opening
 unfoldable pub verdictOf : Opening → Verdict

@@ -51,8 +51,8 @@ add-n c = search needs
 
 loop-less : tie.Need-loop-less Inv-loop μ-loop
 loop-less c =
-    let e = c .before .before .before .before .before in
-    let l = e .before .before in
+    let e = c .before .before .before .before in
+    let l = e .before .before .before in
     let more = line-some (l .before .before .before .args .text .now) (l .loop .at) (omega arith) in
     omega arith
 

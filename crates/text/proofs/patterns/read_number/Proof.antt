@@ -48,7 +48,8 @@ returns-3 c =
 returns-4 : tie.Need-returns-4
 returns-4 c =
     let d = c .before in
-    let a = d .before .before .before .before .before .args in
+    let b = d .before .before in
+    let a = b .before .before .before .args in
     c .no-form2 .ensures ∙ sym (⊎-elim (λ w. number-low (a .s .now) (a .r) (omega arith)) (λ w. number-high (a .s .now) (a .r) (omega arith)) (d .if2 .came))
 
 pub read-number-spec : {M : Type 1} → statement M

@@ -1,4 +1,4 @@
--- `opening_text::line_end` meets its contract: the bytes left decide.
+-- `opening_lines::line_end` meets its contract: the bytes left decide.
 use borrow.Author.Needs.{needs}
 use Prim.Native.Nat.{_≤_, _+_, _-_}
 use native.Mathlib.Omega.{arith}
@@ -6,8 +6,8 @@ use mathlib.Core.Path.{_≡_, refl}
 use lib.ListN.{length, drop}
 use Rattle.text.specs.contracts.Openings.{firstLine}
 use Rattle.text.proofs.OpeningLaws.{line-feed, line-more, line-none}
-use Rattle.text.proofs.opening_text.line_end.Statement.{statement}
-use Rattle.text.proofs.opening_text.line_end.Tie as tie
+use Rattle.text.proofs.opening_lines.line_end.Statement.{statement}
+use Rattle.text.proofs.opening_lines.line_end.Tie as tie
 
 abbrev Inv-loop : tie.InvT-loop
 Inv-loop text at i₀ i = (at ≤ i) × (i ≤ length text) × (i + firstLine (drop i text) ≡ at + firstLine (drop at text))

@@ -1,4 +1,4 @@
--- `opening_text::read_line` meets its contract.
+-- `opening_lines::read_line` meets its contract.
 use native.Mathlib.Omega.{arith}
 use mathlib.Core.Path.{sym, _∙_, ap}
 use lib.ListN.{length}
@@ -10,8 +10,8 @@ use Rattle.text.specs.Patterns.{form, mostGroups, whole}
 use Rattle.text.specs.contracts.Openings.{lineRead, entriesRead}
 use Rattle.text.specs.declared.EntriesRead.{EntriesRead}
 use borrow.Author.Needs.{needs}
-use Rattle.text.proofs.opening_text.read_line.Statement.{statement}
-use Rattle.text.proofs.opening_text.read_line.Tie as tie
+use Rattle.text.proofs.opening_lines.read_line.Statement.{statement}
+use Rattle.text.proofs.opening_lines.read_line.Tie as tie
 
 returns : tie.Need-returns
 unfolding lineRead lineOf nodeLine form bytes mostGroups mostBytes entriesRead

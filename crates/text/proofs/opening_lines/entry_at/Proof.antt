@@ -1,4 +1,4 @@
--- `opening_text::entry_at` meets its contract.
+-- `opening_lines::entry_at` meets its contract.
 use mathlib.Core.Path.{sym}
 use Rattle.rows.specs.Codes.{operation, subdirectory}
 use Rattle.rows.specs.Lists.{bytes}
@@ -6,8 +6,8 @@ use Rattle.text.specs.Opening.{operationEntry, subdirectoryEntry}
 use Rattle.text.specs.Patterns.{form}
 use Rattle.text.specs.contracts.Openings.{entryRead}
 use borrow.Author.Needs.{needs}
-use Rattle.text.proofs.opening_text.entry_at.Statement.{statement}
-use Rattle.text.proofs.opening_text.entry_at.Tie as tie
+use Rattle.text.proofs.opening_lines.entry_at.Statement.{statement}
+use Rattle.text.proofs.opening_lines.entry_at.Tie as tie
 
 slice-aggregate-read-form : tie.Need-slice-aggregate-read-form
 slice-aggregate-read-form c = search needs

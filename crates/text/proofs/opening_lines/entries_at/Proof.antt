@@ -1,4 +1,4 @@
--- `opening_text::entries_at` meets its contract: the entries read, then those left.
+-- `opening_lines::entries_at` meets its contract: the entries read, then those left.
 use borrow.Author.Needs.{needs}
 use Prim.Native.Nat.{_-_}
 use native.Mathlib.Omega.{arith}
@@ -7,8 +7,8 @@ use borrow.Author.Tests.{not-true, not-false}
 use Rattle.rows.specs.Lists.{all}
 use Rattle.text.specs.contracts.Openings.{entriesRead}
 use Rattle.text.proofs.OpeningLaws.{Entering, entering-starts, entering-stops, entering-goes-on, entering-ends}
-use Rattle.text.proofs.opening_text.entries_at.Statement.{statement}
-use Rattle.text.proofs.opening_text.entries_at.Tie as tie
+use Rattle.text.proofs.opening_lines.entries_at.Statement.{statement}
+use Rattle.text.proofs.opening_lines.entries_at.Tie as tie
 
 abbrev Inv-loop : tie.InvT-loop
 Inv-loop line at r₀ r = Entering 64 line at r

@@ -1,12 +1,12 @@
--- `opening_text::entry_ranged` meets its contract.
+-- `opening_lines::entry_ranged` meets its contract.
 use borrow.Author.Tests.{ne-eqb}
 use Rattle.rows.specs.Codes.{isOperation, operation, isNode}
 use Rattle.rows.specs.Limits.{allRights, greatestOperation}
 use Rattle.text.specs.CallLines.{isProcess}
 use Rattle.text.specs.Opening.{entryRanged}
 use borrow.Author.Needs.{needs}
-use Rattle.text.proofs.opening_text.entry_ranged.Statement.{statement}
-use Rattle.text.proofs.opening_text.entry_ranged.Tie as tie
+use Rattle.text.proofs.opening_lines.entry_ranged.Statement.{statement}
+use Rattle.text.proofs.opening_lines.entry_ranged.Tie as tie
 
 is-process-requires : tie.Need-is-process-requires
 is-process-requires c κs = search needs
