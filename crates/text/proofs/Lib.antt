@@ -15,3 +15,13 @@ pub mod OpeningRecords
 pub mod Opening
 -- a number of any length is read as its exact value, or as 1,000,001
 pub mod Numbers
+-- runs, pieces and whole patterns, step by step as the reader takes them
+pub mod PatternLaws
+-- the items of an ask: one more kept, those read and those left
+pub mod AskLaws
+-- replies: one byte more, one text after another, the digits of a number
+pub mod ReplyLaws
+-- the lines of an opening text, the entries of a node form, what is given
+pub mod OpeningLaws
+-- the two passes over an opening text
+pub mod PassLaws

@@ -6,3 +6,4 @@ pub mod Answers
 pub mod Entry
 pub mod Session
 pub mod Computes
+pub mod contracts

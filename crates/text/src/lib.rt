@@ -31,3 +31,85 @@ pub struct Entry {
     pub operation: u32,
     pub rights: u32,
 }
+
+// The items of an ask as they are read: the position after them, how many, whether each is in range and no row is named
+// twice, their rows and their rights.
+pub struct Asked {
+    pub next: usize,
+    pub count: usize,
+    pub ranged: bool,
+    pub apart: bool,
+    pub rows: [u32; 64],
+    pub rights: [u32; 64],
+}
+
+// An answer's text: the first `length` bytes; 0 after them.
+pub const REPLY: usize = 256;
+
+pub struct Reply {
+    pub bytes: [u8; REPLY],
+    pub length: usize,
+}
+
+// One entry of a node form and the position after it; not good where none stands.
+pub struct EntryRead {
+    pub good: bool,
+    pub next: usize,
+    pub entry: Entry,
+}
+
+// The entries of a node form: the position after them, how many, whether each is in range.
+pub struct EntriesRead {
+    pub next: usize,
+    pub count: usize,
+    pub ranged: bool,
+}
+
+// What a line of an opening text is: a node form (the node, how many entries, whether each is in range), a process form
+// (process, prime node), `(open)`, or bad.
+pub enum LineRead {
+    Node(u32, usize, bool),
+    Process(u32, u32),
+    Last,
+    Bad,
+}
+
+// Which nodes and processes forms have given, each under its number.
+pub struct Given {
+    pub nodes: [bool; 33],
+    pub processes: [bool; 65],
+}
+
+// What one line does: the first pass goes on with what is given now, or ends there: refused, or 0 at `(open)`.
+pub struct Step {
+    pub going: bool,
+    pub refusal: u32,
+    pub given: Given,
+}
+
+// What the first pass ends with: a refusal and its line, or 0 and what is given.
+pub struct Passed {
+    pub refusal: u32,
+    pub line: usize,
+    pub given: Given,
+}
+
+// Whether a line names only what is given; the second pass ends at the last line.
+pub enum Naming {
+    Listed,
+    Missing,
+    Ended,
+}
+
+// An opening text is accepted (0), or refused with a number at a line.
+pub struct Verdict {
+    pub refusal: u32,
+    pub line: usize,
+}
+
+// ---- functions
+pub mod call_line;
+pub mod opening_lines;
+pub mod opening_text;
+pub mod patterns;
+pub mod replies;
