@@ -39,3 +39,6 @@ pub enum Answer {
     Told(bool),
     Refused(u32),
 }
+
+// ---- functions
+pub mod lookups;

@@ -1,0 +1,2 @@
+-- The vocabulary of contracts of the calls. A reader of the definitions need not read it.
+pub mod Lookups
