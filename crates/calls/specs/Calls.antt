@@ -1,14 +1,14 @@
--- The twelve calls on a state: every refusal 7 to 18, the lowest first, and the effect.
+-- The twelve calls on a state. Of each the refusals 7 to 18, the lowest first; then, in one table, what each does where nothing refuses it.
 use Prim.Native.Nat.{ℕ, suc}
 use mathlib.Core.Bool.{Bool, not, _&&_, _||_}
-use mathlib.Core.List.{List, _∷_}
+use mathlib.Core.List.{List, [], _∷_}
 use lib.Dec.{ltb, eqb}
 use lib.ListN.{length, getD}
 use Rattle.rows.specs.declared.Row.{Row}
 use Rattle.rows.specs.declared.Request.{Request}
 use Rattle.rows.specs.Lists.{if_then_else_, filter, any, member, some, nonzero}
 use Rattle.rows.specs.Codes.{clientEnd, serverEnd, isOperation, isSubdirectory, isClient, isServer, isEnd, inNode, inClist, mayHold, mayTransfer, mayRegister, within}
-use Rattle.rows.specs.Tables.{State, rowOf, requestOf, openOn, processAt, sources, depthOver, comesFrom, lists, onLoan, isLent}
+use Rattle.rows.specs.Tables.{State, rowOf, requestOf, processAt, sources, depthOver, comesFrom, lists, onLoan, isLent}
 use Rattle.rows.specs.Setters.{inPrimeNode, wentThrough}
 use Rattle.rows.specs.Sound.{isFetched}
 use Rattle.closing.specs.Closing.{closeRequest, closePort, dropRow}
@@ -17,16 +17,20 @@ use Rattle.calls.specs.declared.Call.{Call}
 use Rattle.calls.specs.declared.Call.the-variants.{Go, Hold, Register, Drop, Port, Close, Ask, Fetch, Reply, Refuse, Revoke, Comes}
 use Rattle.calls.specs.declared.Answer.{Answer}
 use Rattle.calls.specs.declared.Answer.the-variants.{Done, Made, Fetched, Told}
-use Rattle.calls.specs.Rules.{Out, refusedIf, notHeld, hasOpen, tooDeep, rowsFull, requestsFull, numbersSpent, withNewRows, copyOf, withRecord}
+use Rattle.calls.specs.Rules.{Out, Test, _when_, judge, notHeld, hasOpen, askedOf, tooDeep, rowsFull, requestsFull, numbersSpent, withNewRows, copyOf, withRecord}
 use Rattle.calls.specs.Loans.{itemsOf, itemRow, moves, copies, copyDepth, withRequest, handedOver}
 
-unfoldable pub done : State → Out
-done st = record { answer = Done; after = st }
-
-unfoldable pub made : ℕ → State → Out
-made n st = record { answer = Made n; after = st }
-
 -- ---- "`go e`: e, a subdirectory in the c-list, becomes active; `go 0` goes to the prime node."
+unfoldable pub refusalsGo : State → ℕ → ℕ → List Test
+refusalsGo st p e =
+    if eqb e 0 then []
+    else
+    -- "a row not in the caller's c-list"
+    7 when notHeld st p e
+    -- "wrong kind"
+    ∷ 8 when not (isSubdirectory (rowOf (st .rows) e .kind))
+    ∷ []
+
 unfoldable pub goHome : State → ℕ → State
 goHome st p = let x = processAt (st .processes) p in withRecord p (inPrimeNode x) st
 
@@ -35,191 +39,254 @@ goThrough st p e =
     let x = processAt (st .processes) p in
     withRecord p (wentThrough e (rowOf (st .rows) e .object) x) st
 
-unfoldable pub doGo : State → ℕ → ℕ → Out
-doGo st p e =
-    if eqb e 0 then done (goHome st p)
-    else refusedIf st (notHeld st p e) 7
-    (refusedIf st (not (isSubdirectory (rowOf (st .rows) e .kind))) 8
-    (done (goThrough st p e)))
-
 -- ---- "`hold s`: a row of the active node, copied to the c-list with its rights."
--- "A row taken by hold comes from the directory row and, if the caller went through a subdirectory row to its active node, from that row too."
-unfoldable pub withHeld : State → ℕ → ℕ → ℕ → ℕ → State
-withHeld st p s via d =
-    let r = rowOf (st .rows) s in
-    withNewRows (copyOf r (st .next) (r .rights) (inClist p) s via d 0 ∷ st .rows) (suc (st .next)) st
+abbrev pub heldDepth : State → ℕ → ℕ → ℕ
+heldDepth st p s = depthOver (st .rows) s (processAt (st .processes) p .through)
 
-unfoldable pub doHold : State → ℕ → ℕ → Out
-doHold st p s =
+unfoldable pub refusalsHold : State → ℕ → ℕ → List Test
+refusalsHold st p s =
     let r = rowOf (st .rows) s in
     let x = processAt (st .processes) p in
-    let d = depthOver (st .rows) s (x .through) in
-    refusedIf st (not (eqb (r .place) (inNode (x .active)))) 7
-    (refusedIf st (not (mayHold (r .rights))) 9
-    (refusedIf st (isSubdirectory (r .kind) && (some (x .through) && isLent st (x .through))) 12
-    (refusedIf st (tooDeep d) 15
-    (refusedIf st (rowsFull st 1) 16
-    (refusedIf st (numbersSpent st 1) 18
-    (made (st .next) (withHeld st p s (x .through) d)))))))
+    -- "hold: not in its active node"
+    7 when not (eqb (r .place) (inNode (x .active)))
+    -- "hold .. without that right"
+    ∷ 9 when not (mayHold (r .rights))
+    -- "hold of a subdirectory after going through a lent one"
+    ∷ 12 when (isSubdirectory (r .kind) && (some (x .through) && isLent st (x .through)))
+    -- "depth 13"
+    ∷ 15 when tooDeep (heldDepth st p s)
+    -- "too few free rows"
+    ∷ 16 when rowsFull st 1
+    -- "too few numbers left"
+    ∷ 18 when numbersSpent st 1
+    ∷ []
+
+-- "A row taken by hold comes from the directory row and, if the caller went through a subdirectory row to its active node, from that row too."
+unfoldable pub withHeld : State → ℕ → ℕ → State
+withHeld st p s =
+    let r = rowOf (st .rows) s in
+    let via = processAt (st .processes) p .through in
+    withNewRows (copyOf r (st .next) (r .rights) (inClist p) s via (heldDepth st p s) 0 ∷ st .rows) (suc (st .next)) st
 
 -- ---- "`register e`: a copy of e, with its rights, into the active node."
+abbrev pub registeredDepth : State → ℕ → ℕ
+registeredDepth st e = depthOver (st .rows) (rowOf (st .rows) e .source) 0
+
+unfoldable pub refusalsRegister : State → ℕ → ℕ → List Test
+refusalsRegister st p e =
+    let r = rowOf (st .rows) e in
+    -- "a row not in the caller's c-list"
+    7 when notHeld st p e
+    -- "Register and drop take no ends"
+    ∷ 8 when isEnd (r .kind)
+    -- ".. or register without that right"
+    ∷ 9 when not (mayRegister (r .rights))
+    -- "register of a lent row"
+    ∷ 12 when isLent st e
+    -- "depth 13"
+    ∷ 15 when tooDeep (registeredDepth st e)
+    -- "too few free rows"
+    ∷ 16 when rowsFull st 1
+    -- "too few numbers left"
+    ∷ 18 when numbersSpent st 1
+    ∷ []
+
 -- "A registered row comes from the directory row that the held row was taken from, and from nothing else."
-unfoldable pub withRegistered : State → ℕ → ℕ → ℕ → State
-withRegistered st p e d =
+unfoldable pub withRegistered : State → ℕ → ℕ → State
+withRegistered st p e =
     let r = rowOf (st .rows) e in
     let x = processAt (st .processes) p in
-    withNewRows (copyOf r (st .next) (r .rights) (inNode (x .active)) (r .source) 0 d 0 ∷ st .rows) (suc (st .next)) st
-
-unfoldable pub doRegister : State → ℕ → ℕ → Out
-doRegister st p e =
-    let r = rowOf (st .rows) e in
-    let d = depthOver (st .rows) (r .source) 0 in
-    refusedIf st (notHeld st p e) 7
-    (refusedIf st (isEnd (r .kind)) 8
-    (refusedIf st (not (mayRegister (r .rights))) 9
-    (refusedIf st (isLent st e) 12
-    (refusedIf st (tooDeep d) 15
-    (refusedIf st (rowsFull st 1) 16
-    (refusedIf st (numbersSpent st 1) 18
-    (made (st .next) (withRegistered st p e d))))))))
+    withNewRows (copyOf r (st .next) (r .rights) (inNode (x .active)) (r .source) 0 (registeredDepth st e) 0 ∷ st .rows) (suc (st .next)) st
 
 -- ---- "`drop e`: e is discarded."
--- 13: "drop of a row that another row comes from or that the caller went through"
 unfoldable pub inUse : State → ℕ → ℕ → Bool
 inUse st p e = any (λ r. member e (sources r)) (st .rows) || eqb (processAt (st .processes) p .through) e
 
-unfoldable pub doDrop : State → ℕ → ℕ → Out
-doDrop st p e =
-    refusedIf st (notHeld st p e) 7
-    (refusedIf st (isEnd (rowOf (st .rows) e .kind)) 8
-    (refusedIf st (inUse st p e) 13
-    (done (dropRow e st))))
+unfoldable pub refusalsDrop : State → ℕ → ℕ → List Test
+refusalsDrop st p e =
+    -- "a row not in the caller's c-list"
+    7 when notHeld st p e
+    -- "Register and drop take no ends"
+    ∷ 8 when isEnd (rowOf (st .rows) e .kind)
+    -- "drop of a row that another row comes from or that the caller went through"
+    ∷ 13 when inUse st p e
+    ∷ []
 
 -- ---- "`port e`: a port from operation e; client end to the caller, server end to the manager. Answers the client end."
+abbrev pub portDepth : State → ℕ → ℕ
+portDepth st e = depthOver (st .rows) e 0
+
+unfoldable pub refusalsPort : State → ℕ → ℕ → List Test
+refusalsPort st p e =
+    -- "a row not in the caller's c-list"
+    7 when notHeld st p e
+    -- "wrong kind"
+    ∷ 8 when not (isOperation (rowOf (st .rows) e .kind))
+    -- "depth 13"
+    ∷ 15 when tooDeep (portDepth st e)
+    -- "too few free rows"
+    ∷ 16 when rowsFull st 2
+    -- "too few numbers left"
+    ∷ 18 when numbersSpent st 2
+    ∷ []
+
 -- "Both ends of a port come from the operation row used. The server end's number is the client end's plus 1."
 unfoldable pub portEnd : ℕ → ℕ → ℕ → ℕ → ℕ → ℕ → Row
 portEnd kind n c place e d =
     record { number = n; kind = kind; object = c; operation = 0; rights = 0; place = place; source = e; via = 0; depth = d; request = 0 }
 
-unfoldable pub withPort : State → ℕ → ℕ → ℕ → State
-withPort st p e d =
+unfoldable pub withPort : State → ℕ → ℕ → State
+withPort st p e =
     let c = st .next in
+    let d = portDepth st e in
     let client = portEnd clientEnd c c (inClist p) e d in
     let server = portEnd serverEnd (suc c) c (inClist (rowOf (st .rows) e .object)) e d in
     withNewRows (server ∷ client ∷ st .rows) (suc (suc c)) st
 
-unfoldable pub doPort : State → ℕ → ℕ → Out
-doPort st p e =
-    let d = depthOver (st .rows) e 0 in
-    refusedIf st (notHeld st p e) 7
-    (refusedIf st (not (isOperation (rowOf (st .rows) e .kind))) 8
-    (refusedIf st (tooDeep d) 15
-    (refusedIf st (rowsFull st 2) 16
-    (refusedIf st (numbersSpent st 2) 18
-    (made (st .next) (withPort st p e d))))))
-
 -- ---- "`close c`: the port is destroyed."
-unfoldable pub doClose : State → ℕ → ℕ → Out
-doClose st p c =
-    refusedIf st (notHeld st p c) 7
-    (refusedIf st (not (isClient (rowOf (st .rows) c .kind))) 8
-    (refusedIf st (onLoan (st .requests) c) 12
-    (done (closePort c st))))
+unfoldable pub refusalsClose : State → ℕ → ℕ → List Test
+refusalsClose st p c =
+    -- "a row not in the caller's c-list"
+    7 when notHeld st p c
+    -- "ask and close want a client end"
+    ∷ 8 when not (isClient (rowOf (st .rows) c .kind))
+    -- "close of a client end on loan"
+    ∷ 12 when onLoan (st .requests) c
+    ∷ []
 
 -- ---- "`ask c (e r) ..`: SELECTRECEIVE with 0 to 4 privileges, each with the rights lent."
--- 9: "ask with a copied item lacking transfer, or rights not within the row's"
 unfoldable pub lacksRight : State → Item → Bool
 lacksRight st i =
     let r = itemRow st i in
     (not (moves st i) && not (mayTransfer (r .rights))) || not (within (i .rights) (r .rights))
 
--- 10: "an item is an end of that port or of one with an open request"
 unfoldable pub isBusy : State → ℕ → Item → Bool
 isBusy st c i = let port = itemRow st i .object in moves st i && (eqb port c || hasOpen st port)
 
-unfoldable pub doAsk : State → ℕ → ℕ → List Item → Out
-doAsk st p c is =
+-- "The lowest number that applies, over all items."
+unfoldable pub refusalsAsk : State → ℕ → ℕ → List Item → List Test
+refusalsAsk st p c is =
     let k = length (copies st is) in
-    refusedIf st (notHeld st p c || any (λ i. notHeld st p (i .row)) is) 7
-    (refusedIf st (not (isClient (rowOf (st .rows) c .kind))) 8
-    (refusedIf st (any (lacksRight st) is) 9
-    (refusedIf st (hasOpen st c || any (isBusy st c) is) 10
-    (refusedIf st (any (λ i. tooDeep (copyDepth st c i)) (copies st is)) 15
-    (refusedIf st (rowsFull st k) 16
-    (refusedIf st (requestsFull st) 17
-    (refusedIf st (numbersSpent st (suc k)) 18
-    (made (st .next) (withRequest st p c is)))))))))
+    -- "a row not in the caller's c-list"
+    7 when (notHeld st p c || any (λ i. notHeld st p (i .row)) is)
+    -- "ask and close want a client end"
+    ∷ 8 when not (isClient (rowOf (st .rows) c .kind))
+    -- "ask with a copied item lacking transfer, or rights not within the row's"
+    ∷ 9 when any (lacksRight st) is
+    -- "ask where the port has an open request, or an item is an end of that port or of one with an open request"
+    ∷ 10 when (hasOpen st c || any (isBusy st c) is)
+    -- "depth 13"
+    ∷ 15 when any (λ i. tooDeep (copyDepth st c i)) (copies st is)
+    -- "too few free rows"
+    ∷ 16 when rowsFull st k
+    -- "128 requests open"
+    ∷ 17 when requestsFull st
+    -- "too few numbers left"
+    ∷ 18 when numbersSpent st (suc k)
+    ∷ []
 
 -- ---- "`fetch v`: GETDETAILS; the privileges come to the caller."
-unfoldable pub fetchedAnswer : Request → Answer
-fetchedAnswer v = let is = v .items in Fetched (v .number) (getD is 0 0) (getD is 1 0) (getD is 2 0) (getD is 3 0)
-
-unfoldable pub doFetch : State → ℕ → ℕ → Out
-doFetch st p e =
-    let r = rowOf (st .rows) e in
-    let v = openOn (st .requests) (r .object) in
-    refusedIf st (notHeld st p e) 7
-    (refusedIf st (not (isServer (r .kind))) 8
-    (refusedIf st (eqb (v .number) 0 || isFetched v) 11
-    (record { answer = fetchedAnswer v; after = handedOver p v st })))
+unfoldable pub refusalsFetch : State → ℕ → ℕ → List Test
+refusalsFetch st p e =
+    let v = askedOf st e in
+    -- "a row not in the caller's c-list"
+    7 when notHeld st p e
+    -- "fetch, reply and refuse [want] a server end"
+    ∷ 8 when not (isServer (rowOf (st .rows) e .kind))
+    -- "fetch with no unfetched request"
+    ∷ 11 when (eqb (v .number) 0 || isFetched v)
+    ∷ []
 
 -- ---- "`reply v`: SEND; closes the request."
 -- the ends that a request still lists
 unfoldable pub lentEnds : State → Request → List ℕ
 lentEnds st v = filter (λ e. isEnd (rowOf (st .rows) e .kind)) (nonzero (v .items))
 
--- 14: "a lent end is not with the caller, or is listed in a newer request"
 unfoldable pub isAway : State → ℕ → Request → ℕ → Bool
 isAway st p v e = notHeld st p e || any (λ w. ltb (v .number) (w .number) && lists e w) (st .requests)
 
-unfoldable pub doReply : State → ℕ → ℕ → Out
-doReply st p e =
-    let r = rowOf (st .rows) e in
-    let v = openOn (st .requests) (r .object) in
-    refusedIf st (notHeld st p e) 7
-    (refusedIf st (not (isServer (r .kind))) 8
-    (refusedIf st (any (λ x. hasOpen st (rowOf (st .rows) x .object)) (lentEnds st v)) 10
-    (refusedIf st (eqb (v .number) 0 || not (isFetched v)) 11
-    (refusedIf st (any (isAway st p v) (lentEnds st v)) 14
-    (done (closeRequest (v .number) st))))))
+unfoldable pub refusalsReply : State → ℕ → ℕ → List Test
+refusalsReply st p e =
+    let v = askedOf st e in
+    -- "a row not in the caller's c-list"
+    7 when notHeld st p e
+    -- "fetch, reply and refuse [want] a server end"
+    ∷ 8 when not (isServer (rowOf (st .rows) e .kind))
+    -- "reply where a lent end's port has [an open request]"
+    ∷ 10 when any (λ x. hasOpen st (rowOf (st .rows) x .object)) (lentEnds st v)
+    -- "reply with no fetched one"
+    ∷ 11 when (eqb (v .number) 0 || not (isFetched v))
+    -- "reply while a lent end is not with the caller, or is listed in a newer request"
+    ∷ 14 when any (isAway st p v) (lentEnds st v)
+    ∷ []
 
 -- ---- "`refuse v`: REFUSE; closes it."
-unfoldable pub doRefuse : State → ℕ → ℕ → Out
-doRefuse st p e =
-    let r = rowOf (st .rows) e in
-    let v = openOn (st .requests) (r .object) in
-    refusedIf st (notHeld st p e) 7
-    (refusedIf st (not (isServer (r .kind))) 8
-    (refusedIf st (eqb (v .number) 0) 11
-    (done (closeRequest (v .number) st))))
+unfoldable pub refusalsRefuse : State → ℕ → ℕ → List Test
+refusalsRefuse st p e =
+    -- "a row not in the caller's c-list"
+    7 when notHeld st p e
+    -- "fetch, reply and refuse [want] a server end"
+    ∷ 8 when not (isServer (rowOf (st .rows) e .kind))
+    -- "refuse with none"
+    ∷ 11 when eqb (askedOf st e .number) 0
+    ∷ []
 
 -- ---- "`revoke q`: REVOKE by the process that asked; closes it."
-unfoldable pub doRevoke : State → ℕ → ℕ → Out
-doRevoke st p q =
+unfoldable pub refusalsRevoke : State → ℕ → ℕ → List Test
+refusalsRevoke st p q =
     let v = requestOf (st .requests) q in
-    refusedIf st (eqb (v .number) 0 || not (eqb (v .asker) p)) 7
-    (done (closeRequest q st))
+    -- "revoke: not an open request of the caller's"
+    7 when (eqb (v .number) 0 || not (eqb (v .asker) p))
+    ∷ []
 
 -- ---- "`(comes e q)`, with no caller, answers 1 or 0."
-unfoldable pub doComes : State → ℕ → ℕ → Out
-doComes st e q =
-    refusedIf st (eqb (rowOf (st .rows) e .number) 0 || eqb (requestOf (st .requests) q .number) 0) 7
-    (record { answer = Told (comesFrom (st .rows) q e); after = st })
+unfoldable pub refusalsComes : State → ℕ → ℕ → List Test
+refusalsComes st e q =
+    -- "comes: no such row or open request"
+    7 when (eqb (rowOf (st .rows) e .number) 0 || eqb (requestOf (st .requests) q .number) 0)
+    ∷ []
 
 -- ---- all twelve
+unfoldable pub refusals : State → Call → List Test
+refusals st (Go p e) = refusalsGo st p e
+refusals st (Hold p s) = refusalsHold st p s
+refusals st (Register p e) = refusalsRegister st p e
+refusals st (Drop p e) = refusalsDrop st p e
+refusals st (Port p e) = refusalsPort st p e
+refusals st (Close p c) = refusalsClose st p c
+refusals st (Ask p c is) = refusalsAsk st p c (itemsOf is)
+refusals st (Fetch p e) = refusalsFetch st p e
+refusals st (Reply p e) = refusalsReply st p e
+refusals st (Refuse p e) = refusalsRefuse st p e
+refusals st (Revoke p q) = refusalsRevoke st p q
+refusals st (Comes e q) = refusalsComes st e q
+
+unfoldable pub done : State → Out
+done st = record { answer = Done; after = st }
+
+unfoldable pub made : ℕ → State → Out
+made n st = record { answer = Made n; after = st }
+
+unfoldable pub fetchedAnswer : Request → Answer
+fetchedAnswer v = let is = v .items in Fetched (v .number) (getD is 0 0) (getD is 1 0) (getD is 2 0) (getD is 3 0)
+
+-- what each answers and does where no test holds
+unfoldable pub effect : State → Call → Out
+effect st (Go p e) = done (if eqb e 0 then goHome st p else goThrough st p e)
+effect st (Hold p s) = made (st .next) (withHeld st p s)
+effect st (Register p e) = made (st .next) (withRegistered st p e)
+effect st (Drop p e) = done (dropRow e st)
+effect st (Port p e) = made (st .next) (withPort st p e)
+effect st (Close p c) = done (closePort c st)
+effect st (Ask p c is) = made (st .next) (withRequest st p c (itemsOf is))
+effect st (Fetch p e) = let v = askedOf st e in record { answer = fetchedAnswer v; after = handedOver p v st }
+effect st (Reply p e) = done (closeRequest (askedOf st e .number) st)
+effect st (Refuse p e) = done (closeRequest (askedOf st e .number) st)
+effect st (Revoke p q) = done (closeRequest q st)
+effect st (Comes e q) = record { answer = Told (comesFrom (st .rows) q e); after = st }
+
 unfoldable pub perform : State → Call → Out
-perform st (Go p e) = doGo st p e
-perform st (Hold p s) = doHold st p s
-perform st (Register p e) = doRegister st p e
-perform st (Drop p e) = doDrop st p e
-perform st (Port p e) = doPort st p e
-perform st (Close p c) = doClose st p c
-perform st (Ask p c is) = doAsk st p c (itemsOf is)
-perform st (Fetch p e) = doFetch st p e
-perform st (Reply p e) = doReply st p e
-perform st (Refuse p e) = doRefuse st p e
-perform st (Revoke p q) = doRevoke st p q
-perform st (Comes e q) = doComes st e q
+perform st c = judge st (refusals st c) (effect st c)
 
 -- the caller's number; comes has none
 unfoldable pub callerOf : Call → ℕ

@@ -1,10 +1,11 @@
--- What the calls share: refusals in order, the caller's c-list, free places and numbers, new rows.
+-- What the calls share: refusals in order, the caller's c-list, free slots and numbers, new rows.
 use Prim.Native.Nat.{ℕ, suc, _+_, _-_}
-use mathlib.Core.Bool.{Bool, not}
-use mathlib.Core.List.{List}
+use mathlib.Core.Bool.{Bool, not, _&&_}
+use mathlib.Core.List.{List, [], _∷_}
 use lib.Dec.{leb, ltb, eqb}
 use lib.ListN.{length, set}
 use Rattle.rows.specs.declared.Row.{Row}
+use Rattle.rows.specs.declared.Request.{Request}
 use Rattle.rows.specs.declared.Process.{Process}
 use Rattle.rows.specs.Lists.{if_then_else_, some}
 use Rattle.rows.specs.Limits.{greatestNumber, rowSlots, requestSlots, greatestDepth}
@@ -19,10 +20,34 @@ pub record Out : Type 0 where
   pub answer : Answer
   pub after : State
 
--- "The lowest number that applies": refusal k if the test holds, else what follows; the state stays
-unfoldable pub refusedIf : State → Bool → ℕ → Out → Out
-refusedIf st test k other = if test then record { answer = Refused k; after = st } else other
+-- ---- refusals
+-- a test of the state, and the number of the refusal where it holds
+pub record Test : Type 0 where
+  pub number : ℕ
+  pub holds : Bool
 
+infix 70 _when_
+abbrev pub _when_ : ℕ → Bool → Test
+k when b = record { number = k; holds = b }
+
+-- the numbers of the refusals of a line or of the state; 1 is for words that are no sound tables
+abbrev pub isRefusal : ℕ → Bool
+isRefusal k = leb 2 k && leb k 18
+
+-- "The lowest number that applies": that of the first test that holds, 0 if none does; tests stand lowest number first
+unfoldable pub lowest : List Test → ℕ
+lowest [] = 0
+lowest (t ∷ ts) = if t .holds then t .number else lowest ts
+
+-- "Answer `(no k)`, tables untouched"
+unfoldable pub refused : State → ℕ → Out
+refused st k = record { answer = Refused k; after = st }
+
+-- refused by the first test that holds, else what follows
+unfoldable pub judge : State → List Test → Out → Out
+judge st ts other = let k = lowest ts in if eqb k 0 then other else refused st k
+
+-- ---- what the tests ask
 -- 7: "a row not in the caller's c-list"; also what is no row
 unfoldable pub notHeld : State → ℕ → ℕ → Bool
 notHeld st p e = not (eqb (rowOf (st .rows) e .place) (inClist p))
@@ -30,6 +55,10 @@ notHeld st p e = not (eqb (rowOf (st .rows) e .place) (inClist p))
 -- 10: the port, counted as its client end, has an open request
 unfoldable pub hasOpen : State → ℕ → Bool
 hasOpen st c = some (openOn (st .requests) c .number)
+
+-- the request that the server of a port sees at its end e: the one open on the port
+unfoldable pub askedOf : State → ℕ → Request
+askedOf st e = openOn (st .requests) (rowOf (st .rows) e .object)
 
 -- 15: "depth 13"
 unfoldable pub tooDeep : ℕ → Bool
@@ -47,6 +76,7 @@ requestsFull st = leb requestSlots (length (st .requests))
 unfoldable pub numbersSpent : State → ℕ → Bool
 numbersSpent st k = ltb (suc greatestNumber) (st .next + k)
 
+-- ---- changes of the state that calls share
 -- new rows in front of the old ones, and the next number after theirs
 unfoldable pub withNewRows : List Row → ℕ → State → State
 withNewRows rs n st = withRows rs (withNext n st)

@@ -1,31 +1,33 @@
 -- Demand 3: the history of the text, the lines and their answers tells the tables after every list of lines.
 use Prim.Native.Nat.{ℕ, _<_}
 use native.Mathlib.Omega.{arith}
-use mathlib.Core.Bool.{Bool, true, false, not, cond, _||_}
+use mathlib.Core.Bool.{Bool, true, false, not, cond}
 use mathlib.Core.List.{List, [], _∷_}
 use mathlib.Core.Path.{_≡_, refl, sym, ap, _∙_, subst}
-use lib.Dec.{eqb}
+use lib.Dec.{leb}
 use Rattle.rows.specs.declared.Row.{Row}
-use Rattle.rows.specs.Limits.{processes}
 use Rattle.rows.specs.Codes.{isEnd}
-use Rattle.rows.specs.Tables.{State, rowOf, requestOf}
+use Rattle.rows.specs.Lists.{all}
+use Rattle.rows.specs.Tables.{State, rowOf, isListed}
 use Rattle.rows.specs.Layout.{stateOf}
-use Rattle.rows.proofs.Bools.{clash}
+use Rattle.rows.proofs.Bools.{clash, and-l}
+use borrow.Author.Tests.{leb-true}
 use Rattle.tables.proofs.Sound.{Sound}
 use Rattle.tables.proofs.Words.{state-words}
-use Rattle.rows.proofs.Places.{between-range}
 use Rattle.closing.specs.Closing.{closeRequest}
 use Rattle.calls.specs.declared.Call.{Call}
-use Rattle.calls.specs.declared.Call.the-variants.{Go, Hold, Register, Drop, Port, Close, Ask, Fetch, Reply, Refuse, Revoke, Comes}
+use Rattle.calls.specs.declared.Call.the-variants.{Revoke}
 use Rattle.calls.specs.declared.Answer.the-variants.{Done, Refused}
 use Rattle.calls.specs.Answers.{refusalOf}
-use Rattle.calls.specs.Rules.{Out, refusedIf}
-use Rattle.calls.specs.Calls.{callerOf, done, doRevoke, perform}
+use Rattle.calls.specs.Rules.{Out, _when_, refused}
+use Rattle.calls.specs.Calls.{done, effect}
+use Rattle.kept.proofs.Judged.{numbered, judged}
+use Rattle.kept.proofs.Allowed.{RevokeAllowed}
 use Rattle.text.specs.declared.Reading.{Reading}
 use Rattle.text.specs.declared.Reading.the-variants.{Asks, Crowded, Refused as BadLine}
-use Rattle.text.specs.CallLines.{readingOf, isProcess}
+use Rattle.text.specs.CallLines.{readingOf}
 use Rattle.text.specs.Answers.{printed}
-use Rattle.text.specs.Entry.{Replied, callerUnlisted, answered, refused, callOn, replyWith, callEntry, openEntry}
+use Rattle.text.specs.Entry.{Replied, answered, callOn, replyWith, callEntry, openEntry}
 use Rattle.text.proofs.Readings.{Good, reading-good}
 use Rattle.text.proofs.Opening.{opened-sound}
 use Rattle.text.specs.Opening.{linesOf}
@@ -37,7 +39,8 @@ use Rattle.history.specs.Demand3.{lentAfter, repliesTo, stateIn, InTable
 use Rattle.history.proofs.Inv.{Inv, Lends, view, noteAnswer}
 use Rattle.history.proofs.Find.{in-tables, row-noted}
 use Rattle.history.proofs.Standing.{stands-chains, port-open, request-closed}
-use Rattle.history.proofs.StepsInv.{GoodCall, hasCaller, call-inv}
+use Rattle.history.proofs.StepsInv.{call-inv}
+use Rattle.history.proofs.Allowed.{Allowed, call-has}
 use Rattle.history.proofs.LoansSteps.{call-lends}
 use Rattle.history.proofs.Spoken.{call-spoken}
 use Rattle.history.proofs.Answered.{read-refused, note-asked, note-crowded, note-refused}
@@ -57,21 +60,10 @@ record Along (h : History) (w : Replied) : Type 0 where
   inv : Inv h st
   lends : Lends h st
 
--- a call that is read has a caller above 0
-good-call : (c : Call) → Good c → GoodCall c
-unfolding Good hasCaller callerOf isProcess
-good-call (Go p e) g = record { caller = λ _. between-range 1 processes p (g .caller) .0 }
-good-call (Hold p e) g = record { caller = λ _. between-range 1 processes p (g .caller) .0 }
-good-call (Register p e) g = record { caller = λ _. between-range 1 processes p (g .caller) .0 }
-good-call (Drop p e) g = record { caller = λ _. between-range 1 processes p (g .caller) .0 }
-good-call (Port p e) g = record { caller = λ _. between-range 1 processes p (g .caller) .0 }
-good-call (Close p e) g = record { caller = λ _. between-range 1 processes p (g .caller) .0 }
-good-call (Ask p c is) g = record { caller = λ _. between-range 1 processes p (g .caller) .0 }
-good-call (Fetch p e) g = record { caller = λ _. between-range 1 processes p (g .caller) .0 }
-good-call (Reply p e) g = record { caller = λ _. between-range 1 processes p (g .caller) .0 }
-good-call (Refuse p e) g = record { caller = λ _. between-range 1 processes p (g .caller) .0 }
-good-call (Revoke p q) g = record { caller = λ _. between-range 1 processes p (g .caller) .0 }
-good-call (Comes e q) g = record { caller = λ h. clash h refl }
+-- a line with too many items leaves the state
+crowded-stays : (P : State → Type 0) (st : State) (p : ℕ) → P st → P (answered st (Crowded p) .after)
+unfolding answered refused numbered all
+crowded-stays P st p x = judged (λ o. P (o .after)) st (5 when not (isListed (st .processes) p) ∷ []) (refused st 6) (λ k r. x) refl (λ _. x)
 
 -- a line on a state, and what is noted of it
 record Step (h : History) (st : State) (line : List ℕ) : Type 0 where
@@ -89,22 +81,19 @@ step h st s i l line = pick (readingOf line) refl
           lends = subst (λ x. Lends x (callOn st line .after)) (sym n) (subst (λ x. Lends h′ (x .after)) (sym e) l);
         }
 
-    -- what is refused leaves the state
-    same : (b : Bool) (k : ℕ) → refusedIf st b 5 (refused st k) .after ≡ st
-    same true k = unfold refusedIf refused in refl
-    same false k = unfold refusedIf refused in refl
-
     pick : (x : Reading) → readingOf line ≡ x → Step h st line
     pick (Asks c) e =
         let o = answered st (Asks c) in
         let q : callOn st line ≡ o = ap (answered st) e in
-        let g = good-call c (reading-good line c e) in
-        noted (noteAnswer h c (o .answer)) o q (note-asked h line c st (callOn st line) e (call-spoken st s line) ∙ ap (λ x. noteAnswer h c (x .answer)) q) (call-inv h st i s c g) (call-lends h st i l s c g)
+        let g = reading-good line c e in
+        noted (noteAnswer h c (o .answer)) o q (note-asked h line c st (callOn st line) e (call-spoken st s line) ∙ ap (λ x. noteAnswer h c (x .answer)) q)
+        (call-inv h st i s c g .inv) (call-lends h st i l s c g .after)
     pick (Crowded p) e =
-        let o = answered st (Crowded p) in
-        let back : o .after ≡ st = unfold answered in (same _ 6) in
-        noted h o (ap (answered st) e) (note-crowded h line (printed (callOn st line .answer)) p e) (subst (Inv h) (sym back) i) (subst (Lends h) (sym back) l)
-    pick (BadLine k) e = noted h (answered st (BadLine k)) (ap (answered st) e) (note-refused h line (printed (callOn st line .answer)) k e) (unfold answered refused in i) (unfold answered refused in l)
+        noted h (answered st (Crowded p)) (ap (answered st) e) (note-crowded h line (printed (callOn st line .answer)) p e)
+        (crowded-stays (Inv h) st p i) (crowded-stays (Lends h) st p l)
+    pick (BadLine k) e =
+        noted h (answered st (BadLine k)) (ap (answered st) e) (note-refused h line (printed (callOn st line .answer)) k e)
+        (unfold answered refused in i) (unfold answered refused in l)
 
 along-call : (h : History) (w : Replied) → Along h w → (l : List ℕ) → Along (noteLine h l (callEntry (w .tables) (w .processes) l .reply)) (callEntry (w .tables) (w .processes) l)
 unfolding replyWith
@@ -170,28 +159,17 @@ not-refused : (k : ℕ) → 0 < k → accepts (printed (Refused k)) ≡ true →
 unfolding refusalOf
 not-refused k h e = clash e (read-refused (Refused k) h)
 
--- a revoke that is accepted answers Done
-owned : (st : State) (p q : ℕ) → accepts (printed (doRevoke st p q .answer)) ≡ true → doRevoke st p q .answer ≡ Done
-unfolding doRevoke refusedIf done
-owned st p q a = pick (eqb (requestOf (st .requests) q .number) 0 || not (eqb (requestOf (st .requests) q .asker) p)) a
-  where
-    turned : Out
-    turned = record { answer = Refused 7; after = st }
+-- a call whose answer is read as accepted is allowed, and had its effect
+record Taken (st : State) (c : Call) (o : Out) : Type 0 where
+  allows : Allowed st c
+  is : o ≡ effect st c
 
-    taken : Out
-    taken = record { answer = Done; after = closeRequest q st }
-
-    pick : (b : Bool) → accepts (printed (cond b turned taken .answer)) ≡ true → cond b turned taken .answer ≡ Done
-    pick true e = absurd (not-refused 7 (omega arith) e)
-    pick false e = refl
-
-accepted-revoke : (st : State) (p q : ℕ) → accepts (printed (answered st (Asks (Revoke p q)) .answer)) ≡ true → answered st (Asks (Revoke p q)) ≡ doRevoke st p q
-unfolding answered perform refusedIf
-accepted-revoke st p q a = pick (callerUnlisted st (Revoke p q)) a
-  where
-    pick : (b : Bool) → accepts (printed (cond b (record { answer = Refused 5; after = st }) (doRevoke st p q) .answer)) ≡ true → cond b (record { answer = Refused 5; after = st }) (doRevoke st p q) ≡ doRevoke st p q
-    pick true e = absurd (not-refused 5 (omega arith) e)
-    pick false e = refl
+taken : (st : State) → Sound st → (c : Call) → Good c → accepts (printed (answered st (Asks c) .answer)) ≡ true → Taken st c (answered st (Asks c))
+unfolding refused
+taken st s c g =
+    call-has (λ o. accepts (printed (o .answer)) ≡ true → Taken st c o) st s
+    (λ k r e. absurd (not-refused k (let l = leb-true 2 k (and-l (leb 2 k) (leb k 18) r) in omega arith) e)) c g
+    (λ a _. record { allows = a; is = refl })
 
 module _ (h : History) (w : Replied) (a : Along h w) (line : List ℕ) (p q : ℕ) (e : readingOf line ≡ Asks (Revoke p q)) where
   o : Out
@@ -216,30 +194,38 @@ module _ (h : History) (w : Replied) (a : Along h w) (line : List ℕ) (p q : �
     accepted : accepts (printed (answered (a .st) (Asks (Revoke p q)) .answer)) ≡ true
     accepted = sym (ap accepts replied ∙ ap (λ x. accepts (printed (x .answer))) read) ∙ acc
 
-    is-revoke : o ≡ doRevoke (a .st) p q
-    is-revoke = read ∙ accepted-revoke (a .st) p q accepted
+    revokes : Taken (a .st) (Revoke p q) (answered (a .st) (Asks (Revoke p q)))
+    revokes = taken (a .st) (a .sound) (Revoke p q) (reading-good line (Revoke p q) e) accepted
 
-    is-done : doRevoke (a .st) p q .answer ≡ Done
-    is-done = owned (a .st) p q (sym (ap (λ x. accepts (printed (x .answer))) (accepted-revoke (a .st) p q accepted)) ∙ accepted)
+    allows : RevokeAllowed (a .st) p q
+    unfolding Allowed
+    allows = revokes .allows
+
+    is-revoke : o ≡ done (closeRequest q (a .st))
+    unfolding effect
+    is-revoke = read ∙ revokes .is
 
     before : stateIn w ≡ a .st
     before = state-in w (a .reply) (a .st) (a .sound) (a .is)
 
-    after : stateIn w′ ≡ doRevoke (a .st) p q .after
+    after : stateIn w′ ≡ closeRequest q (a .st)
+    unfolding done
     after = state-in w′ (printed (o .answer)) (o .after) (unfold o in (call-kept (a .st) (a .sound) line)) called ∙ ap (λ x. x .after) is-revoke
 
     noted-so : noteLine h line (w′ .reply) ≡ noteAnswer h (Revoke p q) Done
+    unfolding done
     noted-so =
         ap (noteLine h line) replied
-        ∙ (note-asked h line (Revoke p q) (a .st) o e (unfold o in (call-spoken (a .st) (a .sound) line)) ∙ (ap (λ x. noteAnswer h (Revoke p q) (x .answer)) is-revoke ∙ ap (noteAnswer h (Revoke p q)) is-done))
+        ∙ note-asked h line (Revoke p q) (a .st) o e (unfold o in (call-spoken (a .st) (a .sound) line))
+        ∙ ap (λ x. noteAnswer h (Revoke p q) (x .answer)) is-revoke
 
     vanished : Vanished h (stateIn w) (stateIn w′) q
-    vanished = subst (λ x. Vanished h x (stateIn w′) q) (sym before) (subst (λ x. Vanished h (a .st) x q) (sym after) (revoke-vanished h (a .st) (a .inv) (a .sound) p q is-done))
+    vanished = subst (λ x. Vanished h x (stateIn w′) q) (sym before) (subst (λ x. Vanished h (a .st) x q) (sym after) (revoke-vanished h (a .st) (a .inv) (a .sound) p q allows))
 
     returned : Returned h (noteLine h line (w′ .reply)) (stateIn w′)
     returned =
         subst (λ x. Returned h x (stateIn w′)) (sym noted-so)
-        (subst (λ x. Returned h (noteAnswer h (Revoke p q) Done) x) (sym after) (revoke-returned h (a .st) (a .inv) (a .lends) (a .sound) p q is-done))
+        (subst (λ x. Returned h (noteAnswer h (Revoke p q) Done) x) (sym after) (revoke-returned h (a .st) (a .inv) (a .lends) (a .sound) p q allows))
 
     revoked : Revoked h w line q
     unfolding Revoked w′

@@ -3,25 +3,22 @@ use Prim.Native.Nat.{ℕ, pred, _<_}
 use mathlib.Core.Bool.{Bool, true, false, cond}
 use mathlib.Core.Path.{_≡_, refl, sym, ap, _∙_}
 use mathlib.Core.Logic.{⊎-elim}
-use lib.Dec.{eqb}
 use native.Mathlib.Omega.{arith}
 use borrow.Author.Tests.{eqb-true}
 use Rattle.rows.specs.declared.Row.{Row}
 use Rattle.rows.specs.Lists.{member, some}
-use Rattle.rows.specs.Codes.{clientEnd, serverEnd, isClient, isServer, isEnd, inClist, isNode}
-use Rattle.rows.specs.Tables.{State, rowOf, numbers, isLent}
-use Rattle.rows.specs.Sound.{isHeld, isPairedWith, otherEnd}
-use Rattle.rows.proofs.Bools.{and-l, and-r, or-cases, not-f, pos-some}
+use Rattle.rows.specs.Codes.{clientEnd, serverEnd, isClient, isServer, isEnd, isNode}
+use Rattle.rows.specs.Tables.{State, rowOf, numbers}
+use Rattle.rows.specs.Sound.{isPairedWith, otherEnd}
+use Rattle.rows.proofs.Bools.{and-l, or-cases, pos-some}
 use Rattle.rows.proofs.Keyed.{rises-range}
 use Rattle.tables.proofs.Sound.{Sound}
-use Rattle.rows.proofs.Places.{copied-no-end, clist-not-node}
-use Rattle.rows.proofs.RowSources.{node-there, end-there}
+use Rattle.rows.proofs.Places.{copied-no-end}
+use Rattle.rows.proofs.RowSources.{end-there}
 use Rattle.tables.proofs.Standing.{standing-shape}
-use Rattle.tables.proofs.SoundFacts.{row-number, row-below, row-object, paired-at, in-node-copied, not-lent-held, unlent-unborne, client-object, server-object}
+use Rattle.tables.proofs.SoundFacts.{row-number, row-below, row-object, paired-at, in-node-copied, client-object, server-object}
 use Rattle.calls.specs.declared.Item.{Item}
-use Rattle.calls.specs.Rules.{notHeld}
 use Rattle.calls.specs.Loans.{itemRow, moves}
-use Rattle.kept.proofs.Stand.{held-there}
 use Rattle.history.specs.History.{History}
 use Rattle.history.specs.Notes.{isEndNoted, noted, notedOf, spoiled, standing, stands}
 use Rattle.history.specs.Chains.{IsNoted}
@@ -50,10 +47,6 @@ module _ (h : History) (st : State) (i : Inv h st) where
       let top = i .rows-below in (lo, omega arith)
 
 -- ---- rows found
-held-place : (st : State) (p e : ℕ) → notHeld st p e ≡ false → rowOf (st .rows) e .place ≡ inClist p
-unfolding notHeld
-held-place st p e t = eqb-true (rowOf (st .rows) e .place) (inClist p) (not-f (eqb (rowOf (st .rows) e .place) (inClist p)) t)
-
 server-other : (r : Row) → isServer (r .kind) ≡ true → otherEnd r ≡ pred (r .number)
 unfolding otherEnd isServer isClient clientEnd serverEnd
 server-other r k = rw (eqb-true (r .kind) 4 k) refl
@@ -62,16 +55,6 @@ module _ (st : State) (s : Sound st) where
   -- a row in a node is no end
   pub node-no-end : (e : ℕ) → member e (numbers (st .rows)) ≡ true → isNode (rowOf (st .rows) e .place) ≡ true → isEnd (rowOf (st .rows) e .kind) ≡ false
   node-no-end e t n = copied-no-end (rowOf (st .rows) e .kind) (in-node-copied (st .requests) (st .rows) (rowOf (st .rows) e) (standing-shape st s e t) n)
-
-  -- a row held, not lent and no end was taken from a directory row
-  pub held-source : (p e : ℕ) → notHeld st p e ≡ false → isEnd (rowOf (st .rows) e .kind) ≡ false → isLent st e ≡ false → member (rowOf (st .rows) e .source) (numbers (st .rows)) ≡ true
-  unfolding isHeld
-  held-source p e held end lent =
-      let t : member e (numbers (st .rows)) ≡ true = held-there st p e held in
-      let r = rowOf (st .rows) e in
-      let out : isNode (r .place) ≡ false = ap isNode (held-place st p e held) ∙ clist-not-node p in
-      let h : isHeld (st .rows) r ≡ true = not-lent-held (st .requests) (st .rows) r (standing-shape st s e t) out end (unlent-unborne st e t lent) in
-      node-there (st .rows) (r .source) (search (and-l, and-r))
 
   pub server-port : (e : ℕ) → member e (numbers (st .rows)) ≡ true → isServer (rowOf (st .rows) e .kind) ≡ true → rowOf (st .rows) e .object ≡ pred e
   server-port e t k =

@@ -1,6 +1,6 @@
 -- The invariant after an answer: a refusal keeps it, and an accepted call has it of what is noted.
 use Prim.Native.Nat.{ℕ}
-use mathlib.Core.Bool.{Bool, true, false}
+use mathlib.Core.Bool.{true}
 use mathlib.Core.List.{map}
 use mathlib.Core.Path.{_≡_, refl, ap, ap₂, _∙_}
 use lib.Dec.{eqb}
@@ -8,7 +8,8 @@ use Rattle.rows.specs.Lists.{all, member}
 use Rattle.rows.specs.Tables.{State}
 use Rattle.calls.specs.declared.Call.{Call}
 use Rattle.calls.specs.Answers.{refusalOf, valuesOf}
-use Rattle.calls.specs.Rules.{Out, refusedIf}
+use Rattle.calls.specs.Rules.{Out, isRefusal, refused}
+use Rattle.kept.proofs.Judged.{refusal-some}
 use Rattle.calls.specs.Calls.{done, made}
 use Rattle.history.specs.History.{History}
 use Rattle.history.specs.Notes.{noted, notedOf, spoiled, standing, stands, isClosed, openLoans, loansSettled}
@@ -69,11 +70,10 @@ seen-inv h st st′ r v p n i =
 pub record Keeps (h : History) (c : Call) (o : Out) : Type 0 where
   pub inv : Inv (noteAnswer h c (o .answer)) (o .after)
 
--- a refusal keeps it: what is left is the case in which the test fails
-pub unless : {h : History} {c : Call} {st : State} (b : Bool) (k : ℕ) {o : Out} → eqb k 0 ≡ false → Inv h st → (b ≡ false → Keeps h c o) → Keeps h c (refusedIf st b k o)
-unfolding refusedIf
-unless {h} {c} {st} true k z i f = record { inv = unfold noteAnswer refusalOf in rw z i }
-unless false k z i f = f refl
+-- a refusal keeps it
+pub refused-keeps : (h : History) (c : Call) (st : State) → Inv h st → (k : ℕ) → isRefusal k ≡ true → Keeps h c (refused st k)
+unfolding noteAnswer refused refusalOf
+refused-keeps h c st i k r = record { inv = rw (refusal-some k r) i }
 
 -- an accepted call
 pub taken : {h : History} {c : Call} (o : Out) (n : ℕ) → refusalOf (o .answer) ≡ 0 → firstValue (valuesOf (o .answer)) ≡ n → Inv (noteCall c n h) (o .after) → Keeps h c o

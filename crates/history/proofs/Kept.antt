@@ -15,12 +15,11 @@ use Rattle.tables.proofs.Sound.{Sound, sound-open}
 use Rattle.rows.proofs.LayoutColumns.{list-same}
 use Rattle.tables.proofs.Words.{state-words, words-state, sound-words}
 use Rattle.calls.specs.Answers.{refusalOf, valuesOf}
-use Rattle.calls.specs.Rules.{Out}
+use Rattle.calls.specs.Rules.{Out, isRefusal}
 use Rattle.text.specs.Opening.{Form, Opening, opens, refusedAt, linesOf, openingOf}
 use Rattle.text.specs.Answers.{decimal, digitsOf, spaced, okText, noText, printed}
 use Rattle.text.specs.Entry.{Replied, callOn, replyWith, replyOf, callEntry, stateOpened, openedBy, openEntry}
 use Rattle.text.specs.Session.{answers, sessionOf, session}
-use Rattle.text.proofs.Readings.{isRefusal}
 use Rattle.text.proofs.Opening.{opened-sound}
 use Rattle.history.specs.Reading.{downFrom, accepts}
 use Rattle.history.specs.Demand3.{lentAfter, repliesTo}

@@ -3,16 +3,16 @@ use Prim.Native.Nat.{ℕ}
 use native.Mathlib.Omega.{arith}
 use mathlib.Core.Bool.{Bool, true, false, not, cond, _&&_}
 use mathlib.Core.List.{List, [], _∷_, map}
-use mathlib.Core.Path.{_≡_, refl, sym, ap, _∙_}
+use mathlib.Core.Path.{_≡_, sym, ap, _∙_}
 use lib.Dec.{eqb}
 use borrow.Author.Tests.{eqb-true, ne-eqb}
 use Rattle.rows.specs.declared.Row.{Row}
 use Rattle.rows.specs.declared.Request.{Request}
-use Rattle.rows.specs.Lists.{member, some}
+use Rattle.rows.specs.Lists.{if_then_else_, member, some}
 use Rattle.rows.specs.Codes.{isEnd, isNode, inClist, withSystem, within}
-use Rattle.rows.specs.Tables.{State, rowOf, openOn, numbers, marked, bears, lists}
-use Rattle.rows.specs.Sound.{isFetched, isOpening, isRegistered, isHeld, isPortEnd, isLentCopy}
-use Rattle.rows.proofs.Bools.{clash, false-of, and-l, and-r, not-t, not-f, or-fl, some-pos, member-there, not-zero}
+use Rattle.rows.specs.Tables.{State, rowOf, numbers, marked, bears, lists}
+use Rattle.rows.specs.Sound.{isOpening, isRegistered, isHeld, isPortEnd, isLentCopy}
+use Rattle.rows.proofs.Bools.{clash, false-of, and-l, and-r, not-t, some-pos, member-there}
 use Rattle.rows.proofs.Keyed.{keys-map}
 use Rattle.tables.proofs.Sound.{Sound}
 use Rattle.rows.proofs.RowSources.{Shape, opening, registered, held, port-end, lent-copy, node-there}
@@ -25,17 +25,15 @@ use Rattle.closing.proofs.Lookups.{left-keys}
 use Rattle.calls.specs.declared.Item.{Item}
 use Rattle.calls.specs.declared.Call.{Call}
 use Rattle.calls.specs.declared.Call.the-variants.{Go, Hold, Register, Drop, Port, Close, Ask, Fetch, Reply, Refuse, Revoke, Comes}
-use Rattle.calls.specs.Rules.{Out, refusedIf, notHeld, withNewRows, withRecord}
+use Rattle.calls.specs.Rules.{Out, refused, askedOf, withNewRows, withRecord}
 use Rattle.calls.specs.Loans.{Lending, itemsOf, moves, toSystem, lendEnd, lendCopy, lendItem, lendItems, lent, withRequest, handedTo, handedOver}
-use Rattle.calls.specs.Calls.{done, made, goHome, goThrough, doGo, withHeld, doHold, withRegistered, doRegister, doDrop, withPort, doPort, doClose, doAsk, doFetch, doReply, doRefuse, doRevoke, doComes, perform}
+use Rattle.calls.specs.Calls.{done, made, goHome, goThrough, withHeld, withRegistered, withPort, effect}
+use Rattle.kept.proofs.Allowed.{InHand}
 use Rattle.kept.proofs.Moved.{moved, moved-number}
-use Rattle.text.specs.Entry.{openEntry, callOn, answered, refused}
-use Rattle.text.specs.declared.Reading.{Reading}
-use Rattle.text.specs.declared.Reading.the-variants.{Asks, Crowded, Refused as BadLine}
-use Rattle.text.specs.CallLines.{readingOf}
-use Rattle.text.proofs.Readings.{Good, reading-good, number-some}
+use Rattle.text.specs.Entry.{openEntry, callOn}
 use Rattle.history.specs.Reading.{accepts}
 use Rattle.history.specs.Demand3.{lentAfter, stateIn}
+use Rattle.history.proofs.Allowed.{Allowed, line-has}
 use Rattle.history.proofs.Find.{node-no-end}
 use Rattle.history.proofs.Kept.{words-sound, kept}
 
@@ -43,11 +41,6 @@ use Rattle.history.proofs.Kept.{words-sound, kept}
 -- row n is in the tables after a call
 abbrev Stays : ℕ → Out → Type 0
 Stays n o = member n (numbers (o .after .rows)) ≡ true
-
-unless : (n : ℕ) (st : State) (b : Bool) (k : ℕ) (o : Out) → member n (numbers (st .rows)) ≡ true → (b ≡ false → Stays n o) → Stays n (refusedIf st b k o)
-unfolding refusedIf
-unless n st true k o t h = t
-unless n st false k o t h = h refl
 
 numbers-moved : (g : Row → Row) → ((r : Row) → g r .number ≡ r .number) → (rs : List Row) → numbers (map g rs) ≡ numbers rs
 unfolding numbers
@@ -97,102 +90,47 @@ module _ (st : State) (s : Sound st) (n : ℕ) (e : isNode (rowOf (st .rows) n .
   unfolding closePort isEndOf
   port-stays c = closing-stays (isEndOf c) [] (λ k u f. ap (λ b. b && eqb (rowOf (st .rows) k .object) c) (node-no-end st s k u f))
 
-  drop-stays : (p d : ℕ) → notHeld st p d ≡ false → member n (numbers (dropRow d st .rows)) ≡ true
-  unfolding dropRow isRow notHeld
-  drop-stays p d h = closing-stays (isRow d) [] (λ k u f. false-of (eqb (rowOf (st .rows) k .number) d) (λ w. clash f (ap isNode
-      (ap (λ x. rowOf (st .rows) x .place) (sym (row-number (st .rows) k u) ∙ eqb-true (rowOf (st .rows) k .number) d w) ∙ eqb-true (rowOf (st .rows) d .place) (inClist p) (not-f _ h)) ∙ clist-not-node p)))
+  drop-stays : (p d : ℕ) → InHand st p d → member n (numbers (dropRow d st .rows)) ≡ true
+  unfolding dropRow isRow
+  drop-stays p d h =
+      closing-stays (isRow d) [] λ k u f.
+      false-of (eqb (rowOf (st .rows) k .number) d) λ w.
+      let same : k ≡ d = sym (row-number (st .rows) k u) ∙ eqb-true (rowOf (st .rows) k .number) d w in
+      let place : rowOf (st .rows) k .place ≡ inClist p = ap (λ x. rowOf (st .rows) x .place) same ∙ eqb-true (rowOf (st .rows) d .place) (inClist p) (h .place) in
+      clash f (ap isNode place ∙ clist-not-node p)
 
-  go-stays : (p d : ℕ) → Stays n (doGo st p d)
-  unfolding doGo done goHome goThrough withRecord
-  go-stays p d = pick (eqb d 0) _ (unless n st _ 7 _ t λ _. unless n st _ 8 _ t λ _. t)
-    where
-      pick : (b : Bool) (o : Out) → Stays n o → Stays n (cond b (done (goHome st p)) o)
-      pick true o h = t
-      pick false o h = h
-
-  hold-stays : (p d : ℕ) → Stays n (doHold st p d)
-  unfolding doHold made withHeld withNewRows
-  hold-stays p d = unless n st _ 7 _ t λ _. unless n st _ 9 _ t λ _. unless n st _ 12 _ t λ _. unless n st _ 15 _ t λ _. unless n st _ 16 _ t λ _. unless n st _ 18 _ t λ _. one-more n _ (st .rows) t
-
-  register-stays : (p d : ℕ) → Stays n (doRegister st p d)
-  unfolding doRegister made withRegistered withNewRows
-  register-stays p d =
-      unless n st _ 7 _ t λ _. unless n st _ 8 _ t λ _. unless n st _ 9 _ t λ _. unless n st _ 12 _ t λ _. unless n st _ 15 _ t λ _. unless n st _ 16 _ t λ _. unless n st _ 18 _ t λ _.
-      one-more n _ (st .rows) t
-
-  dropped-stays : (p d : ℕ) → Stays n (doDrop st p d)
-  unfolding doDrop done
-  dropped-stays p d = unless n st _ 7 _ t λ e7. unless n st _ 8 _ t λ _. unless n st _ 13 _ t λ _. drop-stays p d e7
-
-  made-stays : (p d : ℕ) → Stays n (doPort st p d)
-  unfolding doPort made withPort withNewRows
-  made-stays p d = unless n st _ 7 _ t λ _. unless n st _ 8 _ t λ _. unless n st _ 15 _ t λ _. unless n st _ 16 _ t λ _. unless n st _ 18 _ t λ _. one-more n _ _ (one-more n _ (st .rows) t)
-
-  closed-stays : (p d : ℕ) → Stays n (doClose st p d)
-  unfolding doClose done
-  closed-stays p d = unless n st _ 7 _ t λ _. unless n st _ 8 _ t λ _. unless n st _ 12 _ t λ _. port-stays d
-
-  asked-stays : (p d : ℕ) (is : List Item) → Stays n (doAsk st p d is)
-  unfolding doAsk made withRequest lent
-  asked-stays p d is =
-      unless n st _ 7 _ t λ _. unless n st _ 8 _ t λ _. unless n st _ 9 _ t λ _. unless n st _ 10 _ t λ _. unless n st _ 15 _ t λ _. unless n st _ 16 _ t λ _. unless n st _ 17 _ t λ _. unless n st _ 18 _ t λ _.
-      lending-stays st d (st .next) n is _ t
-
-  fetched-stays : (p d : ℕ) → Stays n (doFetch st p d)
-  unfolding doFetch handedOver handedTo
-  fetched-stays p d =
-      let v = openOn (st .requests) (rowOf (st .rows) d .object) in
-      unless n st _ 7 _ t λ _. unless n st _ 8 _ t λ _. unless n st _ 11 _ t λ _.
+  fetch-stays : (p : ℕ) (v : Request) → member n (numbers (handedOver p v st .rows)) ≡ true
+  unfolding handedOver handedTo
+  fetch-stays p v =
       ap (member n) (numbers-moved (λ r. cond (lists (r .number) v) (withPlace (inClist p) r) r) (unfold moved in moved-number (λ m. lists m v) (inClist p)) (st .rows)) ∙ t
 
-  replied-stays : (p d : ℕ) → Stays n (doReply st p d)
-  unfolding doReply done
-  replied-stays p d =
-      let v = openOn (st .requests) (rowOf (st .rows) d .object) in
-      unless n st _ 7 _ t λ _. unless n st _ 8 _ t λ _. unless n st _ 10 _ t λ _. unless n st _ 11 _ t λ e11. unless n st _ 14 _ t λ _.
-      request-stays (v .number) (not-zero (v .number) (or-fl (eqb (v .number) 0) (not (isFetched v)) e11))
-
-  refused-stays : (p d : ℕ) → Stays n (doRefuse st p d)
-  unfolding doRefuse done
-  refused-stays p d =
-      let v = openOn (st .requests) (rowOf (st .rows) d .object) in
-      unless n st _ 7 _ t λ _. unless n st _ 8 _ t λ _. unless n st _ 11 _ t λ e11. request-stays (v .number) (not-zero (v .number) e11)
-
-  revoked-stays : (p q : ℕ) → some q ≡ true → Stays n (doRevoke st p q)
-  unfolding doRevoke done
-  revoked-stays p q z = unless n st _ 7 _ t λ _. request-stays q z
-
-  comes-stays : (d q : ℕ) → Stays n (doComes st d q)
-  unfolding doComes
-  comes-stays d q = unless n st _ 7 _ t λ _. t
-
-  perform-stays : (c : Call) → Good c → Stays n (perform st c)
-  unfolding perform Good
-  perform-stays (Go p d) g = go-stays p d
-  perform-stays (Hold p d) g = hold-stays p d
-  perform-stays (Register p d) g = register-stays p d
-  perform-stays (Drop p d) g = dropped-stays p d
-  perform-stays (Port p d) g = made-stays p d
-  perform-stays (Close p d) g = closed-stays p d
-  perform-stays (Ask p d is) g = asked-stays p d (itemsOf is)
-  perform-stays (Fetch p d) g = fetched-stays p d
-  perform-stays (Reply p d) g = replied-stays p d
-  perform-stays (Refuse p d) g = refused-stays p d
-  perform-stays (Revoke p q) g = revoked-stays p q (number-some q (g .number))
-  perform-stays (Comes d q) g = comes-stays d q
-
-  line-stays : (line : List ℕ) → Stays n (callOn st line)
-  unfolding callOn answered refused
-  line-stays line = pick (readingOf line) refl
+  go-stays : (p d : ℕ) → member n (numbers ((if eqb d 0 then goHome st p else goThrough st p d) .rows)) ≡ true
+  unfolding goHome goThrough withRecord
+  go-stays p d = pick (eqb d 0)
     where
-      pick : (x : Reading) → readingOf line ≡ x → Stays n (answered st x)
-      pick (Asks c) q = unless n st _ 5 _ t λ _. perform-stays c (reading-good line c q)
-      pick (Crowded p) q = unless n st _ 5 _ t λ _. t
-      pick (BadLine k) q = t
+      pick : (b : Bool) → member n (numbers ((if b then goHome st p else goThrough st p d) .rows)) ≡ true
+      pick true = t
+      pick false = t
+
+  effect-stays : (c : Call) → Allowed st c → Stays n (effect st c)
+  unfolding Allowed effect done made withHeld withRegistered withPort withNewRows withRequest lent
+  effect-stays (Go p d) a = go-stays p d
+  effect-stays (Hold p d) a = one-more n _ (st .rows) t
+  effect-stays (Register p d) a = one-more n _ (st .rows) t
+  effect-stays (Drop p d) a = drop-stays p d (a .row)
+  effect-stays (Port p d) a = one-more n _ _ (one-more n _ (st .rows) t)
+  effect-stays (Close p d) a = port-stays d
+  effect-stays (Ask p d is) a = lending-stays st d (st .next) n (itemsOf is) _ t
+  effect-stays (Fetch p d) a = fetch-stays p (askedOf st d)
+  effect-stays (Reply p d) a = request-stays (askedOf st d .number) (a .serves .asked)
+  effect-stays (Refuse p d) a = request-stays (askedOf st d .number) (a .asked)
+  effect-stays (Revoke p q) a = request-stays q (a .number)
+  effect-stays (Comes d q) a = t
 
 -- a row in a node of sound tables is there after every call line
 pub nodes-never-vanish : (st : State) → Sound st → (n : ℕ) → isNode (rowOf (st .rows) n .place) ≡ true → (line : List ℕ) → member n (numbers (callOn st line .after .rows)) ≡ true
-nodes-never-vanish st s n e line = line-stays st s n e (node-there (st .rows) n e) line
+unfolding refused
+nodes-never-vanish st s n e line = let t = node-there (st .rows) n e in line-has (Stays n) st s (λ k r. t) line (effect-stays st s n e t)
 
 -- ---- the rights of a copy are within those of the row it was copied from, for every row of a session
 pub rights-never-grow : (t p text : List ℕ) → accepts (openEntry t p text .reply) ≡ true → (lines : List (List ℕ)) (n : ℕ) →

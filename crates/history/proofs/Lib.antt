@@ -23,6 +23,8 @@ pub mod Comes
 pub mod Inv
 -- rows of the tables as the history notes them
 pub mod View
+-- every property of every answer: refusals have it, and the effects of calls that are allowed
+pub mod Allowed
 -- what a refusal and an accepted answer leave of the invariant
 pub mod Keeps
 -- a row more, in tables and history

@@ -1,6 +1,6 @@
 -- The calls that neither close nor lend: the requests list the same ends after as before.
 use Prim.Native.Nat.{ℕ, suc}
-use mathlib.Core.Bool.{Bool, true, false, not, cond}
+use mathlib.Core.Bool.{Bool, true, false, cond}
 use mathlib.Core.List.{List, [], _∷_, _++_, map}
 use mathlib.Core.Path.{_≡_, refl, ap, _∙_}
 use lib.Dec.{leb, eqb}
@@ -9,7 +9,7 @@ use borrow.Author.Tests.{le-leb}
 use Rattle.rows.specs.declared.Row.{Row}
 use Rattle.rows.specs.declared.Request.{Request}
 use Rattle.rows.specs.Lists.{if_then_else_, all, member, some, nonzero}
-use Rattle.rows.specs.Codes.{isEnd, isSubdirectory, inClist}
+use Rattle.rows.specs.Codes.{isEnd, inClist}
 use Rattle.rows.specs.Tables.{State, rowOf, numbers, lists}
 use Rattle.rows.specs.Sound.{mayBeListed, itemsLent}
 use Rattle.rows.proofs.Bools.{and-l, and-r, and-i, all-mono}
@@ -20,9 +20,9 @@ use Rattle.rows.proofs.Places.{no-row-listed}
 use Rattle.rows.proofs.Lists.{filter-same}
 use Rattle.calls.specs.declared.Call.the-variants.{Go, Hold, Register, Port, Fetch, Comes}
 use Rattle.calls.specs.Answers.{refusalOf, valuesOf}
-use Rattle.calls.specs.Rules.{refusedIf, notHeld, withNewRows, copyOf, withRecord}
+use Rattle.calls.specs.Rules.{askedOf, withNewRows, copyOf, withRecord}
 use Rattle.calls.specs.Loans.{handedTo, nowFetched, handedOver}
-use Rattle.calls.specs.Calls.{done, goHome, goThrough, doGo, withHeld, doHold, withRegistered, doRegister, portEnd, withPort, doPort, fetchedAnswer, doFetch, doComes}
+use Rattle.calls.specs.Calls.{goHome, goThrough, withHeld, withRegistered, portEnd, withPort, fetchedAnswer, effect}
 use Rattle.kept.proofs.AddRow.{row-before}
 use Rattle.kept.proofs.Moved.{moved, kind-same}
 use Rattle.history.specs.History.{OnLoan, History}
@@ -30,7 +30,7 @@ use Rattle.history.specs.Notes.{addRow, noteGo, noteHold, noteRegister, 
 use Rattle.history.specs.Reading.{noteCall}
 use Rattle.history.proofs.Inv.{Lends, endsListed, loansIn, firstValue}
 use Rattle.history.proofs.Keeps.{Keeps}
-use Rattle.history.proofs.LoansKept.{LendsAfter, unless, taken, taken-done, taken-made, calm}
+use Rattle.history.proofs.LoansKept.{LendsAfter, taken, taken-done, taken-made, calm}
 
 -- ---- what the requests list are rows of the tables: they list the same ends among rows of the same kinds
 listed-there : (st : State) → Sound st → all (λ v. all (λ e. member e (numbers (st .rows))) (nonzero (v .items))) (st .requests) ≡ true
@@ -60,22 +60,6 @@ two-new : (st : State) (r q : Row) → r .number ≡ suc (st .next) → q .numbe
 unfolding all
 two-new st r q n m = and-i (leb (st .next) (r .number)) _ (le-leb (st .next) (r .number) (omega arith)) (one-new st q m)
 
-module _ (st : State) (s : Sound st) where
-  abbrev listed : State → List OnLoan
-  listed x = loansIn (x .rows) (x .requests)
-
-  held-same : (p e via d : ℕ) → listed (withHeld st p e via d) ≡ listed st
-  unfolding withHeld withNewRows copyOf
-  held-same p e via d = rows-more st s (_ ∷ []) (one-new st _ refl)
-
-  registered-same : (p e d : ℕ) → listed (withRegistered st p e d) ≡ listed st
-  unfolding withRegistered withNewRows copyOf
-  registered-same p e d = rows-more st s (_ ∷ []) (one-new st _ refl)
-
-  port-same : (p e d : ℕ) → listed (withPort st p e d) ≡ listed st
-  unfolding withPort withNewRows portEnd
-  port-same p e d = rows-more st s (_ ∷ _ ∷ []) (two-new st _ _ refl refl)
-
 -- ---- fetch
 handed-kind : (p : ℕ) (v : Request) (rs : List Row) (e : ℕ) → rowOf (map (handedTo p v) rs) e .kind ≡ rowOf rs e .kind
 unfolding handedTo moved
@@ -91,63 +75,57 @@ fetched-loans rs q (v ∷ vs) = rw (fetched-loans rs q vs) (pick (eqb (v .number
     pick true = unfold endsListed in refl
     pick false = refl
 
+-- ---- each change of the state
+module _ (st : State) (s : Sound st) where
+  abbrev listed : State → List OnLoan
+  listed x = loansIn (x .rows) (x .requests)
+
+  held-same : (p e : ℕ) → listed (withHeld st p e) ≡ listed st
+  unfolding withHeld withNewRows copyOf
+  held-same p e = rows-more st s (_ ∷ []) (one-new st _ refl)
+
+  registered-same : (p e : ℕ) → listed (withRegistered st p e) ≡ listed st
+  unfolding withRegistered withNewRows copyOf
+  registered-same p e = rows-more st s (_ ∷ []) (one-new st _ refl)
+
+  port-same : (p e : ℕ) → listed (withPort st p e) ≡ listed st
+  unfolding withPort withNewRows portEnd
+  port-same p e = rows-more st s (_ ∷ _ ∷ []) (two-new st _ _ refl refl)
+
+  handed-same : (p : ℕ) (v : Request) → listed (handedOver p v st) ≡ listed st
+  unfolding handedOver
+  handed-same p v = fetched-loans _ _ (st .requests) ∙ kinds-same st s _ (λ x t. handed-kind _ _ (st .rows) x)
+
+  go-same : (p e : ℕ) → listed (if eqb e 0 then goHome st p else goThrough st p e) ≡ listed st
+  unfolding goHome goThrough withRecord
+  go-same p e = pick (eqb e 0)
+    where
+      pick : (b : Bool) → listed (if b then goHome st p else goThrough st p e) ≡ listed st
+      pick true = refl
+      pick false = refl
+
 -- ---- the calls
 module _ (h : History) (st : State) (l : Lends h st) (s : Sound st) where
-  pub go-lends : (p e : ℕ) → Keeps h (Go p e) (doGo st p e) → LendsAfter h (Go p e) (doGo st p e)
-  unfolding doGo noteCall
-  go-lends p e k = pick (eqb e 0) k
-    where
-      pick : (b : Bool) → Keeps h (Go p e) (if b then done (goHome st p) else refusedIf st (notHeld st p e) 7 (refusedIf st (not (isSubdirectory (rowOf (st .rows) e .kind))) 8 (done (goThrough st p e))))
-          → LendsAfter h (Go p e) (if b then done (goHome st p) else refusedIf st (notHeld st p e) 7 (refusedIf st (not (isSubdirectory (rowOf (st .rows) e .kind))) 8 (done (goThrough st p e))))
-      pick true k = taken-done _ k (λ i. calm _ _ i (unfold goHome withRecord noteGo in l .lends))
-      pick false k =
-          unless _ 7 refl l k λ e7 k.
-          unless _ 8 refl l k λ e8 k.
-          taken-done _ k (λ i. calm _ _ i (unfold goThrough withRecord noteGo in l .lends))
+  pub go-lends : (p e : ℕ) → Keeps h (Go p e) (effect st (Go p e)) → LendsAfter h (Go p e) (effect st (Go p e))
+  unfolding effect noteCall
+  go-lends p e k = taken-done _ k (λ i. calm _ _ i (go-same st s p e ∙ (unfold noteGo in l .lends)))
 
-  pub hold-lends : (p e : ℕ) → Keeps h (Hold p e) (doHold st p e) → LendsAfter h (Hold p e) (doHold st p e)
-  unfolding doHold noteCall
-  hold-lends p e k =
-      unless _ 7 refl l k λ e7 k.
-      unless _ 9 refl l k λ e9 k.
-      unless _ 12 refl l k λ e12 k.
-      unless _ 15 refl l k λ e15 k.
-      unless _ 16 refl l k λ e16 k.
-      unless _ 18 refl l k λ e18 k.
-      taken-made _ _ k (λ i. calm _ _ i (held-same st s p e _ _ ∙ (unfold noteHold addRow in l .lends)))
+  pub hold-lends : (p e : ℕ) → Keeps h (Hold p e) (effect st (Hold p e)) → LendsAfter h (Hold p e) (effect st (Hold p e))
+  unfolding effect noteCall
+  hold-lends p e k = taken-made _ _ k (λ i. calm _ _ i (held-same st s p e ∙ (unfold noteHold addRow in l .lends)))
 
-  pub register-lends : (p e : ℕ) → Keeps h (Register p e) (doRegister st p e) → LendsAfter h (Register p e) (doRegister st p e)
-  unfolding doRegister noteCall
-  register-lends p e k =
-      unless _ 7 refl l k λ e7 k.
-      unless _ 8 refl l k λ e8 k.
-      unless _ 9 refl l k λ e9 k.
-      unless _ 12 refl l k λ e12 k.
-      unless _ 15 refl l k λ e15 k.
-      unless _ 16 refl l k λ e16 k.
-      unless _ 18 refl l k λ e18 k.
-      taken-made _ _ k (λ i. calm _ _ i (registered-same st s p e _ ∙ (unfold noteRegister addRow in l .lends)))
+  pub register-lends : (p e : ℕ) → Keeps h (Register p e) (effect st (Register p e)) → LendsAfter h (Register p e) (effect st (Register p e))
+  unfolding effect noteCall
+  register-lends p e k = taken-made _ _ k (λ i. calm _ _ i (registered-same st s p e ∙ (unfold noteRegister addRow in l .lends)))
 
-  pub port-lends : (p e : ℕ) → Keeps h (Port p e) (doPort st p e) → LendsAfter h (Port p e) (doPort st p e)
-  unfolding doPort noteCall
-  port-lends p e k =
-      unless _ 7 refl l k λ e7 k.
-      unless _ 8 refl l k λ e8 k.
-      unless _ 15 refl l k λ e15 k.
-      unless _ 16 refl l k λ e16 k.
-      unless _ 18 refl l k λ e18 k.
-      taken-made _ _ k (λ i. calm _ _ i (port-same st s p e _ ∙ (unfold notePort addRow in l .lends)))
+  pub port-lends : (p e : ℕ) → Keeps h (Port p e) (effect st (Port p e)) → LendsAfter h (Port p e) (effect st (Port p e))
+  unfolding effect noteCall
+  port-lends p e k = taken-made _ _ k (λ i. calm _ _ i (port-same st s p e ∙ (unfold notePort addRow in l .lends)))
 
-  pub fetch-lends : (p e : ℕ) → Keeps h (Fetch p e) (doFetch st p e) → LendsAfter h (Fetch p e) (doFetch st p e)
-  unfolding doFetch noteCall fetchedAnswer refusalOf valuesOf firstValue
-  fetch-lends p e k =
-      unless _ 7 refl l k λ e7 k.
-      unless _ 8 refl l k λ e8 k.
-      unless _ 11 refl l k λ e11 k.
-      taken _ _ refl refl k (λ i. calm _ _ i (unfold handedOver in (fetched-loans _ _ (st .requests) ∙ kinds-same st s _ (λ x t. handed-kind _ _ (st .rows) x) ∙ l .lends)))
+  pub fetch-lends : (p e : ℕ) → Keeps h (Fetch p e) (effect st (Fetch p e)) → LendsAfter h (Fetch p e) (effect st (Fetch p e))
+  unfolding effect noteCall fetchedAnswer refusalOf valuesOf firstValue
+  fetch-lends p e k = taken _ _ refl refl k (λ i. calm _ _ i (handed-same st s p (askedOf st e) ∙ l .lends))
 
-  pub comes-lends : (e q : ℕ) → Keeps h (Comes e q) (doComes st e q) → LendsAfter h (Comes e q) (doComes st e q)
-  unfolding doComes noteCall refusalOf valuesOf firstValue
-  comes-lends e q k =
-      unless _ 7 refl l k λ e7 k.
-      taken _ _ refl refl k (λ i. calm _ _ i (l .lends))
+  pub comes-lends : (e q : ℕ) → Keeps h (Comes e q) (effect st (Comes e q)) → LendsAfter h (Comes e q) (effect st (Comes e q))
+  unfolding effect noteCall refusalOf valuesOf firstValue
+  comes-lends e q k = taken _ _ refl refl k (λ i. calm _ _ i (l .lends))

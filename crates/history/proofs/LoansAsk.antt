@@ -7,21 +7,22 @@ use lib.Dec.{ltb, eqb}
 use native.Mathlib.Omega.{arith}
 use borrow.Author.Tests.{ne-eqb, ltb-true, lt-ltb}
 use Rattle.rows.specs.declared.Row.{Row}
-use Rattle.rows.specs.Lists.{filter, any, all, member, some, nonzero}
+use Rattle.rows.specs.Lists.{filter, all, member, some, nonzero}
 use Rattle.rows.specs.Limits.{mostItems}
 use Rattle.rows.specs.Codes.{isEnd, withSystem}
 use Rattle.rows.specs.Tables.{State, noRow, rowOf, numbers}
-use Rattle.rows.proofs.Bools.{not-t, or-fl, or-fr, all-mono, all-filter, pos-some}
+use Rattle.rows.proofs.Bools.{and-l, and-r, not-t, all-mono, all-filter, pos-some}
 use Rattle.tables.proofs.Picked.{first-here, first-other}
 use Rattle.tables.proofs.Sound.{Sound}
-use Rattle.rows.proofs.Lists.{all-append, filter-same, none-all}
+use Rattle.rows.proofs.Lists.{all-append, filter-same}
 use Rattle.tables.proofs.SoundFacts.{row-below}
 use Rattle.calls.specs.declared.Item.{Item}
 use Rattle.calls.specs.declared.Items.{Items}
 use Rattle.calls.specs.declared.Call.the-variants.{Ask}
 use Rattle.calls.specs.Rules.{notHeld, copyOf}
 use Rattle.calls.specs.Loans.{itemsOf, itemRow, moves, copyLent, Lending, toSystem, lendEnd, lendCopy, lendItem, lendItems, lent, newRequest, withRequest}
-use Rattle.calls.specs.Calls.{doAsk}
+use Rattle.calls.specs.Calls.{effect}
+use Rattle.kept.proofs.Allowed.{AskAllowed}
 use Rattle.kept.proofs.Stand.{held-there}
 use Rattle.kept.proofs.AskList.{nonzero-pad}
 use Rattle.kept.proofs.Moved.{moved, kind-same}
@@ -31,7 +32,7 @@ use Rattle.history.specs.Reading.{itemsNamed, noteCall}
 use Rattle.history.proofs.Inv.{Inv, Lends, endsListed, loansIn}
 use Rattle.history.proofs.Keeps.{Keeps}
 use Rattle.history.proofs.Find.{end-noted}
-use Rattle.history.proofs.LoansKept.{LendsAfter, unless, taken-made, calm}
+use Rattle.history.proofs.LoansKept.{LendsAfter, taken-made, calm}
 use Rattle.history.proofs.LoansAdd.{kinds-same}
 
 -- ---- lists
@@ -118,12 +119,12 @@ module _ (st : State) (s : Sound st) (c v : ℕ) (x : Item) (l : Lending) (es : 
       }
 
 -- all items: the ends among them come in order
-lent-all : (st : State) → Sound st → (p c v : ℕ) (xs : List Item) → any (λ x. notHeld st p (x .row)) xs ≡ false → (l : Lending) (es : List ℕ) → Lent st l es
+lent-all : (st : State) → Sound st → (p c v : ℕ) (xs : List Item) → all (λ x. not (notHeld st p (x .row))) xs ≡ true → (l : Lending) (es : List ℕ) → Lent st l es
     → Lent st (lendItems st c v xs l) (es ++ map (λ x. x .row) (filter (moves st) xs))
-unfolding any lendItems lendItem filter
+unfolding all lendItems lendItem filter
 lent-all st s p c v [] e l es j = rw (append-nil es) j
 lent-all st s p c v (x ∷ xs) e l es j =
-    pick (held-there st p (x .row) (or-fl (notHeld st p (x .row)) _ e)) (lent-all st s p c v xs (or-fr (notHeld st p (x .row)) _ e)) (moves st x) refl
+    pick (held-there st p (x .row) (not-t _ (and-l (not (notHeld st p (x .row))) _ e))) (lent-all st s p c v xs (and-r (not (notHeld st p (x .row))) _ e)) (moves st x) refl
   where
     rest : List ℕ
     rest = map (λ x. x .row) (filter (moves st) xs)
@@ -135,13 +136,13 @@ lent-all st s p c v (x ∷ xs) e l es j =
 
 -- ---- the call
 module _ (h : History) (st : State) (i : Inv h st) (l : Lends h st) (s : Sound st) where
-  named-ends : (p : ℕ) (xs : List Item) → any (λ x. notHeld st p (x .row)) xs ≡ false → map (λ x. x .row) (filter (moves st) xs) ≡ endsNamed (h .rows) xs
+  named-ends : (p : ℕ) (xs : List Item) → all (λ x. not (notHeld st p (x .row))) xs ≡ true → map (λ x. x .row) (filter (moves st) xs) ≡ endsNamed (h .rows) xs
   unfolding endsNamed
   named-ends p xs e =
       ap (map (λ x. x .row))
-      (filter-same (λ x. not (notHeld st p (x .row))) (moves st) (isEndNoted (h .rows)) (λ x t. sym (end-noted h st i s x (held-there st p (x .row) (not-t (notHeld st p (x .row)) t)))) xs (none-all (λ x. notHeld st p (x .row)) xs e))
+      (filter-same (λ x. not (notHeld st p (x .row))) (moves st) (isEndNoted (h .rows)) (λ x t. sym (end-noted h st i s x (held-there st p (x .row) (not-t (notHeld st p (x .row)) t)))) xs e)
 
-  asked-loans : (p c : ℕ) (xs : List Item) → any (λ x. notHeld st p (x .row)) xs ≡ false
+  asked-loans : (p c : ℕ) (xs : List Item) → all (λ x. not (notHeld st p (x .row))) xs ≡ true
       → loansIn (withRequest st p c xs .rows) (withRequest st p c xs .requests) ≡ noteAsk p c xs (st .next) h .loans
   unfolding withRequest newRequest loansIn endsListed lent noteAsk
   asked-loans p c xs e =
@@ -152,15 +153,6 @@ module _ (h : History) (st : State) (i : Inv h st) (l : Lends h st) (s : Sound s
       begun : Lent st (record { rows = st .rows; items = []; next = suc (st .next) }) []
       begun = record { more = omega arith; old = λ k lt. refl; low = unfold all in refl; ends = unfold nonzero filter in refl }
 
-  pub ask-lends : (p c : ℕ) (is : Items) → Keeps h (Ask p c is) (doAsk st p c (itemsOf is)) → LendsAfter h (Ask p c is) (doAsk st p c (itemsOf is))
-  unfolding doAsk noteCall itemsNamed itemsOf
-  ask-lends p c is k =
-      unless _ 7 refl l k λ e7 k.
-      unless _ 8 refl l k λ e8 k.
-      unless _ 9 refl l k λ e9 k.
-      unless _ 10 refl l k λ e10 k.
-      unless _ 15 refl l k λ e15 k.
-      unless _ 16 refl l k λ e16 k.
-      unless _ 17 refl l k λ e17 k.
-      unless _ 18 refl l k λ e18 k.
-      taken-made _ _ k (λ i. calm _ _ i (asked-loans p c (itemsOf is) (or-fr (notHeld st p c) _ e7)))
+  pub ask-lends : (p c : ℕ) (is : Items) → AskAllowed st p c (itemsOf is) → Keeps h (Ask p c is) (effect st (Ask p c is)) → LendsAfter h (Ask p c is) (effect st (Ask p c is))
+  unfolding effect noteCall itemsNamed itemsOf
+  ask-lends p c is a k = taken-made _ _ k (λ i. calm _ _ i (asked-loans p c (itemsOf is) (a .held)))

@@ -18,16 +18,16 @@ use Rattle.rows.proofs.Lists.{filter-filter}
 use Rattle.tables.proofs.SoundFacts.{same-eq, eq-same}
 use Rattle.rows.proofs.Agree.{keys-kept}
 use Rattle.closing.specs.Closing.{listedIn, leaves, trimmed, remaining, settled, closes, closing, closeRequest, isEndOf, closePort, isRow, dropRow}
-use Rattle.rows.specs.Setters.{withItems, withPlace}
+use Rattle.rows.specs.Setters.{withPlace}
 use Rattle.closing.proofs.Lookups.{remaining-keys, returned-keeps, left-keys, row-after}
 use Rattle.calls.specs.declared.Call.the-variants.{Drop, Close, Reply, Refuse, Revoke}
-use Rattle.calls.specs.Calls.{doDrop, doClose, doReply, doRefuse, doRevoke}
+use Rattle.calls.specs.Calls.{effect}
 use Rattle.history.specs.History.{History}
 use Rattle.history.specs.Notes.{stands, loansLeft, noteDrop, noteClose, noteRevoke, noteEnd}
 use Rattle.history.specs.Reading.{noteCall}
 use Rattle.history.proofs.Inv.{Inv, Lends, endsListed, loansIn}
 use Rattle.history.proofs.Keeps.{Keeps}
-use Rattle.history.proofs.LoansKept.{LendsAfter, unless, taken-done, Settles}
+use Rattle.history.proofs.LoansKept.{LendsAfter, taken-done, Settles}
 use Rattle.history.proofs.Find.{in-tables}
 use Rattle.history.proofs.Loans.{closedNumber, shut, staysLent, left-closed, left-open, shut-first, end-listed, open-numbers}
 
@@ -136,47 +136,27 @@ module _ (h : History) (st : State) (i : Inv h st) (l : Lends h st) (s : Sound s
       let g = marked seed (st .rows) in
       closing-lends h h′ st g (closes qs g) i s i′ asked ∙ ap (loansLeft h′) (l .lends ∙ sym same)
 
-  pub drop-lends : (p e : ℕ) → Keeps h (Drop p e) (doDrop st p e) → LendsAfter h (Drop p e) (doDrop st p e)
-  unfolding doDrop noteCall
-  drop-lends p e k =
-      unless _ 7 refl l k λ e7 k.
-      unless _ 8 refl l k λ e8 k.
-      unless _ 13 refl l k λ e13 k.
-      taken-done _ k (unfold noteDrop dropRow in closing-settles (noteDrop e h) (isRow e) [] refl refl)
-
-  pub close-lends : (p c : ℕ) → Keeps h (Close p c) (doClose st p c) → LendsAfter h (Close p c) (doClose st p c)
-  unfolding doClose noteCall
-  close-lends p c k =
-      unless _ 7 refl l k λ e7 k.
-      unless _ 8 refl l k λ e8 k.
-      unless _ 12 refl l k λ e12 k.
-      taken-done _ k (unfold noteClose closePort in closing-settles (noteClose c h) (isEndOf c) [] refl refl)
-
   -- request v of the tables is closed, and q is noted as closed
   request-settles : (q v : ℕ) → Inv (noteRevoke q h) (closeRequest v st) → Settles (noteRevoke q h) (closeRequest v st)
   unfolding noteRevoke closeRequest
   request-settles q v = closing-settles (noteRevoke q h) (bears v) (v ∷ []) refl refl
 
-  pub reply-lends : (p e : ℕ) → Keeps h (Reply p e) (doReply st p e) → LendsAfter h (Reply p e) (doReply st p e)
-  unfolding doReply noteCall noteEnd
-  reply-lends p e k =
-      unless _ 7 refl l k λ e7 k.
-      unless _ 8 refl l k λ e8 k.
-      unless _ 10 refl l k λ e10 k.
-      unless _ 11 refl l k λ e11 k.
-      unless _ 14 refl l k λ e14 k.
-      taken-done _ k (request-settles _ _)
+  pub drop-lends : (p e : ℕ) → Keeps h (Drop p e) (effect st (Drop p e)) → LendsAfter h (Drop p e) (effect st (Drop p e))
+  unfolding effect noteCall
+  drop-lends p e k = taken-done _ k (unfold noteDrop dropRow in closing-settles (noteDrop e h) (isRow e) [] refl refl)
 
-  pub refuse-lends : (p e : ℕ) → Keeps h (Refuse p e) (doRefuse st p e) → LendsAfter h (Refuse p e) (doRefuse st p e)
-  unfolding doRefuse noteCall noteEnd
-  refuse-lends p e k =
-      unless _ 7 refl l k λ e7 k.
-      unless _ 8 refl l k λ e8 k.
-      unless _ 11 refl l k λ e11 k.
-      taken-done _ k (request-settles _ _)
+  pub close-lends : (p c : ℕ) → Keeps h (Close p c) (effect st (Close p c)) → LendsAfter h (Close p c) (effect st (Close p c))
+  unfolding effect noteCall
+  close-lends p c k = taken-done _ k (unfold noteClose closePort in closing-settles (noteClose c h) (isEndOf c) [] refl refl)
 
-  pub revoke-lends : (p q : ℕ) → Keeps h (Revoke p q) (doRevoke st p q) → LendsAfter h (Revoke p q) (doRevoke st p q)
-  unfolding doRevoke noteCall
-  revoke-lends p q k =
-      unless _ 7 refl l k λ e7 k.
-      taken-done _ k (request-settles q q)
+  pub reply-lends : (p e : ℕ) → Keeps h (Reply p e) (effect st (Reply p e)) → LendsAfter h (Reply p e) (effect st (Reply p e))
+  unfolding effect noteCall noteEnd
+  reply-lends p e k = taken-done _ k (request-settles _ _)
+
+  pub refuse-lends : (p e : ℕ) → Keeps h (Refuse p e) (effect st (Refuse p e)) → LendsAfter h (Refuse p e) (effect st (Refuse p e))
+  unfolding effect noteCall noteEnd
+  refuse-lends p e k = taken-done _ k (request-settles _ _)
+
+  pub revoke-lends : (p q : ℕ) → Keeps h (Revoke p q) (effect st (Revoke p q)) → LendsAfter h (Revoke p q) (effect st (Revoke p q))
+  unfolding effect noteCall
+  revoke-lends p q k = taken-done _ k (request-settles q q)

@@ -1,12 +1,12 @@
 -- The ends on loan after an answer: a refusal changes none, and an accepted call has them loansSettled.
 use Prim.Native.Nat.{ℕ}
-use mathlib.Core.Bool.{Bool, true, false}
+use mathlib.Core.Bool.{true}
 use mathlib.Core.Path.{_≡_, refl, sym, ap, _∙_}
-use lib.Dec.{eqb}
 use Rattle.rows.specs.Tables.{State}
 use Rattle.calls.specs.declared.Call.{Call}
 use Rattle.calls.specs.Answers.{refusalOf, valuesOf}
-use Rattle.calls.specs.Rules.{Out, refusedIf}
+use Rattle.calls.specs.Rules.{Out, isRefusal, refused}
+use Rattle.kept.proofs.Judged.{refusal-some}
 use Rattle.calls.specs.Calls.{done, made}
 use Rattle.history.specs.History.{History}
 use Rattle.history.specs.Notes.{spoiled, standing, stands, isClosed, openLoans, loansLeft, loansSettled}
@@ -18,11 +18,10 @@ use Rattle.history.proofs.Loans.{nothing-settles}
 pub record LendsAfter (h : History) (c : Call) (o : Out) : Type 0 where
   pub after : Lends (noteAnswer h c (o .answer)) (o .after)
 
--- a refusal keeps them: what is left is the case in which the test fails
-pub unless : {h : History} {c : Call} {st : State} (b : Bool) (k : ℕ) {o : Out} → eqb k 0 ≡ false → Lends h st → Keeps h c (refusedIf st b k o) → (b ≡ false → Keeps h c o → LendsAfter h c o) → LendsAfter h c (refusedIf st b k o)
-unfolding refusedIf
-unless true k z l i f = record { after = unfold noteAnswer refusalOf in rw z l }
-unless false k z l i f = f refl i
+-- a refusal keeps them
+pub refused-lends : (h : History) (c : Call) (st : State) → Lends h st → (k : ℕ) → isRefusal k ≡ true → LendsAfter h c (refused st k)
+unfolding noteAnswer refused refusalOf
+refused-lends h c st l k r = record { after = rw (refusal-some k r) l }
 
 -- the invariant looks at no end on loan
 unsettled-inv : (h : History) (st : State) → Inv (loansSettled h) st → Inv h st

@@ -25,7 +25,7 @@ use Rattle.closing.proofs.Lookups.{row-after}
 use Rattle.calls.specs.declared.Answer.the-variants.{Done}
 use Rattle.calls.specs.declared.Call.the-variants.{Revoke}
 use Rattle.calls.specs.Answers.{refusalOf}
-use Rattle.calls.specs.Calls.{doRevoke}
+use Rattle.kept.proofs.Allowed.{RevokeAllowed}
 use Rattle.history.specs.History.{OnLoan, History}
 use Rattle.history.specs.Notes.{noLoan, loanOf, stands, isClosed, loansSettled as settling, noteRevoke}
 use Rattle.history.specs.Reading.{noteCall}
@@ -36,7 +36,7 @@ use Rattle.history.proofs.Keeps.{settled-inv}
 use Rattle.history.proofs.Standing.{stands-chains, request-closed}
 use Rattle.history.proofs.Loans.{closedNumber, end-listed, open-numbers, request-loan}
 use Rattle.history.proofs.LoansClose.{stands-left, closed-now}
-use Rattle.history.proofs.Vanish.{revoked}
+use Rattle.history.proofs.StepClose.{revoke-inv}
 
 -- ---- the oldest of the requests that pass a test and list e
 module _ (f : Request → Bool) (e : ℕ) where
@@ -199,13 +199,11 @@ module _ (h h′ : History) (st : State) (g : List ℕ) (f : Request → Bool) (
       ∙ ap inClist (ap (λ v. v .asker) same ∙ lender-is q (closed-in q c .there))
 
 -- ---- the theorem
-pub revoke-returned : (h : History) (st : State) → Inv h st → Lends h st → Sound st → (p q : ℕ) → doRevoke st p q .answer ≡ Done → Returned h (noteAnswer h (Revoke p q) Done) (doRevoke st p q .after)
+pub revoke-returned : (h : History) (st : State) → Inv h st → Lends h st → Sound st → (p q : ℕ) → RevokeAllowed st p q → Returned h (noteAnswer h (Revoke p q) Done) (closeRequest q st)
 unfolding Returned noteAnswer noteCall refusalOf
 revoke-returned h st i l s p q a e v up c least =
-    let r = revoked h st i s p q a in
-    let i′ : Inv h′ (closeRequest q st) = settled-inv (noteRevoke q h) (closeRequest q st) (r .inv) in
-    ap (λ st′. rowOf (st′ .rows) e .place) (r .after)
-    ∙ (unfold closeRequest closing in placed h h′ st g (closes (q ∷ []) g) i l s (unfold closeRequest closing in i′) (unfold settling noteRevoke in refl) e v (stands-chains h′ (i′ .fit) e .1 up) c least)
+    let i′ : Inv h′ (closeRequest q st) = settled-inv (noteRevoke q h) (closeRequest q st) (revoke-inv h st i s p q a) in
+    (unfold closeRequest closing in placed h h′ st g (closes (q ∷ []) g) i l s (unfold closeRequest closing in i′) (unfold settling noteRevoke in refl) e v (stands-chains h′ (i′ .fit) e .1 up) c least)
   where
     h′ : History
     h′ = settling (noteRevoke q h)

@@ -5,28 +5,30 @@ use mathlib.Core.List.{List, [], _∷_}
 use mathlib.Core.Path.{_≡_, refl, ap, _∙_}
 use lib.Dec.{eqb}
 use native.Mathlib.Omega.{arith}
-use borrow.Author.Tests.{eqb-true, ne-eqb}
+use borrow.Author.Tests.{ne-eqb}
 use Rattle.rows.specs.declared.Row.{Row}
 use Rattle.rows.specs.Lists.{filter, all, member, some, nonzero, sameList}
-use Rattle.rows.specs.Codes.{clientEnd, serverEnd, isEnd, isClient, isServer, isNode, inNode, inClist}
-use Rattle.rows.specs.Tables.{State, rowOf, numbers, processAt, isListed, sources}
-use Rattle.rows.proofs.Bools.{and-l, and-r, not-f, or-r, pos-some, eqb-self, and-rf}
+use Rattle.rows.specs.Codes.{clientEnd, serverEnd, isEnd, isClient, isServer, inClist}
+use Rattle.rows.specs.Tables.{State, rowOf, numbers, processAt, sources}
+use Rattle.rows.proofs.Bools.{and-l, and-r, or-r, pos-some, eqb-self, and-rf}
 use Rattle.tables.proofs.Sound.{Sound}
 use Rattle.rows.proofs.RowSources.{node-there}
-use Rattle.tables.proofs.SoundFacts.{row-below, active-node}
+use Rattle.tables.proofs.SoundFacts.{row-below}
+use Rattle.rows.specs.Sound.{isHeld}
 use Rattle.calls.specs.declared.Call.the-variants.{Hold, Register, Port}
 use Rattle.calls.specs.Rules.{withNewRows, copyOf}
-use Rattle.calls.specs.Calls.{withHeld, doHold, withRegistered, doRegister, portEnd, withPort, doPort}
-use Rattle.kept.proofs.Stand.{held-there}
+use Rattle.calls.specs.Calls.{portDepth, withHeld, withRegistered, portEnd, withPort, effect}
+use Rattle.kept.proofs.Hold.{was-held}
+use Rattle.kept.proofs.Allowed.{HoldAllowed, RegisterAllowed, PortAllowed}
 use Rattle.history.specs.History.{History}
 use Rattle.history.specs.Notes.{notedOf, stands, lastGo, addRow, heldSources, noteHold, firstOnly, noteRegister, notePort}
 use Rattle.history.specs.Reading.{noteCall}
 use Rattle.history.proofs.Fit.{isEmpty, bearsWell, endsWell}
 use Rattle.history.proofs.Inv.{Inv, view, throughNow}
-use Rattle.history.proofs.Keeps.{Keeps, unless, taken-made}
+use Rattle.history.proofs.Keeps.{Keeps, taken-made}
 use Rattle.history.proofs.Added.{newNoted, FitsNew, not-below, add-row, stands-same}
 use Rattle.history.proofs.Sweep.{noted-here, noted-other}
-use Rattle.history.proofs.Find.{row-stands, row-noted, stands-low, node-no-end, held-source}
+use Rattle.history.proofs.Find.{row-stands, row-noted, stands-low, node-no-end}
 
 -- ---- what is noted of a row that bears no request and is no end
 pub view-copy : (r : Row) (n x p s v d q : ℕ) → isEnd (r .kind) ≡ false → view (copyOf r n x p s v d q) ≡ newNoted n (nonzero (s ∷ v ∷ [])) q 0
@@ -103,60 +105,41 @@ server-fits h n e =
     record { sources-there = refl; bears = refl; ends = rw (client, eqb-self (suc n), eqb-self n, eqb-self e, or-r (eqb (suc n) n) true refl) (or-r (not (some n)) true refl) }
 
 module _ (h : History) (st : State) (i : Inv h st) (s : Sound st) where
-  held-inv : (p e d : ℕ) → isListed (st .processes) p ≡ true → rowOf (st .rows) e .place ≡ inNode (processAt (st .processes) p .active)
-      → Inv (noteHold p e (st .next) h) (withHeld st p e (processAt (st .processes) p .through) d)
-  unfolding noteHold withHeld inNode
-  held-inv p e d l at-node =
-      let n : isNode (processAt (st .processes) p .active) ≡ true = active-node st s p l in
-      let t : member e (numbers (st .rows)) ≡ true = node-there (st .rows) e (ap isNode at-node ∙ n) in
-      let end : isEnd (rowOf (st .rows) e .kind) ≡ false = node-no-end st s e t (ap isNode at-node ∙ n) in
+  held-inv : (p e : ℕ) → HoldAllowed st p e → Inv (noteHold p e (st .next) h) (withHeld st p e)
+  unfolding noteHold withHeld
+  held-inv p e a =
+      let t = a .there in
+      let end : isEnd (rowOf (st .rows) e .kind) ≡ false = node-no-end st s e t (a .node) in
       add-plain h st _ (heldSources h p e) i
-      (view-copy (rowOf (st .rows) e) (st .next) _ _ e (processAt (st .processes) p .through) d 0 end
-      ∙ ap (λ k. newNoted (st .next) k 0 0) (ap (λ k. nonzero (e ∷ k ∷ [])) (i .through p l) ∙ held-sources h p e (row-below st s e t .0)))
+      (view-copy (rowOf (st .rows) e) (st .next) _ _ e (processAt (st .processes) p .through) _ 0 end
+      ∙ ap (λ k. newNoted (st .next) k 0 0) (ap (λ k. nonzero (e ∷ k ∷ [])) (i .through p (a .caller)) ∙ held-sources h p e (row-below st s e t .0)))
       (sources-some h p e) (sources-stand h p e (row-stands h st i e t))
-
-  pub hold-keeps : (p e : ℕ) → isListed (st .processes) p ≡ true → Keeps h (Hold p e) (doHold st p e)
-  unfolding doHold noteCall
-  hold-keeps p e l =
-      unless _ 7 refl i λ e7.
-      unless _ 9 refl i λ e9.
-      unless _ 12 refl i λ e12.
-      unless _ 15 refl i λ e15.
-      unless _ 16 refl i λ e16.
-      unless _ 18 refl i λ e18.
-      taken-made _ _ (held-inv p e _ l (eqb-true _ _ (not-f _ e7)))
 
   -- ---- register
   first-source : (e : ℕ) → member e (numbers (st .rows)) ≡ true → 0 < rowOf (st .rows) e .source → firstOnly (notedOf (h .rows) e .sources) ≡ rowOf (st .rows) e .source ∷ []
   first-source e t lo = ap (λ x. firstOnly (x .sources)) (row-noted h st i e (row-stands h st i e t)) ∙ only-first (rowOf (st .rows) e) lo
 
-  registered-inv : (p e d : ℕ) → member e (numbers (st .rows)) ≡ true → isEnd (rowOf (st .rows) e .kind) ≡ false → member (rowOf (st .rows) e .source) (numbers (st .rows)) ≡ true
-      → Inv (noteRegister e (st .next) h) (withRegistered st p e d)
+  held-source : (p e : ℕ) → RegisterAllowed st p e → member (rowOf (st .rows) e .source) (numbers (st .rows)) ≡ true
+  unfolding isHeld
+  held-source p e a = let h = was-held st s p e a in node-there (st .rows) (rowOf (st .rows) e .source) (search (and-l, and-r))
+
+  registered-inv : (p e : ℕ) → RegisterAllowed st p e → Inv (noteRegister e (st .next) h) (withRegistered st p e)
   unfolding noteRegister withRegistered
-  registered-inv p e d t end up =
+  registered-inv p e r =
       let a = rowOf (st .rows) e .source in
+      let t = r .row .there in
+      let up : member a (numbers (st .rows)) ≡ true = held-source p e r in
       let lo : 0 < a = row-below st s a up .0 in
       let ss : firstOnly (notedOf (h .rows) e .sources) ≡ a ∷ [] = first-source e t lo in
-      rw ss (add-plain h st _ (a ∷ []) i (view-copy (rowOf (st .rows) e) (st .next) _ _ a 0 d 0 end ∙ ap (λ k. newNoted (st .next) k 0 0) (one-source a lo))
+      rw ss (add-plain h st _ (a ∷ []) i (view-copy (rowOf (st .rows) e) (st .next) _ _ a 0 _ 0 (r .no-end) ∙ ap (λ k. newNoted (st .next) k 0 0) (one-source a lo))
       (unfold isEmpty in refl) (one-stands h a (row-stands h st i a up)))
 
-  pub register-keeps : (p e : ℕ) → Keeps h (Register p e) (doRegister st p e)
-  unfolding doRegister noteCall
-  register-keeps p e =
-      unless _ 7 refl i λ e7.
-      unless _ 8 refl i λ e8.
-      unless _ 9 refl i λ e9.
-      unless _ 12 refl i λ e12.
-      unless _ 15 refl i λ e15.
-      unless _ 16 refl i λ e16.
-      unless _ 18 refl i λ e18.
-      taken-made _ _ (registered-inv p e _ (held-there st p e e7) e8 (held-source st s p e e7 e8 e12))
-
   -- ---- port
-  port-inv : (p e d : ℕ) → member e (numbers (st .rows)) ≡ true → Inv (notePort e (st .next) h) (withPort st p e d)
+  port-inv : (p e : ℕ) → member e (numbers (st .rows)) ≡ true → Inv (notePort e (st .next) h) (withPort st p e)
   unfolding notePort withPort withNewRows addRow
-  port-inv p e d t =
+  port-inv p e t =
       let n = st .next in
+      let d = portDepth st e in
       let lo : 0 < e = row-below st s e t .0 in
       let up : stands h e ≡ true = row-stands h st i e t in
       let cn : some n && member n (h .closedPorts) ≡ false = and-rf (some n) (member n (h .closedPorts)) (not-below n (h .closedPorts) (i .ports-below)) in
@@ -167,12 +150,15 @@ module _ (h : History) (st : State) (i : Inv h st) (s : Sound st) where
       add-row h₁ (withNewRows (client ∷ st .rows) (suc n) st) (portEnd serverEnd (suc n) n (inClist (rowOf (st .rows) e .object)) e d) (e ∷ []) 0 n i₁
       (server-view n (inClist (rowOf (st .rows) e .object)) e d lo) (one-stands h₁ e up₁) (unfold some in refl) cn (server-fits h n e)
 
-  pub port-keeps : (p e : ℕ) → Keeps h (Port p e) (doPort st p e)
-  unfolding doPort noteCall
-  port-keeps p e =
-      unless _ 7 refl i λ e7.
-      unless _ 8 refl i λ e8.
-      unless _ 15 refl i λ e15.
-      unless _ 16 refl i λ e16.
-      unless _ 18 refl i λ e18.
-      taken-made _ _ (port-inv p e _ (held-there st p e e7))
+  -- ---- the calls
+  pub hold-keeps : (p e : ℕ) → HoldAllowed st p e → Keeps h (Hold p e) (effect st (Hold p e))
+  unfolding effect noteCall
+  hold-keeps p e a = taken-made _ _ (held-inv p e a)
+
+  pub register-keeps : (p e : ℕ) → RegisterAllowed st p e → Keeps h (Register p e) (effect st (Register p e))
+  unfolding effect noteCall
+  register-keeps p e a = taken-made _ _ (registered-inv p e a)
+
+  pub port-keeps : (p e : ℕ) → PortAllowed st p e → Keeps h (Port p e) (effect st (Port p e))
+  unfolding effect noteCall
+  port-keeps p e a = taken-made _ _ (port-inv p e (a .row .there))

@@ -7,10 +7,10 @@ use lib.Dec.{eqb}
 use native.Mathlib.Omega.{arith}
 use borrow.Author.Tests.{eq-eqb, ne-eqb}
 use Rattle.rows.specs.declared.Row.{Row}
-use Rattle.rows.specs.Lists.{filter, any, all, firstWith, topOf, rises, member, some, nonzero}
+use Rattle.rows.specs.Lists.{filter, all, firstWith, topOf, rises, member, some, nonzero}
 use Rattle.rows.specs.Codes.{isClient, isEnd, withSystem}
 use Rattle.rows.specs.Tables.{State, rowOf, numbers, sources}
-use Rattle.rows.proofs.Bools.{and-l, and-i, not-f, or-r, or-fl, or-fr, all-mono, pos-some, some-pos, eqb-self, member-here, member-there, and-rf}
+use Rattle.rows.proofs.Bools.{and-l, and-r, and-i, not-t, or-r, all-mono, pos-some, some-pos, eqb-self, member-here, member-there, and-rf}
 use Rattle.rows.proofs.Keyed.{first-there, rises-range, rises-cons}
 use Rattle.tables.proofs.Sound.{Sound}
 use Rattle.tables.proofs.SoundFacts.{row-below}
@@ -20,7 +20,8 @@ use Rattle.calls.specs.declared.Items.{Items}
 use Rattle.calls.specs.declared.Call.the-variants.{Ask}
 use Rattle.calls.specs.Rules.{notHeld, withNewRows}
 use Rattle.calls.specs.Loans.{itemsOf, itemRow, moves, copyDepth, copyLent, Lending, toSystem, lendEnd, lendCopy, lendItem, lendItems, lent, newRequest, withRequest}
-use Rattle.calls.specs.Calls.{doAsk}
+use Rattle.calls.specs.Calls.{effect}
+use Rattle.kept.proofs.Allowed.{AskAllowed}
 use Rattle.kept.proofs.Stand.{held-there}
 use Rattle.kept.proofs.Moved.{moved, moved-same}
 use Rattle.history.specs.History.{withNoted, withRequests, withLoans, Noted, Loan, OnLoan, History}
@@ -28,7 +29,7 @@ use Rattle.history.specs.Notes.{noted, notedOf, noLoan, loanOf, spoiled,
 use Rattle.history.specs.Reading.{itemsNamed, noteCall}
 use Rattle.history.proofs.Fit.{isEmpty, bearsWell, endsWell, portNoted, Fit}
 use Rattle.history.proofs.Inv.{Inv, view, ofRequest, ofLoan, throughNow}
-use Rattle.history.proofs.Keeps.{seen-inv, Keeps, unless, taken-made}
+use Rattle.history.proofs.Keeps.{seen-inv, Keeps, taken-made}
 use Rattle.history.proofs.View.{map-through}
 use Rattle.history.proofs.Added.{newNoted, FitsNew, below-up, not-below, add-row, stands-same}
 use Rattle.history.proofs.Find.{row-stands, row-noted, stands-low, client-port, end-noted}
@@ -188,13 +189,13 @@ module _ (h : History) (st : State) (i : Inv h st) (s : Sound st) (p c : ℕ) (e
       }
 
   -- ---- all items
-  lent-all : (xs : List Item) → any (λ x. notHeld st p (x .row)) xs ≡ false → (l : Lending) (rs : List Noted) → Joint h st p c es os l rs
+  lent-all : (xs : List Item) → all (λ x. not (notHeld st p (x .row))) xs ≡ true → (l : Lending) (rs : List Noted) → Joint h st p c es os l rs
       → Joint h st p c es os (lendItems st c (st .next) xs l) (copiesNoted (st .next) c (l .next) (copied (h .rows) xs) rs)
-  unfolding any lendItems lendItem copied filter copiesNoted lendCopy lendEnd
+  unfolding all lendItems lendItem copied filter copiesNoted lendCopy lendEnd
   lent-all [] e l rs j = j
   lent-all (x ∷ xs) e l rs j =
-      let t : member (x .row) (numbers (st .rows)) ≡ true = held-there st p (x .row) (or-fl (notHeld st p (x .row)) _ e) in
-      rw (end-noted h st i s x t) (pick t (lent-all xs (or-fr (notHeld st p (x .row)) _ e)) (moves st x) refl)
+      let t : member (x .row) (numbers (st .rows)) ≡ true = held-there st p (x .row) (not-t _ (and-l (not (notHeld st p (x .row))) _ e)) in
+      rw (end-noted h st i s x t) (pick t (lent-all xs (and-r (not (notHeld st p (x .row))) _ e)) (moves st x) refl)
     where
       pick : member (x .row) (numbers (st .rows)) ≡ true
           → ((l : Lending) (rs : List Noted) → Joint h st p c es os l rs → Joint h st p c es os (lendItems st c (st .next) xs l) (copiesNoted (st .next) c (l .next) (copied (h .rows) xs) rs))
@@ -214,24 +215,15 @@ module _ (h : History) (st : State) (i : Inv h st) (s : Sound st) where
       client-view : (r : Row) → isClient (r .kind) ≡ true → view r .port ≡ r .object
       client-view r k = unfold view isEnd in rw k refl
 
-  ask-inv : (p c : ℕ) (xs : List Item) → member c (numbers (st .rows)) ≡ true → isClient (rowOf (st .rows) c .kind) ≡ true → any (λ x. notHeld st p (x .row)) xs ≡ false
-      → Inv (noteAsk p c xs (st .next) h) (withRequest st p c xs)
+  ask-inv : (p c : ℕ) (xs : List Item) → AskAllowed st p c xs → Inv (noteAsk p c xs (st .next) h) (withRequest st p c xs)
   unfolding noteAsk withRequest lent
-  ask-inv p c xs t k e =
+  ask-inv p c xs a =
+      let t = a .port .there in
       let es = endsNamed (h .rows) xs in
       let os = map (λ e. record { request = st .next; lent = e }) es ++ h .loans in
-      lent-all h st i s p c es os t xs e (record { rows = st .rows; items = []; next = suc (st .next) }) (h .rows)
-      (begun h st i p c es os (row-stands h st i c t) (port-there p c es t k)) .inv
+      lent-all h st i s p c es os t xs (a .held) (record { rows = st .rows; items = []; next = suc (st .next) }) (h .rows)
+      (begun h st i p c es os (row-stands h st i c t) (port-there p c es t (a .client))) .inv
 
-  pub ask-keeps : (p c : ℕ) (is : Items) → Keeps h (Ask p c is) (doAsk st p c (itemsOf is))
-  unfolding doAsk noteCall itemsNamed itemsOf
-  ask-keeps p c is =
-      unless _ 7 refl i λ e7.
-      unless _ 8 refl i λ e8.
-      unless _ 9 refl i λ e9.
-      unless _ 10 refl i λ e10.
-      unless _ 15 refl i λ e15.
-      unless _ 16 refl i λ e16.
-      unless _ 17 refl i λ e17.
-      unless _ 18 refl i λ e18.
-      taken-made _ _ (ask-inv p c (itemsOf is) (held-there st p c (or-fl (notHeld st p c) _ e7)) (not-f _ e8) (or-fr (notHeld st p c) _ e7))
+  pub ask-keeps : (p c : ℕ) (is : Items) → AskAllowed st p c (itemsOf is) → Keeps h (Ask p c is) (effect st (Ask p c is))
+  unfolding effect noteCall itemsNamed itemsOf
+  ask-keeps p c is a = taken-made _ _ (ask-inv p c (itemsOf is) a)

@@ -9,21 +9,22 @@ use borrow.Author.Tests.{eqb-true, eq-eqb, ne-eqb, ltb-true}
 use Rattle.rows.specs.declared.Row.{Row}
 use Rattle.rows.specs.declared.Request.{Request}
 use Rattle.rows.specs.Lists.{all, firstWith, member, some}
-use Rattle.rows.specs.Codes.{isEnd, isServer}
+use Rattle.rows.specs.Codes.{isEnd}
 use Rattle.rows.specs.Tables.{State, noRequest, rowOf, numbers, requestOf, openOn, bears}
-use Rattle.rows.proofs.Bools.{and-l, and-r, and-i, not-f, or-fl, pos-some, some-pos}
+use Rattle.rows.proofs.Bools.{and-l, and-r, and-i, pos-some, some-pos}
 use Rattle.rows.proofs.Keyed.{first-key, first-there, all-first}
 use Rattle.tables.proofs.Sound.{Sound}
 use Rattle.tables.proofs.SoundFacts.{requests-between}
 use Rattle.closing.specs.Closing.{closeRequest, isEndOf, closePort, isRow, dropRow}
 use Rattle.calls.specs.declared.Call.the-variants.{Drop, Close, Reply, Refuse, Revoke}
-use Rattle.calls.specs.Calls.{doDrop, doClose, doReply, doRefuse, doRevoke}
-use Rattle.kept.proofs.Stand.{held-there}
+use Rattle.calls.specs.Rules.{askedOf}
+use Rattle.calls.specs.Calls.{effect}
+use Rattle.kept.proofs.Allowed.{DropAllowed, CloseAllowed, ServerAllowed, ReplyAllowed, RevokeAllowed}
 use Rattle.history.specs.History.{Noted, History}
 use Rattle.history.specs.Notes.{noLoan, notedOf, spoiled, stands, openLoans, openRequest, noteDrop, noteClose, noteRevoke, noteEnd}
 use Rattle.history.specs.Reading.{noteCall}
 use Rattle.history.proofs.Inv.{Inv, view, ofRequest, ofLoan, noOpen}
-use Rattle.history.proofs.Keeps.{fit-same, Keeps, unless, taken-done}
+use Rattle.history.proofs.Keeps.{fit-same, Keeps, taken-done}
 use Rattle.history.proofs.View.{first-through}
 use Rattle.history.proofs.Added.{below-cons}
 use Rattle.history.proofs.Closed.{closed-keeps}
@@ -123,39 +124,18 @@ module _ (h : History) (st : State) (i : Inv h st) (s : Sound st) where
       (unfold noteRevoke in revoke-spoils q lo h) (λ r. unfold bears view in refl) (λ v. member-one v q (h .closedRequests))
       (fit-same h (noteRevoke q h) refl refl refl (i .fit .ends-kept) (i .fit)) (i .dropped-below) (i .ports-below) (below-cons (st .next) q (h .closedRequests) hi (i .closed-below))
 
-  pub revoke-keeps : (p q : ℕ) → Keeps h (Revoke p q) (doRevoke st p q)
-  unfolding doRevoke noteCall
-  revoke-keeps p q =
-      unless _ 7 refl i λ e7.
-      let (lo, hi) = request-range st s q (or-fl (eqb (requestOf (st .requests) q .number) 0) _ e7) in
-      taken-done _ (revoked-inv q lo hi)
+  pub revoke-inv : (p q : ℕ) → RevokeAllowed st p q → Inv (noteRevoke q h) (closeRequest q st)
+  revoke-inv p q a = let (lo, hi) = request-range st s q (a .asked) in revoked-inv q lo hi
 
-  -- the request open on the port of a server end is closed
-  answered-inv : (e : ℕ) → member e (numbers (st .rows)) ≡ true → isServer (rowOf (st .rows) e .kind) ≡ true → eqb (openOn (st .requests) (rowOf (st .rows) e .object) .number) 0 ≡ false
-      → Inv (noteEnd e h) (closeRequest (openOn (st .requests) (rowOf (st .rows) e .object) .number) st)
-  unfolding noteEnd openOn
-  answered-inv e t k z =
-      let same : openOn (st .requests) (rowOf (st .rows) e .object) .number ≡ openRequest h (pred e) = same-open h st i (rowOf (st .rows) e .object) ∙ ap (openRequest h) (server-port st s e t k) in
-      let (lo, hi) = found-range st s (λ v. v .port) (rowOf (st .rows) e .object) z in
-      rw (← same) (revoked-inv (openOn (st .requests) (rowOf (st .rows) e .object) .number) lo hi)
-
-  pub refuse-keeps : (p e : ℕ) → Keeps h (Refuse p e) (doRefuse st p e)
-  unfolding doRefuse noteCall
-  refuse-keeps p e =
-      unless _ 7 refl i λ e7.
-      unless _ 8 refl i λ e8.
-      unless _ 11 refl i λ e11.
-      taken-done _ (answered-inv e (held-there st p e e7) (not-f _ e8) e11)
-
-  pub reply-keeps : (p e : ℕ) → Keeps h (Reply p e) (doReply st p e)
-  unfolding doReply noteCall
-  reply-keeps p e =
-      unless _ 7 refl i λ e7.
-      unless _ 8 refl i λ e8.
-      unless _ 10 refl i λ e10.
-      unless _ 11 refl i λ e11.
-      unless _ 14 refl i λ e14.
-      taken-done _ (answered-inv e (held-there st p e e7) (not-f _ e8) (or-fl (eqb (openOn (st .requests) (rowOf (st .rows) e .object) .number) 0) _ e11))
+  -- the request that the server of a port sees is closed
+  served-inv : (p e : ℕ) → ServerAllowed st p e → Inv (noteEnd e h) (closeRequest (askedOf st e .number) st)
+  unfolding noteEnd askedOf openOn
+  served-inv p e a =
+      let c = rowOf (st .rows) e .object in
+      let v = openOn (st .requests) c in
+      let same : v .number ≡ openRequest h (pred e) = same-open h st i c ∙ ap (openRequest h) (server-port st s e (a .row .there) (a .server)) in
+      let (lo, hi) = found-range st s (λ v. v .port) c (ne-eqb (v .number) 0 (λ z. let l = some-pos (v .number) (a .asked) in omega arith)) in
+      rw (← same) (revoked-inv (v .number) lo hi)
 
   -- ---- drop
   dropped-inv : (e : ℕ) → member e (numbers (st .rows)) ≡ true → isEnd (rowOf (st .rows) e .kind) ≡ false → Inv (noteDrop e h) (dropRow e st)
@@ -169,22 +149,32 @@ module _ (h : History) (st : State) (i : Inv h st) (s : Sound st) where
       (fit-same h (noteDrop e h) refl refl refl (and-i (eqb (notedOf (h .rows) e .port) 0) _ (eq-eqb (notedOf (h .rows) e .port) 0 plain) (i .fit .ends-kept)) (i .fit))
       (below-cons (st .next) e (h .dropped) hi (i .dropped-below)) (i .ports-below) (i .closed-below)
 
-  pub drop-keeps : (p e : ℕ) → Keeps h (Drop p e) (doDrop st p e)
-  unfolding doDrop noteCall
-  drop-keeps p e =
-      unless _ 7 refl i λ e7.
-      unless _ 8 refl i λ e8.
-      unless _ 13 refl i λ e13.
-      taken-done _ (dropped-inv e (held-there st p e e7) e8)
-
   -- ---- close
-  pub close-keeps : (p c : ℕ) → Keeps h (Close p c) (doClose st p c)
-  unfolding doClose noteCall closePort noteClose
-  close-keeps p c =
-      unless _ 7 refl i λ e7.
-      unless _ 8 refl i λ e8.
-      unless _ 12 refl i λ e12.
-      let (lo, hi) = stands-low h st i c (row-stands h st i c (held-there st p c e7)) in
-      taken-done _ (closed-keeps h (noteClose c h) st (λ r. eqb (r .port) c) (isEndOf c) [] i s refl refl refl
+  closed-inv : (p c : ℕ) → CloseAllowed st p c → Inv (noteClose c h) (closePort c st)
+  unfolding closePort noteClose
+  closed-inv p c a =
+      let (lo, hi) = stands-low h st i c (row-stands h st i c (a .row .there)) in
+      closed-keeps h (noteClose c h) st (λ r. eqb (r .port) c) (isEndOf c) [] i s refl refl refl
       (unfold noteClose in close-spoils c lo h) (end-of c lo) (λ v. unfold member in refl)
-      (fit-same h (noteClose c h) refl refl refl (i .fit .ends-kept) (i .fit)) (i .dropped-below) (below-cons (st .next) c (h .closedPorts) hi (i .ports-below)) (i .closed-below))
+      (fit-same h (noteClose c h) refl refl refl (i .fit .ends-kept) (i .fit)) (i .dropped-below) (below-cons (st .next) c (h .closedPorts) hi (i .ports-below)) (i .closed-below)
+
+  -- ---- the calls
+  pub drop-keeps : (p e : ℕ) → DropAllowed st p e → Keeps h (Drop p e) (effect st (Drop p e))
+  unfolding effect noteCall
+  drop-keeps p e a = taken-done _ (dropped-inv e (a .row .there) (a .no-end))
+
+  pub close-keeps : (p c : ℕ) → CloseAllowed st p c → Keeps h (Close p c) (effect st (Close p c))
+  unfolding effect noteCall
+  close-keeps p c a = taken-done _ (closed-inv p c a)
+
+  pub reply-keeps : (p e : ℕ) → ReplyAllowed st p e → Keeps h (Reply p e) (effect st (Reply p e))
+  unfolding effect noteCall
+  reply-keeps p e a = taken-done _ (served-inv p e (a .serves))
+
+  pub refuse-keeps : (p e : ℕ) → ServerAllowed st p e → Keeps h (Refuse p e) (effect st (Refuse p e))
+  unfolding effect noteCall
+  refuse-keeps p e a = taken-done _ (served-inv p e a)
+
+  pub revoke-keeps : (p q : ℕ) → RevokeAllowed st p q → Keeps h (Revoke p q) (effect st (Revoke p q))
+  unfolding effect noteCall
+  revoke-keeps p q a = taken-done _ (revoke-inv p q a)

@@ -1,6 +1,6 @@
 -- go, fetch and comes keep the invariant.
 use Prim.Native.Nat.{ℕ, zero, suc, _-_, _<_}
-use mathlib.Core.Bool.{Bool, true, false, not, cond, _&&_}
+use mathlib.Core.Bool.{Bool, true, false, cond, _&&_}
 use mathlib.Core.List.{List, _∷_, map}
 use mathlib.Core.Path.{_≡_, refl, sym, ap, _∙_}
 use lib.Dec.{eqb}
@@ -13,24 +13,24 @@ use Rattle.rows.specs.declared.Row.{Row}
 use Rattle.rows.specs.declared.Request.{Request}
 use Rattle.rows.specs.declared.Process.{Process}
 use Rattle.rows.specs.Lists.{if_then_else_, firstWith, some}
-use Rattle.rows.specs.Codes.{isSubdirectory, inClist}
-use Rattle.rows.specs.Tables.{State, noProcess, rowOf, openOn, processAt, isListed, sources, lists}
+use Rattle.rows.specs.Codes.{inClist}
+use Rattle.rows.specs.Tables.{State, noProcess, processAt, isListed, sources, lists}
 use Rattle.rows.proofs.Bools.{clash, some-pos, none-zero}
 use Rattle.tables.proofs.SoundFacts.{listed-has-record}
 use Rattle.rows.specs.Setters.{withPlace}
 use Rattle.calls.specs.declared.Call.the-variants.{Go, Fetch, Comes}
 use Rattle.calls.specs.Answers.{refusalOf, valuesOf}
-use Rattle.calls.specs.Rules.{refusedIf, notHeld, withRecord}
+use Rattle.calls.specs.Rules.{askedOf, withRecord}
 use Rattle.calls.specs.Loans.{handedTo, nowFetched, handedOver}
-use Rattle.calls.specs.Calls.{done, goHome, goThrough, doGo, fetchedAnswer, doFetch, doComes}
-use Rattle.kept.proofs.Stand.{held-there}
+use Rattle.calls.specs.Calls.{done, goHome, goThrough, fetchedAnswer, effect}
+use Rattle.kept.proofs.Allowed.{GoAllowed}
 use Rattle.kept.proofs.Moved.{moved, moved-same}
 use Rattle.kept.proofs.Loans.{now-same}
 use Rattle.history.specs.History.{Went, History}
 use Rattle.history.specs.Notes.{spoiled, standing, stands, isClosed, openLoans, wentNowhere, lastGo, noteGo}
 use Rattle.history.specs.Reading.{noteCall}
 use Rattle.history.proofs.Inv.{Inv, view, ofRequest, ofLoan, throughNow, firstValue}
-use Rattle.history.proofs.Keeps.{fit-same, seen-inv, Keeps, unless, taken, taken-done}
+use Rattle.history.proofs.Keeps.{fit-same, seen-inv, Keeps, taken, taken-done}
 use Rattle.history.proofs.View.{map-through}
 use Rattle.history.proofs.Find.{row-stands, stands-low}
 
@@ -126,16 +126,13 @@ module _ (h : History) (st : State) (i : Inv h st) where
   unfolding goThrough
   through-inv p e l up = go-inv p e _ l refl (λ t. up)
 
-  pub go-keeps : (p e : ℕ) → isListed (st .processes) p ≡ true → Keeps h (Go p e) (doGo st p e)
-  unfolding doGo noteCall
-  go-keeps p e l = pick (eqb e 0) refl
+  pub go-keeps : (p e : ℕ) → GoAllowed st p e → Keeps h (Go p e) (effect st (Go p e))
+  unfolding effect noteCall
+  go-keeps p e a = pick (eqb e 0) refl
     where
-      pick : (b : Bool) → eqb e 0 ≡ b → Keeps h (Go p e) (if b then done (goHome st p) else refusedIf st (notHeld st p e) 7 (refusedIf st (not (isSubdirectory (rowOf (st .rows) e .kind))) 8 (done (goThrough st p e))))
-      pick true q = taken-done _ (home-inv p e l (eqb-true e 0 q))
-      pick false q =
-          unless _ 7 refl i λ e7.
-          unless _ 8 refl i λ e8.
-          taken-done _ (through-inv p e l (row-stands h st i e (held-there st p e e7)))
+      pick : (b : Bool) → eqb e 0 ≡ b → Keeps h (Go p e) (done (if b then goHome st p else goThrough st p e))
+      pick true q = taken-done _ (home-inv p e (a .caller) (eqb-true e 0 q))
+      pick false q = taken-done _ (through-inv p e (a .caller) (row-stands h st i e (a .row q .there)))
 
   -- ---- fetch
   hand-view : (p : ℕ) (v : Request) (r : Row) → view (handedTo p v r) ≡ view r
@@ -150,17 +147,11 @@ module _ (h : History) (st : State) (i : Inv h st) where
   fetched-inv p v =
       seen-inv h st (handedOver p v st) (map-through view (handedTo p v) (hand-view p v) (st .rows)) (map-through ofRequest (nowFetched (v .number)) (fetched-view (v .number)) (st .requests)) refl refl i
 
-  pub fetch-keeps : (p e : ℕ) → Keeps h (Fetch p e) (doFetch st p e)
-  unfolding doFetch noteCall fetchedAnswer refusalOf valuesOf firstValue
-  fetch-keeps p e =
-      unless _ 7 refl i λ e7.
-      unless _ 8 refl i λ e8.
-      unless _ 11 refl i λ e11.
-      taken _ (openOn (st .requests) (rowOf (st .rows) e .object) .number) refl refl (fetched-inv p (openOn (st .requests) (rowOf (st .rows) e .object)))
+  pub fetch-keeps : (p e : ℕ) → Keeps h (Fetch p e) (effect st (Fetch p e))
+  unfolding effect noteCall fetchedAnswer refusalOf valuesOf firstValue
+  fetch-keeps p e = taken _ (askedOf st e .number) refl refl (fetched-inv p (askedOf st e))
 
   -- ---- comes
-  pub comes-keeps : (e q : ℕ) → Keeps h (Comes e q) (doComes st e q)
-  unfolding doComes noteCall refusalOf valuesOf firstValue
-  comes-keeps e q =
-      unless _ 7 refl i λ e7.
-      taken _ _ refl refl i
+  pub comes-keeps : (e q : ℕ) → Keeps h (Comes e q) (effect st (Comes e q))
+  unfolding effect noteCall refusalOf valuesOf firstValue
+  comes-keeps e q = taken _ _ refl refl i

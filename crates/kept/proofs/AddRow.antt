@@ -22,13 +22,7 @@ use Rattle.rows.proofs.RowSources.{row-there, subdirectory-there}
 use Rattle.rows.proofs.Places.{no-row-listed}
 use Rattle.tables.proofs.SoundFacts.{same-eq, rows-top, row-below, requests-below, requests-top, next-some, placed-still}
 use Rattle.tables.proofs.Awaits.{awaits-none}
-use Rattle.calls.specs.Rules.{Out, refusedIf, rowsFull, numbersSpent, withNewRows}
-
--- a refusal leaves the tables: what is left is the case in which the test fails
-pub unless : {st : State} (o : Out) (b : Bool) (k : ℕ) → Sound st → (b ≡ false → Sound (o .after)) → Sound (refusedIf st b k o .after)
-unfolding refusedIf
-unless o true k s f = s
-unless o false k s f = f refl
+use Rattle.calls.specs.Rules.{rowsFull, numbersSpent, withNewRows}
 
 -- ---- what a request lists
 -- what is no row is in no request's list

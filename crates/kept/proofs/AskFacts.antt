@@ -1,4 +1,4 @@
--- An ask that is not refused, the tables after it, and how old rows and requests are found in them.
+-- The tables after an ask that is allowed, and how old rows and requests are found in them.
 use Prim.Native.Nat.{ℕ, suc, _+_, _<_, _≤_}
 use mathlib.Core.Bool.{Bool, true, false, not, cond, _&&_}
 use mathlib.Core.List.{List, _∷_, map}
@@ -10,10 +10,10 @@ use borrow.Author.Tests.{eqb-true}
 use native.Mathlib.Omega.{arith}
 use Rattle.rows.specs.declared.Row.{Row}
 use Rattle.rows.specs.declared.Request.{Request}
-use Rattle.rows.specs.Lists.{all, firstWith, member, distinct, some}
-use Rattle.rows.specs.Limits.{greatestNumber, rowSlots, requestSlots, mostItems}
-use Rattle.rows.specs.Codes.{isClient, withSystem}
-use Rattle.rows.specs.Tables.{State, noRow, noRequest, rowOf, requestOf, isListed, numbers, lists}
+use Rattle.rows.specs.Lists.{firstWith, member, some}
+use Rattle.rows.specs.Limits.{mostItems}
+use Rattle.rows.specs.Codes.{withSystem}
+use Rattle.rows.specs.Tables.{State, noRow, noRequest, rowOf, requestOf, numbers, lists}
 use Rattle.rows.specs.Sound.{requestsRise, copyListed}
 use Rattle.rows.proofs.Bools.{false-of, clash, and-l, and-r, or-cases, not-t, pos-some}
 use Rattle.rows.proofs.Keyed.{first-none, rises-range, keys-map}
@@ -22,29 +22,15 @@ use Rattle.tables.proofs.SoundFacts.{row-below, requests-top, next-some}
 use Rattle.rows.proofs.RowSources.{row-there}
 use Rattle.rows.specs.Setters.{withPlace}
 use Rattle.calls.specs.declared.Item.{Item}
-use Rattle.calls.specs.Rules.{notHeld, hasOpen}
+use Rattle.calls.specs.Rules.{notHeld}
 use Rattle.calls.specs.Loans.{copies, newRequest}
 use Rattle.kept.proofs.Moved.{moved, moved-number, row-moved, row-same}
 use Rattle.kept.proofs.Loans.{no-request-lists}
 use Rattle.kept.proofs.AskItems.{isItem, listed, stacked}
 use Rattle.kept.proofs.AskList.{member-pad, named-at, named-listed, copy-listed, listed-cases}
 use Rattle.kept.proofs.AskStack.{row-stacked, numbers-stacked}
-use Rattle.kept.proofs.AskCopy.{lendable}
+use Rattle.kept.proofs.Allowed.{AskAllowed}
 use Rattle.kept.proofs.Stand.{held-there}
-
--- what the refusals and the text leave of an ask
-pub record Asked (st : State) (p c : ℕ) (is : List Item) : Type 0 where
-  pub few : length is ≤ mostItems
-  pub rows-some : all (λ i. some (i .row)) is ≡ true
-  pub rows-apart : distinct (map (λ i. i .row) is) ≡ true
-  pub held : all (λ i. not (notHeld st p (i .row))) is ≡ true
-  pub client : isClient (rowOf (st .rows) c .kind) ≡ true
-  pub lent : all (lendable st p c) (copies st is) ≡ true
-  pub free : hasOpen st c ≡ false
-  pub rows-room : length (st .rows) + length (copies st is) ≤ rowSlots
-  pub requests-room : length (st .requests) < requestSlots
-  pub numbers-room : st .next + suc (length (copies st is)) ≤ suc greatestNumber
-  pub process : isListed (st .processes) p ≡ true
 
 -- the rows with the ends isItem at the system, the copies on top; the new request; the tables
 abbrev pub lentRows : State → List Item → List Row
@@ -60,7 +46,7 @@ abbrev pub askedState : State → ℕ → ℕ → List Item → State
 askedState st p c is =
     record { rows = askedRows st c is; requests = asked st p c is ∷ st .requests; processes = st .processes; next = suc (st .next) + length (copies st is) }
 
-module _ (st : State) (s : Sound st) (p c : ℕ) (is : List Item) (a : Asked st p c is) where
+module _ (st : State) (s : Sound st) (p c : ℕ) (is : List Item) (a : AskAllowed st p c is) where
   -- ---- the ends isItem
   pub none-named : isItem st is 0 ≡ false
   none-named = false-of (isItem st is 0) (λ t. clash (named-at st some is (a .rows-some) 0 t) (unfold some in refl))

@@ -33,7 +33,8 @@ use Rattle.kept.proofs.Loans.{held-so}
 use Rattle.kept.proofs.AskItems.{isItem, listed}
 use Rattle.kept.proofs.AskList.{nonzero-pad, nonzero-all, named-end, listed-length, listed-some, listed-apart, listed-cases}
 use Rattle.kept.proofs.AskStack.{bears-stacked}
-use Rattle.kept.proofs.AskFacts.{Asked, lentRows, askedRows, asked, askedState, named-held, named-old, lists-cases, old-number, old-passes}
+use Rattle.kept.proofs.Allowed.{AskAllowed}
+use Rattle.kept.proofs.AskFacts.{lentRows, askedRows, asked, askedState, named-held, named-old, lists-cases, old-number, old-passes}
 use Rattle.kept.proofs.AskRows.{rows-top′}
 use Rattle.kept.proofs.Stand.{held-there}
 
@@ -42,7 +43,7 @@ unfolding any
 any-members f [] h = refl
 any-members f (n ∷ ns) h = rw (h n (member-here n ns)) (any-members f ns (λ m t. h m (member-there m n ns t)))
 
-module _ (st : State) (s : Sound st) (p c : ℕ) (is : List Item) (a : Asked st p c is) where
+module _ (st : State) (s : Sound st) (p c : ℕ) (is : List Item) (a : AskAllowed st p c is) where
   -- what holds of the old requests and of the new one
   requests-all : (P : Request → Bool) → P (asked st p c is) ≡ true → all P (st .requests) ≡ true → all P (asked st p c is ∷ st .requests) ≡ true
   unfolding all
@@ -114,7 +115,7 @@ module _ (st : State) (s : Sound st) (p c : ℕ) (is : List Item) (a : Asked st 
 
   pub requesters-listed : requestersListed (askedState st p c is) ≡ true
   unfolding requestersListed
-  requesters-listed = requests-all (λ v. isListed (st .processes) (v .asker)) (unfold newRequest in a .process) (s .requesters-listed)
+  requesters-listed = requests-all (λ v. isListed (st .processes) (v .asker)) (unfold newRequest in a .caller) (s .requesters-listed)
 
   pub one-per-port : onePerPort (askedState st p c is) ≡ true
   unfolding onePerPort distinct newRequest
@@ -189,7 +190,7 @@ module _ (st : State) (s : Sound st) (p c : ℕ) (is : List Item) (a : Asked st 
       in-clist : (e : ℕ) → isItem st is e ≡ true → isSystem (rowOf (st .rows) e .place) ≡ false
       in-clist e g =
           let held : rowOf (st .rows) e .place ≡ inClist p = unfold notHeld in eqb-true (rowOf (st .rows) e .place) (inClist p) (not-f (eqb (rowOf (st .rows) e .place) (inClist p)) (named-held st s p c is a e g)) in
-          ap isSystem held ∙ clist-not-system st s p (a .process)
+          ap isSystem held ∙ clist-not-system st s p (a .caller)
 
       -- what the new request lists no unfetched one lists
       unshared : (w : ℕ) → member w (map (λ v. v .number) (st .requests)) ≡ true → isFetched (requestOf (st .requests) w) ≡ false

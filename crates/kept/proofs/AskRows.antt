@@ -32,9 +32,10 @@ use Rattle.kept.proofs.AskItems.{isItem, listed}
 use Rattle.kept.proofs.AskList.{named-end}
 use Rattle.kept.proofs.AskStack.{row-stacked, length-stacked, rises-stacked, top-stacked, all-stacked, each-stacked}
 use Rattle.kept.proofs.AskCopy.{lendable, copy-object, copy-right, copy-place, copy-paired, copy-source, copy-depth, copy-matches, copy-listed, copy-held}
-use Rattle.kept.proofs.AskFacts.{Asked, lentRows, askedRows, asked, askedState, none-named, named-held, lists-named, lists-copy, lists-cases, old-found, request-old}
+use Rattle.kept.proofs.Allowed.{AskAllowed}
+use Rattle.kept.proofs.AskFacts.{lentRows, askedRows, asked, askedState, none-named, named-held, lists-named, lists-copy, lists-cases, old-found, request-old}
 
-module _ (st : State) (s : Sound st) (p c : ℕ) (is : List Item) (a : Asked st p c is) where
+module _ (st : State) (s : Sound st) (p c : ℕ) (is : List Item) (a : AskAllowed st p c is) where
   abbrev lo : ℕ
   lo = suc (st .next)
 

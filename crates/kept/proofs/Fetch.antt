@@ -13,7 +13,7 @@ use Rattle.rows.specs.Limits.{processes, mostItems}
 use Rattle.rows.specs.Codes.{isSubdirectory, isEnd, inClist, withSystem, isNode, isSystem}
 use Rattle.rows.specs.Tables.{State, noRow, noRequest, rowOf, requestOf, openOn, isListed, numbers, lists}
 use Rattle.rows.specs.Sound.{rowsRise, requestsRise, numbersApart, belowNext, nextInRange, rowsFit, requestsFit, recordsFit, objectsInRange, rightsInRange, placeInRange, placesInRange, fetchedInRange, sourcesRight, depthsRight, copiesMatch, recordsInRange, endPaired, endsPaired, portStands, portsStand, requestersListed, itemsFew, itemsApart, itemsLent, mayBeListed, onePerPort, copyListed, copiesListed, isFetched, olderFetchedBy, olderFetched, awaitsFetch, same, systemHolds, processesPlaced}
-use Rattle.rows.proofs.Bools.{false-of, true-of, clash, and-l, or-l, or-r, or-fl, or-fr, any-eq, all-mono, all-eq, all-at, not-zero}
+use Rattle.rows.proofs.Bools.{false-of, true-of, clash, and-l, or-l, or-r, any-eq, all-mono, all-eq, all-at}
 use Rattle.rows.proofs.Keyed.{all-first, rises-map, rises-range, keys-map}
 use Rattle.tables.proofs.Sound.{Sound}
 use Rattle.rows.proofs.Lists.{member-nonzero, all-map}
@@ -23,8 +23,8 @@ use Rattle.tables.proofs.Awaits.{listers-fetched}
 use Rattle.rows.proofs.RowSources.{subdirectory-there}
 use Rattle.rows.specs.Setters.{withPlace}
 use Rattle.calls.specs.Loans.{handedTo, nowFetched, handedOver}
-use Rattle.calls.specs.Calls.{doFetch}
-use Rattle.kept.proofs.AddRow.{unless}
+use Rattle.calls.specs.Rules.{askedOf}
+use Rattle.kept.proofs.Allowed.{FetchAllowed}
 use Rattle.kept.proofs.Lists.{each-map, top-map, other-there, other-same}
 use Rattle.kept.proofs.Moved.{moved, mayMove, moved-same, moved-stays, moved-goes, moved-number, row-moved, depths-moved, copies-moved, objects-moved, rights-moved, paired-moved, ports-moved, listed-moved, sources-moved}
 use Rattle.kept.proofs.Loans.{of-rows, held-so, now-same, now-number, now-lists, still-fetched, request-now, fetched-now, awaits-same}
@@ -321,18 +321,17 @@ open-there : (vs : List Request) (c : ℕ) → some (openOn vs c .number) ≡ tr
 unfolding openOn
 open-there vs c t = other-there (λ v. v .number) noRequest (λ v. v .port) (unfold noRequest in refl) vs c t
 
-pub fetch-kept : (st : State) → Sound st → (p e : ℕ) → isListed (st .processes) p ≡ true → Sound (doFetch st p e .after)
-unfolding doFetch handedOver handedTo moved requestsRise
-fetch-kept st s p e listed =
-    unless _ _ 7 s λ _. unless _ _ 8 s λ _. unless _ _ 11 s λ e11. taken (or-fl (eqb (v .number) 0) (isFetched v) e11) (or-fr (eqb (v .number) 0) (isFetched v) e11)
-  where
-    c : ℕ
-    c = rowOf (st .rows) e .object
+-- the request that the server of a port sees
+pub asked-found : (st : State) → rises (λ v. v .number) (st .requests) ≡ true → (e : ℕ) → some (askedOf st e .number) ≡ true → requestOf (st .requests) (askedOf st e .number) ≡ askedOf st e
+unfolding askedOf
+asked-found st r e t = open-found (st .requests) (rowOf (st .rows) e .object) r t
 
-    v : Request
-    v = openOn (st .requests) c
+asked-there : (st : State) (e : ℕ) → some (askedOf st e .number) ≡ true → member (askedOf st e .number) (map (λ v. v .number) (st .requests)) ≡ true
+unfolding askedOf
+asked-there st e t = open-there (st .requests) (rowOf (st .rows) e .object) t
 
-    taken : eqb (v .number) 0 ≡ false → isFetched v ≡ false → Sound (handedOver p v st)
-    taken z f =
-        let t : some (v .number) ≡ true = not-zero (v .number) z in
-        fetched-sound st s p v (open-found (st .requests) c (s .requests-rise) t) (open-there (st .requests) c t) f listed
+pub fetch-kept : (st : State) → Sound st → (p e : ℕ) → FetchAllowed st p e → Sound (handedOver p (askedOf st e) st)
+unfolding handedOver handedTo moved requestsRise
+fetch-kept st s p e a =
+    let t = a .serves .asked in
+    fetched-sound st s p (askedOf st e) (asked-found st (s .requests-rise) e t) (asked-there st e t) (a .unfetched) (a .serves .caller)

@@ -1,6 +1,6 @@
 -- go keeps the tables sound: only the caller's record changes, and not its prime node.
 use Prim.Native.Nat.{ℕ, zero, suc, _+_, _-_, _<_}
-use mathlib.Core.Bool.{Bool, true, false, cond, _&&_}
+use mathlib.Core.Bool.{Bool, true, false, _&&_}
 use mathlib.Core.List.{List, [], _∷_}
 use mathlib.Core.Path.{_≡_, refl, ap, _∙_}
 use lib.Dec.{eqb}
@@ -8,18 +8,18 @@ use lib.ListN.{getD, set, length-set}
 use native.Mathlib.Omega.{arith}
 use Rattle.rows.specs.declared.Row.{Row}
 use Rattle.rows.specs.declared.Process.{Process}
-use Rattle.rows.specs.Lists.{between, some}
+use Rattle.rows.specs.Lists.{if_then_else_, between, some}
 use Rattle.rows.specs.Limits.{processes, nodes}
 use Rattle.rows.specs.Codes.{isSubdirectory, inClist, isNode, ownerOf}
 use Rattle.rows.specs.Tables.{State, noProcess, rowOf, processAt, isListed}
 use Rattle.rows.specs.Sound.{rowsRise, requestsRise, numbersApart, belowNext, nextInRange, rowsFit, requestsFit, recordsFit, objectInRange, objectsInRange, rightsInRange, placeInRange, placesInRange, fetchedInRange, sourcesRight, depthsRight, copiesMatch, recordUnused, recordInRange, recordsInRange, endsPaired, portsStand, requestersListed, itemsFew, itemsApart, itemsLent, onePerPort, copiesListed, olderFetched, systemHolds, processPlaced, placedFrom, processesPlaced}
-use Rattle.rows.proofs.Bools.{and-l, and-r, and-i, or-l, or-r, not-f, eqb-self, pos-some, all-eq}
+use Rattle.rows.proofs.Bools.{and-l, and-r, and-i, or-l, or-r, eqb-self, pos-some, all-eq}
 use Rattle.tables.proofs.Sound.{Sound}
-use Rattle.tables.proofs.SoundFacts.{row-below, listed-range, prime-node, row-object, subdirectory-node, clist-there}
+use Rattle.tables.proofs.SoundFacts.{row-below, listed-range, prime-node, row-object, subdirectory-node}
 use Rattle.rows.proofs.Lists.{all-set}
-use Rattle.calls.specs.Rules.{Out, notHeld, withRecord}
-use Rattle.calls.specs.Calls.{done, goHome, goThrough, doGo}
-use Rattle.kept.proofs.AddRow.{unless}
+use Rattle.calls.specs.Rules.{withRecord}
+use Rattle.calls.specs.Calls.{goHome, goThrough}
+use Rattle.kept.proofs.Allowed.{InHand, GoAllowed}
 
 -- ---- the records with one replaced
 prime-set : (xs : List Process) (i : ℕ) (x : Process) → x .prime ≡ getD xs i noProcess .prime → (j : ℕ) → getD (set xs i x) j noProcess .prime ≡ getD xs j noProcess .prime
@@ -107,21 +107,19 @@ module _ (st : State) (s : Sound st) (p : ℕ) (l : isListed (st .processes) p �
       let y : Process = record { prime = x .prime; active = x .prime; through = 0 } in
       record-kept st s p l y refl (prime-node st s p l) (or-l (eqb (x .prime) (x .prime)) _ (eqb-self (x .prime)))
 
-  through-kept : (e : ℕ) → eqb (rowOf (st .rows) e .place) (inClist p) ≡ true → isSubdirectory (rowOf (st .rows) e .kind) ≡ true → Sound (goThrough st p e)
+  through-kept : (e : ℕ) → InHand st p e → isSubdirectory (rowOf (st .rows) e .kind) ≡ true → Sound (goThrough st p e)
   unfolding goThrough processPlaced
   through-kept e h k =
       let r = rowOf (st .rows) e in
-      let there = clist-there (st .rows) p e h in
+      let there = h .there in
       let x : Process = record { prime = processAt (st .processes) p .prime; active = r .object; through = e } in
       record-kept st s p l x refl (subdirectory-node (st .processes) r (row-object st s e there) k)
       (or-r (eqb e 0 && eqb (x .active) (x .prime)) _
-      (and-i (some e) _ (pos-some e (row-below st s e there .0)) (and-i (isSubdirectory (r .kind)) _ k (and-i (eqb (r .place) (inClist p)) _ h (eqb-self (r .object))))))
+      (and-i (some e) _ (pos-some e (row-below st s e there .0)) (and-i (isSubdirectory (r .kind)) _ k (and-i (eqb (r .place) (inClist p)) _ (h .place) (eqb-self (r .object))))))
 
-either-kept : (b : Bool) (o o′ : Out) → Sound (o .after) → Sound (o′ .after) → Sound (cond b o o′ .after)
-either-kept true o o′ p q = p
-either-kept false o o′ p q = q
-
-pub go-kept : (st : State) → Sound st → (p e : ℕ) → isListed (st .processes) p ≡ true → Sound (doGo st p e .after)
-unfolding doGo done notHeld
-go-kept st s p e l =
-    either-kept (eqb e 0) _ _ (home-kept st s p l) (unless _ _ 7 s λ e7. unless _ _ 8 s λ e8. through-kept st s p l e (not-f _ e7) (not-f _ e8))
+pub go-kept : (st : State) → Sound st → (p e : ℕ) → GoAllowed st p e → Sound (if eqb e 0 then goHome st p else goThrough st p e)
+go-kept st s p e a = pick (eqb e 0) refl
+  where
+    pick : (b : Bool) → eqb e 0 ≡ b → Sound (if b then goHome st p else goThrough st p e)
+    pick true z = home-kept st s p (a .caller)
+    pick false z = through-kept st s p (a .caller) e (a .row z) (a .subdirectory z)

@@ -11,17 +11,17 @@ use Rattle.rows.specs.declared.Row.{Row}
 use Rattle.rows.specs.declared.Process.{Process}
 use Rattle.rows.specs.Lists.{member, some}
 use Rattle.rows.specs.Codes.{isSubdirectory, isEnd, isCopied, inNode, inClist, isNode, isClist, isSystem, within}
-use Rattle.rows.specs.Tables.{State, rowOf, processAt, isListed, numbers, depthOver, isLent}
+use Rattle.rows.specs.Tables.{State, rowOf, processAt, isListed, numbers, depthOver}
 use Rattle.rows.specs.Sound.{rightInRange, placeInRange, isOpening, isRegistered, isHeld, sourceRight, copyMatches, processPlaced}
-use Rattle.rows.proofs.Bools.{and-l, and-r, and-i, or-cases, or-l, or-r, not-f, eqb-self}
+use Rattle.rows.proofs.Bools.{and-l, and-r, and-i, or-cases, or-l, or-r, eqb-self}
 use Rattle.tables.proofs.Sound.{Sound}
-use Rattle.rows.proofs.RowSources.{node-there}
 use Rattle.rows.proofs.Places.{copied-no-end, node-not-system, node-in-range, clist-not-node}
-use Rattle.tables.proofs.SoundFacts.{clist-is, clist-not-system, clist-in-range, active-node, placed-at, row-object, row-right, in-node-copied, not-lent-held, unlent-unborne, clist-there}
+use Rattle.tables.proofs.SoundFacts.{clist-is, clist-not-system, clist-in-range, active-node, placed-at, row-object, row-right, in-node-copied, not-lent-held, unlent-unborne}
 use Rattle.tables.proofs.Standing.{standing-shape, standing-copy}
-use Rattle.calls.specs.Rules.{notHeld, tooDeep, rowsFull, numbersSpent, withNewRows, copyOf}
-use Rattle.calls.specs.Calls.{made, withHeld, doHold, withRegistered, doRegister}
-use Rattle.kept.proofs.AddRow.{unless, add-row}
+use Rattle.calls.specs.Rules.{tooDeep, rowsFull, numbersSpent, withNewRows, copyOf}
+use Rattle.calls.specs.Calls.{withHeld, withRegistered}
+use Rattle.kept.proofs.AddRow.{add-row}
+use Rattle.kept.proofs.Allowed.{HoldAllowed, RegisterAllowed}
 use Rattle.kept.proofs.Stand.{copy-object, depth-is}
 
 -- ---- the copy
@@ -65,59 +65,50 @@ module _ (st : State) (s : Sound st) (p : ℕ) (l : isListed (st .processes) p �
       (and-l (isSubdirectory (rowOf (st .rows) (x .through) .kind)) _ (and-r (some (x .through)) _ u)))
       (or-cases (eqb (x .through) 0 && eqb (x .active) (x .prime)) _ t)
 
-  held-row : (e : ℕ) → isNode (rowOf (st .rows) e .place) ≡ true → tooDeep (depthOver (st .rows) e (processAt (st .processes) p .through)) ≡ false → rowsFull st 1 ≡ false → numbersSpent st 1 ≡ false
-      → Sound (withHeld st p e (processAt (st .processes) p .through) (depthOver (st .rows) e (processAt (st .processes) p .through)))
-  unfolding withHeld copyOf sourceRight isHeld copyMatches
-  held-row e n d f m =
-      let there = node-there (st .rows) e n in
-      let r = rowOf (st .rows) e in
-      let via = processAt (st .processes) p .through in
-      let c = in-node-copied (st .requests) (st .rows) r (standing-shape st s e there) n in
-      let new = copied st e (inClist p) e via (depthOver (st .rows) e via) in
-      copy-added st s e (inClist p) e via (depthOver (st .rows) e via) there c
-      (clist-in-range st s p l new refl)
-      (clist-not-system st s p l)
-      (or-r (isOpening new) _ (or-r (isRegistered (st .rows) new) _ (or-l (isHeld (st .rows) new) _
-      (and-i (isClist (inClist p)) _ (clist-is st s p l) (and-i (isCopied (r .kind)) _ c (and-i (isNode (r .place)) _ n (and-i _ true (through-right (processAt (st .processes) p) (placed-at st s p l)) refl)))))))
-      refl d
-      (or-r (eqb e 0) _ (or-r (isEnd (r .kind)) _ (and-i _ _ (eqb-self (r .kind)) (and-i _ _ (eqb-self (r .object)) (and-i _ _ (eqb-self (r .operation)) (within-self (r .rights)))))))
-      f m
-
-pub hold-kept : (st : State) → Sound st → (p e : ℕ) → isListed (st .processes) p ≡ true → Sound (doHold st p e .after)
-unfolding doHold made inNode
-hold-kept st s p e l =
-    unless _ _ 7 s λ e7. unless _ _ 9 s λ e9. unless _ _ 12 s λ e12. unless _ _ 15 s λ e15. unless _ _ 16 s λ e16. unless _ _ 18 s λ e18.
-    held-row st s p l e
-    (ap isNode (eqb-true (rowOf (st .rows) e .place) (processAt (st .processes) p .active) (not-f _ e7)) ∙ active-node st s p l)
-    e15 e16 e18
+pub hold-kept : (st : State) → Sound st → (p e : ℕ) → HoldAllowed st p e → Sound (withHeld st p e)
+unfolding withHeld copyOf sourceRight isHeld copyMatches
+hold-kept st s p e a =
+    let l = a .caller in
+    let r = rowOf (st .rows) e in
+    let via = processAt (st .processes) p .through in
+    let c = in-node-copied (st .requests) (st .rows) r (standing-shape st s e (a .there)) (a .node) in
+    let new = copied st e (inClist p) e via (depthOver (st .rows) e via) in
+    copy-added st s e (inClist p) e via (depthOver (st .rows) e via) (a .there) c
+    (clist-in-range st s p l new refl)
+    (clist-not-system st s p l)
+    (or-r (isOpening new) _ (or-r (isRegistered (st .rows) new) _ (or-l (isHeld (st .rows) new) _
+    (and-i (isClist (inClist p)) _ (clist-is st s p l) (and-i (isCopied (r .kind)) _ c
+    (and-i (isNode (r .place)) _ (a .node) (and-i _ true (through-right st s p l (processAt (st .processes) p) (placed-at st s p l)) refl)))))))
+    refl (a .depth)
+    (or-r (eqb e 0) _ (or-r (isEnd (r .kind)) _ (and-i _ _ (eqb-self (r .kind)) (and-i _ _ (eqb-self (r .object)) (and-i _ _ (eqb-self (r .operation)) (within-self (r .rights)))))))
+    (a .rows-free) (a .numbers-free)
 
 -- ---- register
-module _ (st : State) (s : Sound st) (p : ℕ) (l : isListed (st .processes) p ≡ true) where
-  registered-row : (e : ℕ) → eqb (rowOf (st .rows) e .place) (inClist p) ≡ true → isEnd (rowOf (st .rows) e .kind) ≡ false → isLent st e ≡ false
-      → tooDeep (depthOver (st .rows) (rowOf (st .rows) e .source) 0) ≡ false → rowsFull st 1 ≡ false → numbersSpent st 1 ≡ false
-      → Sound (withRegistered st p e (depthOver (st .rows) (rowOf (st .rows) e .source) 0))
-  unfolding withRegistered copyOf sourceRight isHeld isRegistered copyMatches inNode
-  registered-row e h k u d f m =
-      let there = clist-there (st .rows) p e h in
-      let r = rowOf (st .rows) e in
-      let node = processAt (st .processes) p .active in
-      let outside : isNode (r .place) ≡ false = ap isNode (eqb-true (r .place) (inClist p) h) ∙ clist-not-node p in
-      let held : isHeld (st .rows) r ≡ true = not-lent-held (st .requests) (st .rows) r (standing-shape st s e there) outside k (unlent-unborne st e there u) in
-      let c : isCopied (r .kind) ≡ true = and-l (isCopied (r .kind)) _ (and-r (isClist (r .place)) _ held) in
-      let above : isNode (rowOf (st .rows) (r .source) .place) ≡ true = and-l (isNode (rowOf (st .rows) (r .source) .place)) _ (and-r (isCopied (r .kind)) _ (and-r (isClist (r .place)) _ held)) in
-      let d′ = depthOver (st .rows) (r .source) 0 in
-      let new = copied st e node (r .source) 0 d′ in
-      copy-added st s e node (r .source) 0 d′ there c
-      (node-in-range (st .processes) new (active-node st s p l))
-      (node-not-system node (active-node st s p l))
-      (or-r (isOpening new) _ (or-l (isRegistered (st .rows) new) _
-      (and-i (isNode node) _ (active-node st s p l) (and-i (isCopied (r .kind)) _ c (and-i (isNode (rowOf (st .rows) (r .source) .place)) true above refl)))))
-      refl d
-      (standing-copy st s e there)
-      f m
+-- a row in a c-list, no end and not lent, was taken from a directory row
+pub was-held : (st : State) → Sound st → (p e : ℕ) → RegisterAllowed st p e → isHeld (st .rows) (rowOf (st .rows) e) ≡ true
+was-held st s p e a =
+    let there = a .row .there in
+    let r = rowOf (st .rows) e in
+    let outside : isNode (r .place) ≡ false = ap isNode (eqb-true (r .place) (inClist p) (a .row .place)) ∙ clist-not-node p in
+    not-lent-held (st .requests) (st .rows) r (standing-shape st s e there) outside (a .no-end) (unlent-unborne st e there (a .unlent))
 
-pub register-kept : (st : State) → Sound st → (p e : ℕ) → isListed (st .processes) p ≡ true → Sound (doRegister st p e .after)
-unfolding doRegister made notHeld
-register-kept st s p e l =
-    unless _ _ 7 s λ e7. unless _ _ 8 s λ e8. unless _ _ 9 s λ e9. unless _ _ 12 s λ e12. unless _ _ 15 s λ e15. unless _ _ 16 s λ e16. unless _ _ 18 s λ e18.
-    registered-row st s p l e (not-f _ e7) e8 e12 e15 e16 e18
+pub register-kept : (st : State) → Sound st → (p e : ℕ) → RegisterAllowed st p e → Sound (withRegistered st p e)
+unfolding withRegistered copyOf sourceRight isHeld isRegistered copyMatches inNode
+register-kept st s p e a =
+    let there = a .row .there in
+    let r = rowOf (st .rows) e in
+    let node = processAt (st .processes) p .active in
+    let held : isHeld (st .rows) r ≡ true = was-held st s p e a in
+    let c : isCopied (r .kind) ≡ true = and-l (isCopied (r .kind)) _ (and-r (isClist (r .place)) _ held) in
+    let above : isNode (rowOf (st .rows) (r .source) .place) ≡ true = and-l (isNode (rowOf (st .rows) (r .source) .place)) _ (and-r (isCopied (r .kind)) _ (and-r (isClist (r .place)) _ held)) in
+    let d′ = depthOver (st .rows) (r .source) 0 in
+    let new = copied st e node (r .source) 0 d′ in
+    let active = active-node st s p (a .caller) in
+    copy-added st s e node (r .source) 0 d′ there c
+    (node-in-range (st .processes) new active)
+    (node-not-system node active)
+    (or-r (isOpening new) _ (or-l (isRegistered (st .rows) new) _
+    (and-i (isNode node) _ active (and-i (isCopied (r .kind)) _ c (and-i (isNode (rowOf (st .rows) (r .source) .place)) true above refl)))))
+    refl (a .depth)
+    (standing-copy st s e there)
+    (a .rows-free) (a .numbers-free)

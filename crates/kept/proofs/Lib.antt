@@ -9,13 +9,17 @@ pub mod ClosingPlaces
 pub mod ClosingRows
 -- closing keeps the tables sound: of seeds, of a request, of a port, of a dropped row
 pub mod Closing
--- refusals leave the tables, new rows before the old ones keep them sound
+-- one law for every property of every call: a refusal has it, and the effect where no test holds
+pub mod Judged
+-- what the failed tests of each call leave
+pub mod Allowed
+-- new rows before the old ones keep the tables sound
 pub mod AddRow
 -- held rows, copies and depths, as the rules of the calls name them
 pub mod Stand
 -- hold and register, which copy a row
 pub mod Hold
--- port, which adds two ends, and comes
+-- port, which adds two ends
 pub mod Port
 -- go, which changes the caller's record
 pub mod Go
@@ -35,7 +39,7 @@ pub mod AskList
 pub mod AskStack
 -- a lent copy fits on top of the rows
 pub mod AskCopy
--- an ask that is not refused, and what it does to old rows and requests
+-- the tables after an ask: what it does to old rows and requests
 pub mod AskFacts
 -- ask: the clauses of rows and processes
 pub mod AskRows

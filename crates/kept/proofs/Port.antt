@@ -1,4 +1,4 @@
--- port keeps the tables sound: it adds the two ends; comes changes nothing.
+-- port keeps the tables sound: it adds the two ends.
 use Prim.Native.Nat.{ℕ, suc, pred, _+_, _≤_}
 use mathlib.Core.Bool.{true, false, not}
 use mathlib.Core.List.{List, [], _∷_}
@@ -14,13 +14,14 @@ use Rattle.rows.specs.Limits.{greatestNumber, rowSlots}
 use Rattle.rows.specs.Codes.{operation, subdirectory, clientEnd, serverEnd, isOperation, isSubdirectory, isClient, isServer, isEnd, inClist, isNode}
 use Rattle.rows.specs.Tables.{State, rowOf, isListed, depthOver}
 use Rattle.rows.specs.Sound.{objectInRange, rightInRange, isOpening, isRegistered, isHeld, isPortEnd, sourceRight, copyMatches, isPairedWith, otherEnd, endPaired}
-use Rattle.rows.proofs.Bools.{and-i, or-l, or-r, not-f, eqb-self}
+use Rattle.rows.proofs.Bools.{and-i, or-l, or-r, eqb-self}
 use Rattle.tables.proofs.Sound.{Sound}
-use Rattle.tables.proofs.SoundFacts.{row-below, next-some, clist-not-system, clist-in-range, row-object, manager-listed, clist-there}
+use Rattle.tables.proofs.SoundFacts.{row-below, next-some, clist-not-system, clist-in-range, row-object, manager-listed}
 use Rattle.rows.proofs.Places.{clist-not-node}
-use Rattle.calls.specs.Rules.{notHeld, tooDeep, rowsFull, numbersSpent}
-use Rattle.calls.specs.Calls.{made, portEnd, withPort, doPort, doComes}
-use Rattle.kept.proofs.AddRow.{unless, row-before, New, Added, added-none, added-one, added-sound, rows-room, numbers-room}
+use Rattle.calls.specs.Rules.{tooDeep}
+use Rattle.calls.specs.Calls.{portEnd, withPort}
+use Rattle.kept.proofs.AddRow.{row-before, New, Added, added-none, added-one, added-sound, rows-room, numbers-room}
+use Rattle.kept.proofs.Allowed.{PortAllowed}
 use Rattle.kept.proofs.Stand.{depth-is}
 
 -- an end from operation row e is a new row
@@ -61,38 +62,27 @@ ends-pair n p m e d rs =
     rw (z, eqb-self (suc n), ne-eqb (suc n) n (λ q. omega arith), eqb-self n, eqb-self e, eqb-self n) refl
 
 -- ---- port
-module _ (st : State) (s : Sound st) (p : ℕ) (l : isListed (st .processes) p ≡ true) where
-  port-rows : (e : ℕ) → eqb (rowOf (st .rows) e .place) (inClist p) ≡ true → isOperation (rowOf (st .rows) e .kind) ≡ true → tooDeep (depthOver (st .rows) e 0) ≡ false → rowsFull st 2 ≡ false → numbersSpent st 2 ≡ false
-      → Sound (withPort st p e (depthOver (st .rows) e 0))
-  unfolding withPort depthOver isEnd isClient isServer clientEnd serverEnd
-  port-rows e h k t f m =
-      let rs = st .rows in
-      let n = st .next in
-      let there = clist-there rs p e h in
-      let d = depthOver rs e 0 in
-      let manager = rowOf rs e .object in
-      let client = portEnd clientEnd n n (inClist p) e d in
-      let server = portEnd serverEnd (suc n) n (inClist manager) e d in
-      let room : length rs + 2 ≤ rowSlots = rows-room st 2 f in
-      let left : n + 2 ≤ suc greatestNumber = numbers-room st 2 m in
-      let one : Added st (client ∷ []) (suc n) =
-      added-one st [] n client (omega arith) (omega arith) (end-new st s rs e d clientEnd n n p refl (client-object (st .processes) n (inClist p) e d) l k refl t) (added-none st s) in
-      let (lo, hi) = row-below st s e there in
-      let at-e : rowOf (client ∷ rs) e ≡ rowOf rs e = row-before n rs (client ∷ []) (one .new-numbers) e hi in
-      let at-0 : rowOf (client ∷ rs) 0 ≡ rowOf rs 0 = row-before n rs (client ∷ []) (one .new-numbers) 0 (next-some st s) in
-      let two : Added st (server ∷ client ∷ []) (suc (suc n)) =
-      added-one st (client ∷ []) (suc n) server (omega arith) (omega arith)
-      (end-new st s (client ∷ rs) e d serverEnd (suc n) n manager refl (server-object (st .processes) n (inClist manager) e d)
-      (manager-listed (st .processes) (rowOf rs e) (row-object st s e there) k) (rw at-e k) (rw (at-e, at-0) refl) t)
-      one in
-      added-sound st s (server ∷ client ∷ []) (suc (suc n)) two (ends-pair n (inClist p) (inClist manager) e d rs)
-
-pub port-kept : (st : State) → Sound st → (p e : ℕ) → isListed (st .processes) p ≡ true → Sound (doPort st p e .after)
-unfolding doPort made notHeld
-port-kept st s p e l =
-    unless _ _ 7 s λ e7. unless _ _ 8 s λ e8. unless _ _ 15 s λ e15. unless _ _ 16 s λ e16. unless _ _ 18 s λ e18. port-rows st s p l e (not-f _ e7) (not-f _ e8) e15 e16 e18
-
--- ---- comes
-pub comes-kept : (st : State) → Sound st → (e q : ℕ) → Sound (doComes st e q .after)
-unfolding doComes
-comes-kept st s e q = unless _ _ 7 s λ e7. s
+pub port-kept : (st : State) → Sound st → (p e : ℕ) → PortAllowed st p e → Sound (withPort st p e)
+unfolding withPort depthOver isEnd isClient isServer clientEnd serverEnd
+port-kept st s p e a =
+    let rs = st .rows in
+    let n = st .next in
+    let there = a .row .there in
+    let d = depthOver rs e 0 in
+    let manager = rowOf rs e .object in
+    let client = portEnd clientEnd n n (inClist p) e d in
+    let server = portEnd serverEnd (suc n) n (inClist manager) e d in
+    let room : length rs + 2 ≤ rowSlots = rows-room st 2 (a .rows-free) in
+    let left : n + 2 ≤ suc greatestNumber = numbers-room st 2 (a .numbers-free) in
+    let one : Added st (client ∷ []) (suc n) =
+    added-one st [] n client (omega arith) (omega arith)
+    (end-new st s rs e d clientEnd n n p refl (client-object (st .processes) n (inClist p) e d) (a .caller) (a .operation) refl (a .depth)) (added-none st s) in
+    let (lo, hi) = row-below st s e there in
+    let at-e : rowOf (client ∷ rs) e ≡ rowOf rs e = row-before n rs (client ∷ []) (one .new-numbers) e hi in
+    let at-0 : rowOf (client ∷ rs) 0 ≡ rowOf rs 0 = row-before n rs (client ∷ []) (one .new-numbers) 0 (next-some st s) in
+    let two : Added st (server ∷ client ∷ []) (suc (suc n)) =
+    added-one st (client ∷ []) (suc n) server (omega arith) (omega arith)
+    (end-new st s (client ∷ rs) e d serverEnd (suc n) n manager refl (server-object (st .processes) n (inClist manager) e d)
+    (manager-listed (st .processes) (rowOf rs e) (row-object st s e there) (a .operation)) (rw at-e (a .operation)) (rw (at-e, at-0) refl) (a .depth))
+    one in
+    added-sound st s (server ∷ client ∷ []) (suc (suc n)) two (ends-pair n (inClist p) (inClist manager) e d rs)

@@ -13,6 +13,7 @@ use Rattle.rows.proofs.Bools.{and-l, and-r, all-mono}
 use Rattle.calls.specs.declared.Item.{Item}
 use Rattle.calls.specs.declared.Call.{Call}
 use Rattle.calls.specs.declared.Call.the-variants.{Go, Hold, Register, Drop, Port, Close, Ask, Fetch, Reply, Refuse, Revoke, Comes}
+use Rattle.calls.specs.Rules.{isRefusal}
 use Rattle.calls.specs.Loans.{itemsOf}
 use Rattle.text.specs.declared.Reading.{Reading}
 use Rattle.text.specs.declared.Reading.the-variants.{Asks, Crowded, Refused}
@@ -53,10 +54,6 @@ Good (Reply p v) = GoodNumber p v
 Good (Refuse p v) = GoodNumber p v
 Good (Revoke p q) = GoodNumber p q
 Good (Comes e q) = GoodComes e q
-
--- a refusal for the line or the state: 2 to 18
-abbrev pub isRefusal : ℕ → Bool
-isRefusal k = leb 2 k && leb k 18
 
 -- a call that is read is good; a refusal has such a number
 unfoldable Reads : Reading → Type 0

@@ -6,8 +6,7 @@ use Rattle.rows.specs.Lists.{if_then_else_, some}
 use Rattle.rows.specs.Tables.{State, isListed, empty}
 use Rattle.rows.specs.Layout.{wordsOf, recordsOf, stateOf, rightLengths, soundWords, clearedTables, clearedProcesses}
 use Rattle.calls.specs.declared.Call.{Call}
-use Rattle.calls.specs.declared.Answer.the-variants.{Refused}
-use Rattle.calls.specs.Rules.{Out, refusedIf}
+use Rattle.calls.specs.Rules.{Out, _when_, refused, judge}
 use Rattle.calls.specs.Calls.{callerOf, perform}
 use Rattle.text.specs.declared.Reading.{Reading}
 use Rattle.text.specs.declared.Reading.the-variants.{Asks, Crowded, Refused as BadLine}
@@ -20,14 +19,11 @@ use Rattle.text.specs.Answers.{okText, noText, printed}
 unfoldable pub callerUnlisted : State → Call → Bool
 callerUnlisted st c = let p = callerOf c in some p && not (isListed (st .processes) p)
 
-unfoldable pub refused : State → ℕ → Out
-refused st k = record { answer = Refused k; after = st }
-
 -- 5 comes before 6, and both before the refusals of the state
 unfoldable pub answered : State → Reading → Out
 answered st (BadLine k) = refused st k
-answered st (Crowded p) = refusedIf st (not (isListed (st .processes) p)) 5 (refused st 6)
-answered st (Asks c) = refusedIf st (callerUnlisted st c) 5 (perform st c)
+answered st (Crowded p) = judge st (5 when not (isListed (st .processes) p) ∷ []) (refused st 6)
+answered st (Asks c) = judge st (5 when callerUnlisted st c ∷ []) (perform st c)
 
 unfoldable pub callOn : State → List ℕ → Out
 callOn st line = answered st (readingOf line)
