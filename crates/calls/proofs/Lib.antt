@@ -1,3 +1,9 @@
 -- Laws of the calls' code. One line a file:
 -- what the look-ups find: slots, source words, depths
 pub mod LookedUp
+-- a row more: its sources from their words, a copy, the ends of a port
+pub mod NewRows
+-- the state after go, hold, register and port
+pub mod Added
+-- rows that go to a place: one item, and one after the other; the open request in its slot
+pub mod Handed
