@@ -1,6 +1,6 @@
 -- The state after go, hold, register and port: what the changes in place make of it, as the definitions write it.
 use Prim.Native.Nat.{ℕ, zero, suc, _+_, _-_, _<_, _≤_}
-use mathlib.Core.Bool.{true, _&&_}
+use mathlib.Core.Bool.{Bool, true, _&&_}
 use mathlib.Core.List.{List, _∷_}
 use mathlib.Core.Path.{_≡_, refl, ap, sym, subst, _∙_}
 use mathlib.Core.Logic.{inl, inr, ⊎-elim}
@@ -12,11 +12,13 @@ use lib.ListN.{getD, set}
 use Rattle.rows.specs.declared.Row.{Row}
 use Rattle.rows.specs.declared.Process.{Process}
 use Rattle.rows.specs.Lists.{some, member}
-use Rattle.rows.specs.Codes.{clientEnd, serverEnd, inClist, inNode, isSubdirectory}
+use Rattle.rows.specs.Codes.{clientEnd, serverEnd, inClist, inNode, isNode, isSubdirectory}
 use Rattle.rows.specs.Tables.{State, noProcess, rowOf, processAt, numbers, isListed}
 use Rattle.rows.specs.Setters.{withRows, withNext, withProcesses, inPrimeNode, wentThrough}
 use Rattle.rows.specs.Sound.{processPlaced}
 use Rattle.rows.proofs.Bools.{and-l, and-r, or-cases}
+use Rattle.rows.specs.Limits.{nodes}
+use Rattle.rows.proofs.Places.{between-range}
 use Rattle.rows.proofs.RowSources.{Among, subdirectory-there, shape-sources}
 use Rattle.tables.proofs.Sound.{Sound}
 use Rattle.tables.proofs.SoundFacts.{placed-at}
@@ -48,7 +50,7 @@ process-at ps zero h = absurd (omega arith)
 process-at ps (suc i) h = ap (λ (k : ℕ). getD ps k noProcess) (omega arith)
 
 module _ (st : State) (ps : List Process) (same : st .processes ≡ ps) (p : ℕ) (h : 0 < p) where
-  at-process : getD ps (p - 1) noProcess ≡ processAt (st .processes) p
+  pub at-process : getD ps (p - 1) noProcess ≡ processAt (st .processes) p
   at-process = process-at ps p h ∙ ap (λ (l : List Process). processAt l p) (sym same)
 
   pub home-record : set ps (p - 1) (inPrimeNode (getD ps (p - 1) noProcess)) ≡ goHome st p .processes
@@ -58,6 +60,17 @@ module _ (st : State) (ps : List Process) (same : st .processes ≡ ps) (p : ℕ
   pub through-record : (e n : ℕ) → n ≡ rowOf (st .rows) e .object → set ps (p - 1) (wentThrough e n (getD ps (p - 1) noProcess)) ≡ goThrough st p e .processes
   unfolding goThrough withRecord
   through-record e n k = λ j. set (sym same j) (p - 1) (wentThrough e (k j) (at-process j))
+
+-- ---- the active node of a process
+pub node-some : (n : ℕ) → isNode n ≡ true → n ≡ 0 → ⊥
+unfolding isNode
+node-some n t z = let (lo, hi) = between-range 1 nodes n t in omega arith
+
+-- a test of the node in its record is the definition's
+pub in-active : (st : State) (p s n : ℕ) → n ≡ processAt (st .processes) p .active → (b : Bool) → eqb (rowOf (st .rows) s .place) n ≡ b
+    → eqb (rowOf (st .rows) s .place) (inNode (processAt (st .processes) p .active)) ≡ b
+unfolding inNode
+in-active st p s n same b h = ap (eqb (rowOf (st .rows) s .place)) (sym same) ∙ h
 
 -- ---- hold and register
 module _ (st : State) (p e k rights place d : ℕ) (number : k ≡ st .next) (right : rights ≡ rowOf (st .rows) e .rights) where

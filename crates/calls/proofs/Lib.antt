@@ -7,3 +7,9 @@ pub mod NewRows
 pub mod Added
 -- rows that go to a place: one item, and one after the other; the open request in its slot
 pub mod Handed
+-- a call that is refused and one that is not: answer, words, records
+pub mod Judging
+-- the tests of hold, register and port after the look-up
+pub mod Refusing
+-- what the effect of each call leaves, as its function answers it
+pub mod Effected

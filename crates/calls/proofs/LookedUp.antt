@@ -1,6 +1,6 @@
 -- What the look-ups find: the slot of a row that is in a place, source words, depths.
 use Prim.Native.Nat.{ℕ, zero, suc, _+_, _-_, _≤_, max}
-use mathlib.Core.Bool.{Bool, true, false, cond}
+use mathlib.Core.Bool.{Bool, true, false, cond, _&&_}
 use mathlib.Core.List.{List, []}
 use mathlib.Core.Path.{_≡_, refl, ap, sym, _∙_}
 use mathlib.Core.Logic.{⊎-elim}
@@ -10,15 +10,18 @@ use lib.Dec.{eqb}
 use lib.ListN.{getD}
 use Rattle.rows.specs.declared.Found.{Found}
 use Rattle.rows.specs.declared.Found.the-variants.{At, Nothing}
-use Rattle.rows.specs.Lists.{member}
-use Rattle.rows.specs.Tables.{State, noRow, rowOf, numbers, depthOver}
+use Rattle.rows.specs.Lists.{member, some}
+use Rattle.rows.specs.Codes.{subdirectory, isSubdirectory}
+use Rattle.rows.specs.Tables.{State, noRow, rowOf, numbers, depthOver, reaches, lentItself, isLent}
 use Rattle.rows.specs.Sound.{sound}
 use Rattle.rows.specs.Layout.{rowSlot}
 use Rattle.rows.specs.contracts.Represents.{Represents}
 use Rattle.rows.specs.contracts.Slots.{foundSlot}
-use Rattle.rows.proofs.Slots.{found-at, found-nothing, row-words, row-absent, row-found, represented-well, source-of}
+use Rattle.rows.proofs.Slots.{found-at, found-nothing, row-words, row-absent, row-none, row-found, represented-well, source-of, slot-zero}
+use Rattle.rows.proofs.Bools.{and-rf, pos-some}
 use Rattle.tables.proofs.Sound.{sound-open}
-use Rattle.questions.proofs.Questions.{depth-falls}
+use Rattle.tables.proofs.SoundFacts.{row-below}
+use Rattle.questions.proofs.Questions.{reaches-none, depth-falls}
 use Rattle.calls.specs.contracts.Lookups.{slotIn}
 
 -- ---- a row in a place
@@ -89,3 +92,29 @@ module _ {t : List ℕ} {st : State} (rep : Represents t st) (e i : ℕ) (s : ro
   source-read =
       let (same, low) = source-of st (represented-well rep) e i s in
       let word = row-words rep e i s .source in (word ∙ same, omega arith)
+
+-- ---- lent rows
+-- no row is not lent; one that stands has a number
+pub lent-none : (st : State) (x : ℕ) → sound st ≡ true → rowSlot (st .rows) x ≡ 0 → false ≡ some x && isLent st x
+unfolding isLent
+lent-none st x sd s = sym (and-rf (some x) (reaches (lentItself (st .requests)) (st .rows) x) (reaches-none st (sound-open st sd) (lentItself (st .requests)) x (row-none (st .rows) x s)))
+
+pub lent-row : (st : State) (x : ℕ) → sound st ≡ true → (i : ℕ) → rowSlot (st .rows) x ≡ suc i → isLent st x ≡ some x && isLent st x
+lent-row st x sd i s =
+    let (lo, hi) = row-below st (sound-open st sd) x (row-found (st .rows) x i s .0) in
+    rw (pos-some x lo) refl
+
+-- a test of what is no subdirectory; of a subdirectory
+module _ (st : State) (s : ℕ) (b : Bool) where
+  pub no-directory : (rowOf (st .rows) s .kind ≡ 2 → ⊥) → false ≡ isSubdirectory (rowOf (st .rows) s .kind) && b
+  unfolding isSubdirectory subdirectory
+  no-directory h = rw (ne-eqb (rowOf (st .rows) s .kind) 2 h) refl
+
+  pub directory : rowOf (st .rows) s .kind ≡ 2 → b ≡ isSubdirectory (rowOf (st .rows) s .kind) && b
+  unfolding isSubdirectory subdirectory
+  directory h = rw (eq-eqb (rowOf (st .rows) s .kind) 2 h) refl
+
+-- no row has number 0
+pub zero-word : {t : List ℕ} {st : State} → Represents t st → rowSlot (st .rows) 0 ≡ 0
+unfolding rowSlot
+zero-word {t} {st} rep = slot-zero (λ r. r .number) (st .rows) (represented-well rep .rows-rise)

@@ -2,3 +2,4 @@
 pub mod Lookups
 pub mod Effects
 pub mod Loans
+pub mod Performs

@@ -1,4 +1,5 @@
 // A call and its answer, as code and definitions share them.
+use rows::records::Records;
 
 // An item of an ask: a row and the rights lent. Row 0: no item.
 pub struct Item {
@@ -40,6 +41,12 @@ pub enum Answer {
     Refused(u32),
 }
 
+// What a call leaves: its answer, and the process records.
+pub struct Performed {
+    pub answer: Answer,
+    pub records: Records,
+}
+
 // What a new copy has of its own; kind, object and operation are its row's. Sources as words: a slot plus 1, 0 for none.
 pub struct NewCopy {
     pub number: u32,
@@ -66,3 +73,4 @@ pub mod fetch;
 pub mod lookups;
 pub mod new_rows;
 pub mod ports;
+pub mod tests;

@@ -1,6 +1,7 @@
 // Look-ups that the calls share. Rows and requests are counted once a call: n rows, m requests.
 use rows::Found;
 use rows::codes::GREATEST_DEPTH;
+use rows::codes::clist;
 use rows::find;
 use rows::layout::DEPTH;
 use rows::layout::PLACE;
@@ -13,8 +14,8 @@ ghost use Prim.Native.Nat.{_≤_, _<_};
 ghost use lib.ListN.{length};
 ghost use Rattle.rows.specs.contracts.Slots.{Within};
 ghost use Rattle.rows.specs.contracts.Sizes.{ROWS, REQUESTS, IsTables};
-ghost use Rattle.calls.specs.contracts.Lookups.{FindsIn, FindsRequest, FindsOpen, IsWord, IsSourceWord, IsDepth};
-ghost use Rattle.calls.specs.contracts.Lookups.{IsDepthOver};
+ghost use Rattle.calls.specs.contracts.Lookups.{FindsIn, FindsHeld, FindsRequest, FindsOpen, IsWord, IsSourceWord};
+ghost use Rattle.calls.specs.contracts.Lookups.{IsDepth, IsDepthOver};
 
 // The slot of the row e, where it is in the place: a c-list, or a node.
 // Ruled out: the slot of a row that is in another place; nothing for a row that is there.
@@ -30,6 +31,17 @@ pub fn row_in(t: &[u32], n: usize, place: u32, e: u32) -> Found
         return Found::At(i);
     }
     Found::Nothing
+}
+
+// The slot of the row e, where it is in the c-list of p.
+// Ruled out: the slot of a row that another process holds; nothing for a row that p holds.
+pub fn held_by(t: &[u32], n: usize, p: u32, e: u32) -> Found
+    requires { ⌜ IsTables (now t) × (n ≤ ROWS) ⌝ }
+    ensures within { λ r. ⌜ Within n r ⌝ }
+    ensures found { λ r. ⌜ FindsHeld (now (t .entry)) n p e r ⌝ }
+{
+    let place = clist(p);
+    row_in(t, n, place, e)
 }
 
 // The slot of the request q.

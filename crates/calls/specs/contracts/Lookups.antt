@@ -1,5 +1,5 @@
 -- What the look-ups that the calls share answer, over words that represent a state with so many rows or requests.
-use Prim.Native.Nat.{ℕ, suc}
+use Prim.Native.Nat.{ℕ, suc, _≤_}
 use mathlib.Core.Bool.{true}
 use mathlib.Core.List.{List}
 use mathlib.Core.Path.{_≡_}
@@ -11,7 +11,9 @@ use Rattle.rows.specs.Lists.{if_then_else_}
 use Rattle.rows.specs.Tables.{State, rowOf, depthOver}
 use Rattle.rows.specs.Sound.{sound}
 use Rattle.rows.specs.Layout.{rowSlot}
+use Rattle.rows.specs.Codes.{inClist}
 use Rattle.rows.specs.contracts.Represents.{Represents}
+use Rattle.rows.specs.contracts.Sizes.{PROCESSES}
 use Rattle.rows.specs.contracts.Slots.{foundSlot, requestSlot, openSlot}
 
 -- the words represent the state, and n is how many rows it has; m how many requests
@@ -32,6 +34,10 @@ slotIn st place e = if eqb (rowOf (st .rows) e .place) place then foundSlot (row
 -- r is the slot of row e, where it is in the place
 abbrev pub FindsIn : List ℕ → ℕ → ℕ → ℕ → Found → Type 0
 FindsIn t n place e r = (st : State) → HasRows t n st → r ≡ slotIn st place e
+
+-- r is the slot of row e, where process p holds it
+abbrev pub FindsHeld : List ℕ → ℕ → ℕ → ℕ → Found → Type 0
+FindsHeld t n p e r = (st : State) → HasRows t n st → p ≤ PROCESSES → r ≡ slotIn st (inClist p) e
 
 -- r is the slot of the request q; of the newest request on port c
 abbrev pub FindsRequest : List ℕ → ℕ → ℕ → Found → Type 0
