@@ -1,6 +1,6 @@
 -- The tests of go, hold, register and port once the look-up has found the row; and room for new rows.
-use Prim.Native.Nat.{ℕ, _+_, _<_, _≤_}
-use mathlib.Core.Bool.{Bool, true, false, cond, not, _&&_}
+use Prim.Native.Nat.{ℕ, suc, _+_, _<_, _≤_}
+use mathlib.Core.Bool.{Bool, true, false, cond, not, _&&_, _||_}
 use mathlib.Core.List.{List, [], _∷_}
 use mathlib.Core.Path.{_≡_, refl, ap, sym, _∙_}
 use native.Mathlib.Omega.{arith}
@@ -9,10 +9,18 @@ use lib.Dec.{eqb}
 use lib.ListN.{length}
 use Rattle.rows.specs.Lists.{some}
 use Rattle.rows.specs.Limits.{greatestNumber, rowSlots, greatestDepth}
-use Rattle.rows.specs.Codes.{subdirectory, operation, isSubdirectory, isOperation, isEnd, inClist, inNode, mayHold, mayRegister}
-use Rattle.rows.specs.Tables.{State, rowOf, processAt, isLent}
-use Rattle.calls.specs.Rules.{Test, _when_, lowest, notHeld, tooDeep, rowsFull, numbersSpent}
-use Rattle.calls.specs.Calls.{refusalsGo, refusalsHold, heldDepth, refusalsRegister, registeredDepth, refusalsPort, portDepth}
+use Rattle.rows.specs.Codes.{subdirectory, operation, clientEnd, serverEnd, isSubdirectory, isOperation, isClient, isServer, isEnd, inClist, inNode, mayHold, mayRegister}
+use Rattle.rows.specs.Tables.{State, noRow, noRequest, rowOf, requestOf, openOn, numbers, processAt, onLoan, isLent}
+use Rattle.rows.specs.Sound.{isFetched}
+use Rattle.rows.specs.Layout.{rowSlot}
+use Rattle.rows.specs.contracts.Represents.{Represents}
+use Rattle.rows.specs.contracts.Slots.{requestSlot, openSlot}
+use Rattle.rows.proofs.Bools.{pos-some}
+use Rattle.rows.proofs.Keyed.{rises-range}
+use Rattle.rows.proofs.Slots.{represented-well, row-found, row-absent, request-found, request-absent, open-absent}
+use Rattle.calls.specs.Rules.{Test, _when_, lowest, notHeld, askedOf, tooDeep, rowsFull, numbersSpent}
+use Rattle.calls.specs.Calls.{refusalsGo, refusalsHold, heldDepth, refusalsRegister, registeredDepth, refusalsPort, portDepth, refusalsClose, refusalsFetch, refusalsRefuse, refusalsRevoke, refusalsComes}
+use Rattle.calls.proofs.Handed.{open-number}
 use Rattle.calls.proofs.Judging.{test-holds, test-fails}
 
 -- ---- room for k rows of depth d
@@ -115,3 +123,112 @@ port-operation st p e h = pick (notHeld st p e) (isOperation (rowOf (st .rows) e
     pick true b k h = absurd (omega arith)
     pick false true k h = refl
     pick false false k h = absurd (omega arith)
+
+-- ---- the first test
+pub seven : (b : Bool) (ts : List Test) → b ≡ true → 7 ≡ lowest (7 when b ∷ ts)
+unfolding lowest
+seven b ts h = rw h refl
+
+-- ---- close
+pub close-rest : (st : State) (p c : ℕ) → notHeld st p c ≡ false
+    → lowest (refusalsClose st p c) ≡ cond (not (isClient (rowOf (st .rows) c .kind))) 8 (cond (onLoan (st .requests) c) 12 0)
+unfolding refusalsClose lowest
+close-rest st p c h = rw h refl
+
+-- ---- the request at a server end
+module _ (st : State) (e : ℕ) where
+  abbrev pub portOf : ℕ
+  portOf = rowOf (st .rows) e .object
+
+  pub asked-none : openSlot (st .requests) portOf ≡ 0 → eqb (askedOf st e .number) 0 ≡ true
+  unfolding askedOf noRequest
+  asked-none h = rw (open-absent (st .requests) portOf h) refl
+
+  pub asked-some : {t : List ℕ} → Represents t st → (j : ℕ) → openSlot (st .requests) portOf ≡ suc j → eqb (askedOf st e .number) 0 ≡ false
+  unfolding askedOf
+  asked-some rep j h =
+      let up = represented-well rep .requests-rise in
+      let v = openOn (st .requests) portOf in
+      let there = request-found (st .requests) (v .number) j (open-number (st .requests) up portOf j h) .0 in
+      let (lo, hi) = rises-range (λ v. v .number) (st .requests) up (v .number) there in
+      ne-eqb (v .number) 0 (λ z. omega arith)
+
+  module _ (p : ℕ) (h : notHeld st p e ≡ false) where
+    pub fetch-rest : lowest (refusalsFetch st p e)
+        ≡ cond (not (isServer (rowOf (st .rows) e .kind))) 8 (cond (eqb (askedOf st e .number) 0 || isFetched (askedOf st e)) 11 0)
+    unfolding refusalsFetch lowest
+    fetch-rest = rw h refl
+
+    pub refuse-rest : lowest (refusalsRefuse st p e) ≡ cond (not (isServer (rowOf (st .rows) e .kind))) 8 (cond (eqb (askedOf st e .number) 0) 11 0)
+    unfolding refusalsRefuse lowest
+    refuse-rest = rw h refl
+
+-- ---- the kind in the words of a slot
+pub no-server : (k : ℕ) → (k ≡ 4 → ⊥) → not (isServer k) ≡ true
+unfolding isServer serverEnd
+no-server k h = ap not (ne-eqb k 4 h)
+
+pub is-server : (k : ℕ) → k ≡ 4 → isServer k ≡ true
+unfolding isServer serverEnd
+is-server k h = eq-eqb k 4 h
+
+pub no-client : (k : ℕ) → (k ≡ 3 → ⊥) → not (isClient k) ≡ true
+unfolding isClient clientEnd
+no-client k h = ap not (ne-eqb k 3 h)
+
+pub is-client : (k : ℕ) → k ≡ 3 → isClient k ≡ true
+unfolding isClient clientEnd
+is-client k h = eq-eqb k 3 h
+
+-- ---- revoke and comes
+module _ (st : State) (p q : ℕ) where
+  pub revoke-none : requestSlot (st .requests) q ≡ 0 → 7 ≡ lowest (refusalsRevoke st p q)
+  unfolding refusalsRevoke lowest noRequest
+  revoke-none h = rw (request-absent (st .requests) q h) refl
+
+  pub revoke-other : (requestOf (st .requests) q .asker ≡ p → ⊥) → 7 ≡ lowest (refusalsRevoke st p q)
+  unfolding refusalsRevoke lowest
+  revoke-other h = rw (ne-eqb (requestOf (st .requests) q .asker) p h) (pick (eqb (requestOf (st .requests) q .number) 0))
+    where
+      pick : (b : Bool) → _≡_ {A = ℕ} 7 (cond (b || true) 7 0)
+      pick true = refl
+      pick false = refl
+
+  pub revoke-own : eqb (requestOf (st .requests) q .number) 0 ≡ false → requestOf (st .requests) q .asker ≡ p → 0 ≡ lowest (refusalsRevoke st p q)
+  unfolding refusalsRevoke lowest
+  revoke-own n h = rw (n, eq-eqb (requestOf (st .requests) q .asker) p h) refl
+
+module _ (st : State) (e q : ℕ) where
+  pub comes-no-row : rowSlot (st .rows) e ≡ 0 → 7 ≡ lowest (refusalsComes st e q)
+  unfolding refusalsComes lowest noRow
+  comes-no-row h = rw (row-absent (st .rows) e h) refl
+
+  pub comes-no-request : requestSlot (st .requests) q ≡ 0 → 7 ≡ lowest (refusalsComes st e q)
+  unfolding refusalsComes lowest noRequest
+  comes-no-request h = rw (request-absent (st .requests) q h) (pick (eqb (rowOf (st .rows) e .number) 0))
+    where
+      pick : (b : Bool) → _≡_ {A = ℕ} 7 (cond (b || true) 7 0)
+      pick true = refl
+      pick false = refl
+
+  pub comes-both : eqb (rowOf (st .rows) e .number) 0 ≡ false → eqb (requestOf (st .requests) q .number) 0 ≡ false → 0 ≡ lowest (refusalsComes st e q)
+  unfolding refusalsComes lowest
+  comes-both a b = rw (a, b) refl
+
+-- what stands has a number
+module _ {t : List ℕ} {st : State} (rep : Represents t st) where
+  pub request-some : (q j : ℕ) → requestSlot (st .requests) q ≡ suc j → (eqb (requestOf (st .requests) q .number) 0 ≡ false) × (some q ≡ true)
+  request-some q j h =
+      let (there, same, low) = request-found (st .requests) q j h in
+      let (lo, hi) = rises-range (λ v. v .number) (st .requests) (represented-well rep .requests-rise) q there in
+      (ne-eqb (requestOf (st .requests) q .number) 0 (λ z. omega arith), pos-some q lo)
+
+  pub row-some : (e i : ℕ) → rowSlot (st .rows) e ≡ suc i → (eqb (rowOf (st .rows) e .number) 0 ≡ false) × (some e ≡ true)
+  unfolding numbers
+  row-some e i h =
+      let (there, same, low) = row-found (st .rows) e i h in
+      let (lo, hi) = rises-range (λ r. r .number) (st .rows) (represented-well rep .rows-rise) e there in
+      (ne-eqb (rowOf (st .rows) e .number) 0 (λ z. omega arith), pos-some e lo)
+
+pub both-fail : {a b : Bool} → a ≡ false → b ≡ false → a || b ≡ false
+both-fail p q = rw (p, q) refl

@@ -68,8 +68,10 @@ pub struct NewPort {
 }
 
 // ---- functions
+pub mod comes;
 pub mod directories;
 pub mod fetch;
+pub mod loans;
 pub mod lookups;
 pub mod new_rows;
 pub mod ports;

@@ -4,6 +4,7 @@ use rows::codes::GREATEST_DEPTH;
 use rows::codes::clist;
 use rows::find;
 use rows::layout::DEPTH;
+use rows::layout::OBJECT;
 use rows::layout::PLACE;
 use rows::layout::Q_ASKER;
 use rows::layout::Q_NUMBER;
@@ -15,6 +16,7 @@ ghost use lib.ListN.{length};
 ghost use Rattle.rows.specs.contracts.Slots.{Within};
 ghost use Rattle.rows.specs.contracts.Sizes.{ROWS, REQUESTS, IsTables};
 ghost use Rattle.calls.specs.contracts.Lookups.{FindsIn, FindsHeld, FindsRequest, FindsOpen, IsWord, IsSourceWord};
+ghost use Rattle.calls.specs.contracts.Performs.{FindsAsked};
 ghost use Rattle.calls.specs.contracts.Lookups.{IsDepth, IsDepthOver};
 
 // The slot of the row e, where it is in the place: a c-list, or a node.
@@ -62,6 +64,16 @@ pub fn open_among(t: &[u32], m: usize, c: u32) -> Found
     ensures found { λ r. ⌜ FindsOpen (now (t .entry)) m c r ⌝ }
 {
     find::search_back(&t[Q_PORT..Q_ASKER], m, c)
+}
+
+// The slot of the request that the server sees at its end, which stands in slot i.
+// Ruled out: the request on the port whose number is that of the end; a request that lists the end.
+pub fn asked_at(t: &[u32], m: usize, i: usize) -> Found
+    requires { ⌜ IsTables (now t) × (m ≤ REQUESTS) × (i < ROWS) ⌝ }
+    ensures within { λ r. ⌜ Within m r ⌝ }
+    ensures found { λ r. ⌜ FindsAsked (now (t .entry)) m i r ⌝ }
+{
+    open_among(t, m, t[OBJECT + i])
 }
 
 // The row e as a source word: its slot plus 1, 0 where there is none.

@@ -6,7 +6,10 @@ use crate::lookups;
 use crate::new_rows::append_ends;
 use crate::tests;
 use changes::change;
+use closing::close::close_port;
+use questions::question::on_loan;
 use rows::Found;
+use rows::codes::A_CLIENT_END;
 use rows::codes::AN_OPERATION;
 use rows::codes::clist;
 use rows::find;
@@ -19,7 +22,7 @@ ghost use Prim.Native.Nat.{_≤_, _<_, _+_};
 ghost use lib.ListN.{length};
 ghost use Rattle.rows.specs.contracts.Sizes.{ROWS, IsTables};
 ghost use Rattle.calls.specs.declared.Call.{Call};
-ghost use Rattle.calls.specs.contracts.Performs.{Performs, HasRoom, RefusesPort, MakesPort};
+ghost use Rattle.calls.specs.contracts.Performs.{Performs, HasRoom, RefusesPort, MakesPort, RefusesClose};
 ghost use Rattle.calls.specs.contracts.Effects.{IsProcess, PortMade};
 
 // A port from the operation row in slot i: the client end to p, the server end to the row's manager.
@@ -87,5 +90,47 @@ pub fn port(t: &mut [u32], ps: Records, p: u32, e: u32) -> Performed
     Performed {
         answer: answer,
         records: ps,
+    }
+}
+
+// What refuses to close the port of the row c in slot i, which the caller holds: 8, 12, 0 for nothing.
+fn close_refusal(t: &[u32], i: usize, c: u32) -> u32
+    requires { ⌜ IsTables (now t) × (i < ROWS) ⌝ }
+    ensures { λ r. ⌜ RefusesClose (now (t .entry)) i c r ⌝ }
+{
+    if t[KIND + i] != A_CLIENT_END {
+        return 8;
+    }
+    if on_loan(t, c) {
+        return 12;
+    }
+    0
+}
+
+// close: 7 for a row that the caller does not hold; then the row's own refusals.
+// Ruled out: a server end closes the port; a client end on loan does.
+pub fn close(t: &mut [u32], ps: Records, p: u32, c: u32) -> Performed
+    requires { ⌜ IsTables (now t) × IsProcess p ⌝ }
+    ensures performs { λ r. ⌜ Performs (now (t .entry)) ps (Call.Close p c) (now (t .exit)) r ⌝ }
+    ensures long { λ _. ⌜ IsTables (now (t .exit)) ⌝ }
+{
+    let n = find::rows_in(t);
+    let Found::At(i) = lookups::held_by(t, n, p, c) else {
+        return Performed {
+            answer: Answer::Refused(7),
+            records: ps,
+        };
+    };
+    let k = close_refusal(t, i, c);
+    if k != 0 {
+        return Performed {
+            answer: Answer::Refused(k),
+            records: ps,
+        };
+    }
+    let left = close_port(t, ps, c);
+    Performed {
+        answer: Answer::Done,
+        records: left,
     }
 }

@@ -5,21 +5,24 @@ use mathlib.Core.List.{List, [], _∷_}
 use mathlib.Core.Path.{_≡_}
 use lib.Dec.{eqb}
 use lib.ListN.{length}
+use Rattle.rows.specs.declared.Found.{Found}
 use Rattle.rows.specs.declared.Process.{Process}
 use Rattle.rows.specs.Lists.{some}
-use Rattle.rows.specs.Codes.{isSubdirectory, inClist, inNode}
+use Rattle.rows.specs.Codes.{isSubdirectory, isServer, inClist, inNode}
 use Rattle.rows.specs.Tables.{State, rowOf, processAt, isListed, isLent}
 use Rattle.rows.specs.Sound.{sound}
 use Rattle.rows.specs.Layout.{rowSlot}
 use Rattle.rows.specs.contracts.Represents.{Represents}
-use Rattle.rows.specs.contracts.Sizes.{ROWS}
+use Rattle.rows.specs.contracts.Slots.{foundSlot, openSlot}
+use Rattle.rows.specs.contracts.Sizes.{ROWS, PROCESSES}
 use Rattle.calls.specs.declared.Answer.{Answer}
 use Rattle.calls.specs.declared.Performed.{Performed}
 use Rattle.calls.specs.declared.Call.{Call}
-use Rattle.calls.specs.declared.Call.the-variants.{Hold, Register, Port}
+use Rattle.calls.specs.declared.Call.the-variants.{Hold, Register, Port, Fetch, Refuse}
 use Rattle.calls.specs.Rules.{Out, _when_, lowest, notHeld, tooDeep, rowsFull, numbersSpent}
-use Rattle.calls.specs.Calls.{refusalsHold, heldDepth, refusalsRegister, registeredDepth, refusalsPort, portDepth, perform, callerOf}
-use Rattle.calls.specs.contracts.Lookups.{HasRows, StandsAt}
+use Rattle.calls.specs.Calls.{refusalsHold, heldDepth, refusalsRegister, registeredDepth, refusalsPort, portDepth}
+use Rattle.calls.specs.Calls.{refusalsClose, perform, callerOf}
+use Rattle.calls.specs.contracts.Lookups.{HasRows, HasRequests, StandsAt}
 
 -- ---- a call
 -- the answer, and the words after, are those of the definition
@@ -106,3 +109,36 @@ abbrev pub MakesPort : List ℕ → ℕ → ℕ → ℕ → List ℕ → Answer 
 MakesPort t n i p after r =
     (st : State) (e : ℕ) → sound st ≡ true → HasRows t n st → HeldAt st p e i
     → Answers after r (perform st (Port p e))
+
+-- ---- close
+abbrev pub RefusesClose : List ℕ → ℕ → ℕ → ℕ → Type 0
+RefusesClose t i c r =
+    (st : State) (p : ℕ) → sound st ≡ true → Represents t st → HeldAt st p c i → r ≡ lowest (refusalsClose st p c)
+
+-- ---- fetch, reply, refuse
+-- r is the slot of the request that the server sees at its end, which stands in slot i
+abbrev pub FindsAsked : List ℕ → ℕ → ℕ → Found → Type 0
+FindsAsked t m i r =
+    (st : State) (e : ℕ) → HasRequests t m st → StandsAt st e i
+    → r ≡ foundSlot (openSlot (st .requests) (rowOf (st .rows) e .object))
+
+-- the server end e, which the caller holds, stands in slot i, and the request open on its port in slot j
+abbrev pub Serves : State → ℕ → ℕ → ℕ → Type 0
+Serves st p e j =
+    (eqb (rowOf (st .rows) e .place) (inClist p) ≡ true) × (isServer (rowOf (st .rows) e .kind) ≡ true)
+    × (openSlot (st .requests) (rowOf (st .rows) e .object) ≡ suc j)
+
+abbrev pub FetchesRequest : List ℕ → ℕ → ℕ → ℕ → List ℕ → Answer → Type 0
+FetchesRequest t n j p after r =
+    (st : State) (e : ℕ) → sound st ≡ true → HasRows t n st → Serves st p e j → p ≤ PROCESSES
+    → Answers after r (perform st (Fetch p e))
+
+abbrev pub FetchesEnd : List ℕ → ℕ → ℕ → ℕ → List ℕ → Answer → Type 0
+FetchesEnd t n i p after r =
+    (st : State) (e : ℕ) → sound st ≡ true → HasRows t n st → HeldAt st p e i → p ≤ PROCESSES
+    → Answers after r (perform st (Fetch p e))
+
+abbrev pub RefusesEnd : List ℕ → List Process → ℕ → List ℕ → Performed → Type 0
+RefusesEnd t ps i after r =
+    (st : State) (p e : ℕ) → sound st ≡ true → Represents t st → st .processes ≡ ps → HeldAt st p e i
+    → Agrees after r (perform st (Refuse p e))
