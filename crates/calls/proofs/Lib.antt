@@ -13,3 +13,5 @@ pub mod Judging
 pub mod Refusing
 -- what the effect of each call leaves, as its function answers it
 pub mod Effected
+-- whether a row is a source of another: the loop over all rows
+pub mod Used

@@ -7,10 +7,10 @@ use native.Mathlib.Omega.{arith}
 use borrow.Author.Tests.{eq-eqb, ne-eqb, lt-ltb, le-ltb}
 use lib.Dec.{eqb}
 use lib.ListN.{length}
-use Rattle.rows.specs.Lists.{some}
+use Rattle.rows.specs.Lists.{any, member, some}
 use Rattle.rows.specs.Limits.{greatestNumber, rowSlots, greatestDepth}
 use Rattle.rows.specs.Codes.{subdirectory, operation, clientEnd, serverEnd, isSubdirectory, isOperation, isClient, isServer, isEnd, inClist, inNode, mayHold, mayRegister}
-use Rattle.rows.specs.Tables.{State, noRow, noRequest, rowOf, requestOf, openOn, numbers, processAt, onLoan, isLent}
+use Rattle.rows.specs.Tables.{State, noRow, noRequest, rowOf, requestOf, openOn, numbers, processAt, sources, onLoan, isLent}
 use Rattle.rows.specs.Sound.{isFetched}
 use Rattle.rows.specs.Layout.{rowSlot}
 use Rattle.rows.specs.contracts.Represents.{Represents}
@@ -19,7 +19,7 @@ use Rattle.rows.proofs.Bools.{pos-some}
 use Rattle.rows.proofs.Keyed.{rises-range}
 use Rattle.rows.proofs.Slots.{represented-well, row-found, row-absent, request-found, request-absent, open-absent}
 use Rattle.calls.specs.Rules.{Test, _when_, lowest, notHeld, askedOf, tooDeep, rowsFull, numbersSpent}
-use Rattle.calls.specs.Calls.{refusalsGo, refusalsHold, heldDepth, refusalsRegister, registeredDepth, refusalsPort, portDepth, refusalsClose, refusalsFetch, refusalsRefuse, refusalsRevoke, refusalsComes}
+use Rattle.calls.specs.Calls.{refusalsGo, refusalsHold, heldDepth, refusalsRegister, registeredDepth, refusalsPort, portDepth, inUse, refusalsDrop, refusalsClose, refusalsFetch, refusalsRefuse, refusalsRevoke, refusalsComes}
 use Rattle.calls.proofs.Handed.{open-number}
 use Rattle.calls.proofs.Judging.{test-holds, test-fails}
 
@@ -232,3 +232,13 @@ module _ {t : List ℕ} {st : State} (rep : Represents t st) where
 
 pub both-fail : {a b : Bool} → a ≡ false → b ≡ false → a || b ≡ false
 both-fail p q = rw (p, q) refl
+
+-- ---- drop
+pub drop-rest : (st : State) (p e : ℕ) → notHeld st p e ≡ false → lowest (refusalsDrop st p e) ≡ cond (isEnd (rowOf (st .rows) e .kind)) 8 (cond (inUse st p e) 13 0)
+unfolding refusalsDrop lowest
+drop-rest st p e h = rw h refl
+
+pub in-use : (st : State) (p e through : ℕ) (b : Bool) → b ≡ any (λ r. member e (sources r)) (st .rows) → processAt (st .processes) p .through ≡ through
+    → b || eqb through e ≡ inUse st p e
+unfolding inUse
+in-use st p e through b h x = rw (h, x) refl

@@ -6,6 +6,7 @@ use crate::lookups;
 use crate::new_rows::append_copy;
 use crate::tests;
 use changes::change;
+use closing::close::drop_row;
 use questions::question;
 use rows::Found;
 use rows::Process;
@@ -17,6 +18,8 @@ use rows::find;
 use rows::layout::KIND;
 use rows::layout::OBJECT;
 use rows::layout::RIGHTS;
+use rows::layout::SOURCE;
+use rows::layout::VIA;
 use rows::read;
 use rows::records::Records;
 ghost use mathlib.Core.Path.{_≡_};
@@ -25,7 +28,7 @@ ghost use lib.ListN.{length};
 ghost use Rattle.rows.specs.contracts.Sizes.{ROWS, IsTables};
 ghost use Rattle.calls.specs.declared.Call.{Call};
 ghost use Rattle.calls.specs.contracts.Performs.{Performs, HasRoom, RefusesHold, HoldsRow, RefusesRegister};
-ghost use Rattle.calls.specs.contracts.Performs.{RegistersRow};
+ghost use Rattle.calls.specs.contracts.Performs.{RegistersRow, IsSource, RefusesDrop};
 ghost use Rattle.calls.specs.contracts.Effects.{IsProcess, GoesHome, GoesThrough, HeldBy, RegisteredBy};
 
 // The record of p in its prime node.
@@ -245,5 +248,63 @@ pub fn register(t: &mut [u32], ps: Records, p: u32, e: u32) -> Performed
     Performed {
         answer: answer,
         records: ps,
+    }
+}
+
+// Whether a row has the row in slot i for a source. Every row is looked at, with no way out early, so that the loop runs over many words at once.
+fn is_source(t: &[u32], n: usize, i: usize) -> bool
+    requires { ⌜ IsTables (now t) × (n ≤ ROWS) × (i < ROWS) ⌝ }
+    ensures { λ r. ⌜ IsSource (now (t .entry)) n i r ⌝ }
+{
+    let word = (i + 1) as u32;
+    let mut found = false;
+    let mut k = 0;
+    while k < n {
+        found = (t[SOURCE + k] == word) | (t[VIA + k] == word) | found;
+        k += 1;
+    }
+    found
+}
+
+// What refuses to drop the row e in slot i, which the caller holds: 8, 13, 0 for nothing.
+fn drop_refusal(t: &[u32], n: usize, i: usize, through: u32, e: u32) -> u32
+    requires { ⌜ IsTables (now t) × (n ≤ ROWS) × (i < ROWS) ⌝ }
+    ensures { λ r. ⌜ RefusesDrop (now (t .entry)) n i through e r ⌝ }
+{
+    if is_end(t[KIND + i]) {
+        return 8;
+    }
+    if is_source(t, n, i) | (through == e) {
+        return 13;
+    }
+    0
+}
+
+// drop: 7 for a row that the caller does not hold; then the row's own refusals.
+// Ruled out: a row goes that another comes from; the caller stays in the node of a row that went.
+pub fn drop(t: &mut [u32], ps: Records, p: u32, e: u32) -> Performed
+    requires { ⌜ IsTables (now t) × IsProcess p ⌝ }
+    ensures performs { λ r. ⌜ Performs (now (t .entry)) ps (Call.Drop p e) (now (t .exit)) r ⌝ }
+    ensures long { λ _. ⌜ IsTables (now (t .exit)) ⌝ }
+{
+    let x = ps[(p - 1) as usize];
+    let n = find::rows_in(t);
+    let Found::At(i) = lookups::held_by(t, n, p, e) else {
+        return Performed {
+            answer: Answer::Refused(7),
+            records: ps,
+        };
+    };
+    let k = drop_refusal(t, n, i, x.through, e);
+    if k != 0 {
+        return Performed {
+            answer: Answer::Refused(k),
+            records: ps,
+        };
+    }
+    let left = drop_row(t, ps, e);
+    Performed {
+        answer: Answer::Done,
+        records: left,
     }
 }

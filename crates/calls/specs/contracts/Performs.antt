@@ -7,9 +7,9 @@ use lib.Dec.{eqb}
 use lib.ListN.{length}
 use Rattle.rows.specs.declared.Found.{Found}
 use Rattle.rows.specs.declared.Process.{Process}
-use Rattle.rows.specs.Lists.{some}
+use Rattle.rows.specs.Lists.{any, member, some}
 use Rattle.rows.specs.Codes.{isSubdirectory, isServer, inClist, inNode}
-use Rattle.rows.specs.Tables.{State, rowOf, processAt, isListed, isLent}
+use Rattle.rows.specs.Tables.{State, rowOf, processAt, isListed, sources, isLent}
 use Rattle.rows.specs.Sound.{sound}
 use Rattle.rows.specs.Layout.{rowSlot}
 use Rattle.rows.specs.contracts.Represents.{Represents}
@@ -21,7 +21,7 @@ use Rattle.calls.specs.declared.Call.{Call}
 use Rattle.calls.specs.declared.Call.the-variants.{Hold, Register, Port, Fetch, Refuse}
 use Rattle.calls.specs.Rules.{Out, _when_, lowest, notHeld, tooDeep, rowsFull, numbersSpent}
 use Rattle.calls.specs.Calls.{refusalsHold, heldDepth, refusalsRegister, registeredDepth, refusalsPort, portDepth}
-use Rattle.calls.specs.Calls.{refusalsClose, perform, callerOf}
+use Rattle.calls.specs.Calls.{refusalsClose, refusalsDrop, perform, callerOf}
 use Rattle.calls.specs.contracts.Lookups.{HasRows, HasRequests, StandsAt}
 
 -- ---- a call
@@ -142,3 +142,14 @@ abbrev pub RefusesEnd : List ℕ → List Process → ℕ → List ℕ → Perfo
 RefusesEnd t ps i after r =
     (st : State) (p e : ℕ) → sound st ≡ true → Represents t st → st .processes ≡ ps → HeldAt st p e i
     → Agrees after r (perform st (Refuse p e))
+
+-- ---- drop
+-- r says whether a row has the row in slot i for a source
+abbrev pub IsSource : List ℕ → ℕ → ℕ → Bool → Type 0
+IsSource t n i r =
+    (st : State) (e : ℕ) → HasRows t n st → StandsAt st e i → r ≡ any (λ r. member e (sources r)) (st .rows)
+
+abbrev pub RefusesDrop : List ℕ → ℕ → ℕ → ℕ → ℕ → ℕ → Type 0
+RefusesDrop t n i through e r =
+    (st : State) (p : ℕ) → HasRows t n st → HeldAt st p e i → processAt (st .processes) p .through ≡ through
+    → r ≡ lowest (refusalsDrop st p e)
