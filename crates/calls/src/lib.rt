@@ -1,4 +1,5 @@
 // A call and its answer, as code and definitions share them.
+use rows::records::Records;
 
 // An item of an ask: a row and the rights lent. Row 0: no item.
 pub struct Item {
@@ -39,3 +40,39 @@ pub enum Answer {
     Told(bool),
     Refused(u32),
 }
+
+// What a call leaves: its answer, and the process records.
+pub struct Performed {
+    pub answer: Answer,
+    pub records: Records,
+}
+
+// What a new copy has of its own; kind, object and operation are its row's. Sources as words: a slot plus 1, 0 for none.
+pub struct NewCopy {
+    pub number: u32,
+    pub rights: u32,
+    pub place: u32,
+    pub source: u32,
+    pub via: u32,
+    pub depth: u32,
+    pub request: u32,
+}
+
+// A new port: the number of its client end, the source word of its operation row, the places of its ends, their depth.
+pub struct NewPort {
+    pub number: u32,
+    pub source: u32,
+    pub client: u32,
+    pub server: u32,
+    pub depth: u32,
+}
+
+// ---- functions
+pub mod comes;
+pub mod directories;
+pub mod fetch;
+pub mod loans;
+pub mod lookups;
+pub mod new_rows;
+pub mod ports;
+pub mod tests;

@@ -1,0 +1,17 @@
+-- Laws of the calls' code. One line a file:
+-- what the look-ups find: slots, source words, depths
+pub mod LookedUp
+-- a row more: its sources from their words, a copy, the ends of a port
+pub mod NewRows
+-- the state after go, hold, register and port
+pub mod Added
+-- rows that go to a place: one item, and one after the other; the open request in its slot
+pub mod Handed
+-- a call that is refused and one that is not: answer, words, records
+pub mod Judging
+-- the tests of hold, register and port after the look-up
+pub mod Refusing
+-- what the effect of each call leaves, as its function answers it
+pub mod Effected
+-- whether a row is a source of another: the loop over all rows
+pub mod Used

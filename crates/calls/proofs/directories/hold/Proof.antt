@@ -1,0 +1,123 @@
+-- `directories::hold`: no such row in the active node, or what the row gives.
+use borrow.Author.Needs.{needs}
+use Prim.Native.Nat.{ℕ}
+use native.Mathlib.Omega.{arith}
+use mathlib.Core.Path.{_≡_, ap, sym, _∙_}
+use Rattle.rows.specs.Codes.{inClist}
+use Rattle.rows.proofs.Bools.{pos-some}
+use Rattle.rows.proofs.Slots.{at-below, represented-rows}
+use Rattle.calls.specs.Calls.{refusals, callerOf}
+use Rattle.calls.proofs.LookedUp.{found-in}
+use Rattle.rows.specs.declared.Process.{Process}
+use Rattle.rows.specs.Codes.{inNode, isNode}
+use Rattle.rows.specs.Layout.{rowSlot}
+use Rattle.rows.specs.Tables.{State, noProcess, processAt, isListed}
+use Rattle.rows.specs.Sound.{sound}
+use Rattle.tables.proofs.Sound.{sound-open}
+use Rattle.tables.proofs.SoundFacts.{active-node}
+use Rattle.calls.specs.declared.Call.the-variants.{Hold}
+use Rattle.calls.proofs.Added.{at-process, node-some, in-active}
+use Rattle.calls.proofs.Judging.{not-in, refused-agrees, records-stay}
+use Rattle.calls.proofs.Refusing.{hold-seven}
+use Rattle.calls.proofs.Effected.{hold-records}
+use Rattle.calls.proofs.directories.hold.Statement.{statement}
+use Rattle.calls.proofs.directories.hold.Tie as tie
+
+sub-x : tie.Need-sub-x
+sub-x c = search needs
+
+cast-x : tie.Need-cast-x
+cast-x c = search needs
+
+mul-x : tie.Need-mul-x
+mul-x c = search needs
+
+array-copy-out-x : tie.Need-array-copy-out-x
+array-copy-out-x c = search needs
+
+rows-in-requires : tie.Need-rows-in-requires
+rows-in-requires c κs = search needs
+
+row-in-requires : tie.Need-row-in-requires
+row-in-requires c κs = search needs
+
+enum-known-i : tie.Need-enum-known-i
+enum-known-i c = search needs
+
+enum-told : tie.Need-enum-told
+enum-told c = search needs
+
+same-length : tie.Need-same-length
+same-length c = search needs
+
+returns : tie.Need-returns
+unfolding refusals callerOf noProcess
+returns c =
+    let found = c .before .before .row-in in
+    let b = c .before .before .before .before in
+    let s = b .before .before .before .before in
+    let a = s .args in (
+      (λ st sd rep same listed.
+          let x = at-process st (a .t2) same (a .p) (s .pre .1 .0) in
+          let node = node-some _ (ap (λ (y : Process). isNode (y .active)) x ∙ active-node st (sound-open st sd) (a .p) (listed (pos-some (a .p) (s .pre .1 .0)))) in
+          let away = not-in st _ (a .s) node (found .result) (found .ensures .1 st (rep, b .rows-in .ensures .0 ∙ represented-rows rep)) (c .enum-told .given .1) in
+          refused-agrees st (Hold (a .p) (a .s)) rep (a .t2) same 7 (hold-seven st (a .p) (a .s) (in-active st (a .p) (a .s) _ (ap (λ (y : Process). y .active) x) _ away)) (λ z. absurd (omega arith))),
+      s .pre .0,
+    )
+
+row-word-requires : tie.Need-row-word-requires
+row-word-requires c κs = search needs
+
+hold-row-requires : tie.Need-hold-row-requires
+hold-row-requires c κs =
+    let i = c .before .before .before .before .i .given in
+    let b = c .before .before .before .before .before .before in
+    let found = b .row-in in
+    let count = b .before .before .rows-in in
+    let s = b .before .before .before .before .before .before in
+    (s .pre .0, count .ensures .1, at-below (count .result) (found .result) (i .0 .0) (found .ensures .0) (i .1), c .before .row-word .ensures .0)
+
+same-length-2 : tie.Need-same-length-2
+same-length-2 c = search needs
+
+returns-2 : tie.Need-returns-2
+unfolding callerOf noProcess
+returns-2 c =
+    let row = c .before .before .hold-row in
+    let u = c .before .before .before .before in
+    let via = u .row-word in
+    let i = u .before .before .before .i .given in
+    let b = u .before .before .before .before .before in
+    let found = b .row-in in
+    let count = b .before .before .rows-in in
+    let s = b .before .before .before .before .before .before in
+    let a = s .args in (
+      (λ st sd rep same listed.
+          let counted = count .ensures .0 ∙ represented-rows rep in
+          let x = at-process st (a .t2) same (a .p) (s .pre .1 .0) in
+          let (at, here) = found-in st _ (a .s) (found .result) (i .0 .0) (found .ensures .1 st (rep, counted)) (i .1) in
+          let active = in-active st (a .p) (a .s) _ (ap (λ (y : Process). y .active) x) _ here in
+          let word = ap (λ (y : Process). rowSlot (st .rows) (y .through)) (sym x) ∙ sym (via .ensures .1 st (rep, counted)) in
+          records-stay st (Hold (a .p) (a .s)) (a .t2) same (hold-records st (a .p) (a .s)) (row .result)
+          (row .ensures .0 st (a .s) sd (rep, counted) (at, active, word) (listed (pos-some (a .p) (s .pre .1 .0))))),
+      row .ensures .1,
+    )
+
+pub hold-spec : {M : Type 1} → statement M
+hold-spec =
+    tie.close
+    (tie.spec
+    sub-x
+    cast-x
+    mul-x
+    array-copy-out-x
+    rows-in-requires
+    row-in-requires
+    enum-known-i
+    enum-told
+    same-length
+    returns
+    row-word-requires
+    hold-row-requires
+    same-length-2
+    returns-2)

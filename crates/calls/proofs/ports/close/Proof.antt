@@ -1,0 +1,113 @@
+-- `ports::close`: no such row, refused, or the port closes.
+use borrow.Author.Needs.{needs}
+use native.Mathlib.Omega.{arith}
+use mathlib.Core.Path.{_≡_, ap, sym, _∙_}
+use Rattle.rows.specs.Codes.{inClist}
+use Rattle.rows.proofs.Slots.{at-below, represented-rows}
+use Rattle.calls.proofs.LookedUp.{found-in}
+use Rattle.calls.proofs.Refusing.{not-held, seven}
+use Rattle.calls.specs.Rules.{notHeld}
+use Rattle.calls.specs.declared.Call.the-variants.{Close}
+use Rattle.calls.specs.Calls.{refusals, refusalsClose}
+use Rattle.calls.proofs.Judging.{not-in-clist, refused-agrees, accepted-agrees}
+use Rattle.calls.proofs.Effected.{closed-port}
+use Rattle.calls.proofs.ports.close.Statement.{statement}
+use Rattle.calls.proofs.ports.close.Tie as tie
+
+rows-in-requires : tie.Need-rows-in-requires
+rows-in-requires c κs = search needs
+
+held-by-requires : tie.Need-held-by-requires
+held-by-requires c κs = search needs
+
+enum-known-i : tie.Need-enum-known-i
+enum-known-i c = search needs
+
+enum-told : tie.Need-enum-told
+enum-told c = search needs
+
+same-length : tie.Need-same-length
+same-length c = search needs
+
+returns : tie.Need-returns
+unfolding refusals refusalsClose
+returns c =
+    let found = c .before .before .held-by in
+    let b = c .before .before .before .before in
+    let s = b .before .before .before in
+    let a = s .args in (
+      (λ st sd rep same listed.
+          let away = not-in-clist st (a .p) (a .c) (found .result) (found .ensures .1 st (rep, b .rows-in .ensures .0 ∙ represented-rows rep) (s .pre .1 .1)) (c .enum-told .given .1) in
+          refused-agrees st (Close (a .p) (a .c)) rep (a .ps) same 7 (seven (notHeld st (a .p) (a .c)) _ (not-held st (a .p) (a .c) away)) (λ z. absurd (omega arith))),
+      s .pre .0,
+    )
+
+close-refusal-requires : tie.Need-close-refusal-requires
+close-refusal-requires c κs =
+    let i = c .before .before .i .given in
+    let b = c .before .before .before .before in
+    let found = b .held-by in
+    let count = b .before .before .rows-in in
+    let s = b .before .before .before .before .before in
+    (s .pre .0, omega (arith, count .ensures .1, at-below (count .result) (found .result) (i .0 .0) (found .ensures .0) (i .1)))
+
+same-length-2 : tie.Need-same-length-2
+same-length-2 c = search needs
+
+returns-2 : tie.Need-returns-2
+unfolding refusals
+returns-2 c =
+    let no = c .before .close-refusal in
+    let i = c .before .before .before .before .i .given in
+    let b = c .before .before .before .before .before .before in
+    let found = b .held-by in
+    let count = b .before .before .rows-in in
+    let s = b .before .before .before .before .before in
+    let a = s .args in (
+      (λ st sd rep same listed.
+          let here = found-in st (inClist (a .p)) (a .c) (found .result) (i .0 .0) (found .ensures .1 st (rep, count .ensures .0 ∙ represented-rows rep) (s .pre .1 .1)) (i .1) in
+          refused-agrees st (Close (a .p) (a .c)) rep (a .ps) same (no .result) (no .ensures st (a .p) sd rep here) (c .if1 .taken)),
+      s .pre .0,
+    )
+
+close-port-requires : tie.Need-close-port-requires
+close-port-requires c κs = search needs
+
+same-length-3 : tie.Need-same-length-3
+same-length-3 c = search needs
+
+returns-3 : tie.Need-returns-3
+unfolding refusals
+returns-3 c =
+    let closed = c .before .before .close-port in
+    let u = c .before .before .before .before in
+    let no = u .before .close-refusal in
+    let i = u .before .before .before .before .i .given in
+    let b = u .before .before .before .before .before .before in
+    let found = b .held-by in
+    let count = b .before .before .rows-in in
+    let s = b .before .before .before .before .before in
+    let a = s .args in (
+      (λ st sd rep same listed.
+          let here = found-in st (inClist (a .p)) (a .c) (found .result) (i .0 .0) (found .ensures .1 st (rep, count .ensures .0 ∙ represented-rows rep) (s .pre .1 .1)) (i .1) in
+          accepted-agrees st (Close (a .p) (a .c)) (sym (u .if1 .left) ∙ no .ensures st (a .p) sd rep here) _
+          (closed-port st (a .p) (a .c) (closed .result) (closed .ensures .0 st sd rep same))),
+      closed .ensures .1,
+    )
+
+pub close-spec : {M : Type 1} → statement M
+close-spec =
+    tie.close
+    (tie.spec
+    rows-in-requires
+    held-by-requires
+    enum-known-i
+    enum-told
+    same-length
+    returns
+    close-refusal-requires
+    same-length-2
+    returns-2
+    close-port-requires
+    same-length-3
+    returns-3)

@@ -1,0 +1,155 @@
+-- What the calls' functions answer: the numbers of refusals, and that answer, words and records are the definition's.
+use Prim.Native.Nat.{ℕ, suc, _+_, _≤_}
+use mathlib.Core.Bool.{Bool, true, _&&_}
+use mathlib.Core.List.{List, [], _∷_}
+use mathlib.Core.Path.{_≡_}
+use lib.Dec.{eqb}
+use lib.ListN.{length}
+use Rattle.rows.specs.declared.Found.{Found}
+use Rattle.rows.specs.declared.Process.{Process}
+use Rattle.rows.specs.Lists.{any, member, some}
+use Rattle.rows.specs.Codes.{isSubdirectory, isServer, inClist, inNode}
+use Rattle.rows.specs.Tables.{State, rowOf, processAt, isListed, sources, isLent}
+use Rattle.rows.specs.Sound.{sound}
+use Rattle.rows.specs.Layout.{rowSlot}
+use Rattle.rows.specs.contracts.Represents.{Represents}
+use Rattle.rows.specs.contracts.Slots.{foundSlot, openSlot}
+use Rattle.rows.specs.contracts.Sizes.{ROWS, PROCESSES}
+use Rattle.calls.specs.declared.Answer.{Answer}
+use Rattle.calls.specs.declared.Performed.{Performed}
+use Rattle.calls.specs.declared.Call.{Call}
+use Rattle.calls.specs.declared.Call.the-variants.{Hold, Register, Port, Fetch, Refuse}
+use Rattle.calls.specs.Rules.{Out, _when_, lowest, notHeld, tooDeep, rowsFull, numbersSpent}
+use Rattle.calls.specs.Calls.{refusalsHold, heldDepth, refusalsRegister, registeredDepth, refusalsPort, portDepth}
+use Rattle.calls.specs.Calls.{refusalsClose, refusalsDrop, perform, callerOf}
+use Rattle.calls.specs.contracts.Lookups.{HasRows, HasRequests, StandsAt}
+
+-- ---- a call
+-- the answer, and the words after, are those of the definition
+pub record Answers (after : List ℕ) (r : Answer) (o : Out) : Type 0 where
+  pub answer : r ≡ o .answer
+  pub words : Represents after (o .after)
+
+-- the records too
+pub record Agrees (after : List ℕ) (r : Performed) (o : Out) : Type 0 where
+  pub answer : r .answer ≡ o .answer
+  pub words : Represents after (o .after)
+  pub records : r .records ≡ o .after .processes
+
+-- the caller is listed; comes has none
+abbrev pub CallerListed : State → Call → Type 0
+CallerListed st c = some (callerOf c) ≡ true → isListed (st .processes) (callerOf c) ≡ true
+
+-- for every sound state that the words represent with the records, the call does what its definition says
+abbrev pub Performs : List ℕ → List Process → Call → List ℕ → Performed → Type 0
+Performs t ps c after r =
+    (st : State) → sound st ≡ true → Represents t st → st .processes ≡ ps → CallerListed st c → Agrees after r (perform st c)
+
+-- ---- what refuses new rows
+-- k rows of depth d: 15, 16, 18, 0 for nothing
+abbrev pub RefusesRows : ℕ → ℕ → ℕ → ℕ → ℕ → Type 0
+RefusesRows n next d k r =
+    (st : State) → n ≡ length (st .rows) → st .next ≡ next
+    → r ≡ lowest (15 when tooDeep d ∷ 16 when rowsFull st k ∷ 18 when numbersSpent st k ∷ [])
+
+-- where nothing does there are slots and numbers left
+abbrev pub HasRoom : ℕ → ℕ → ℕ → ℕ → Type 0
+HasRoom n next k r = r ≡ 0 → (n + k ≤ ROWS) × (next + k ≤ 1000001)
+
+-- ---- hold
+-- r says whether the row at a source word is lent; 0 is none
+abbrev pub IsLentWord : List ℕ → ℕ → Bool → Type 0
+IsLentWord t w r =
+    (st : State) (x : ℕ) → sound st ≡ true → Represents t st → rowSlot (st .rows) x ≡ w → r ≡ some x && isLent st x
+
+-- r says whether the row in slot i is a subdirectory and the one at the word via is lent
+abbrev pub TakesLent : List ℕ → ℕ → ℕ → Bool → Type 0
+TakesLent t i via r =
+    (st : State) (s x : ℕ) → sound st ≡ true → Represents t st → StandsAt st s i → rowSlot (st .rows) x ≡ via
+    → r ≡ isSubdirectory (rowOf (st .rows) s .kind) && (some x && isLent st x)
+
+-- the row s, in the caller's active node, stands in slot i; the row that the caller went through is at the word via
+abbrev pub MayTake : State → ℕ → ℕ → ℕ → ℕ → Type 0
+MayTake st p s i via =
+    StandsAt st s i × (eqb (rowOf (st .rows) s .place) (inNode (processAt (st .processes) p .active)) ≡ true)
+    × (rowSlot (st .rows) (processAt (st .processes) p .through) ≡ via)
+
+abbrev pub RefusesHold : List ℕ → ℕ → ℕ → ℕ → ℕ → ℕ → ℕ → Type 0
+RefusesHold t n i via d next r =
+    (st : State) (p s : ℕ) → sound st ≡ true → HasRows t n st → MayTake st p s i via → heldDepth st p s ≡ d → st .next ≡ next
+    → r ≡ lowest (refusalsHold st p s)
+
+abbrev pub HoldsRow : List ℕ → ℕ → ℕ → ℕ → ℕ → List ℕ → Answer → Type 0
+HoldsRow t n i via p after r =
+    (st : State) (s : ℕ) → sound st ≡ true → HasRows t n st → MayTake st p s i via → isListed (st .processes) p ≡ true
+    → Answers after r (perform st (Hold p s))
+
+-- ---- register
+-- the row e, in the caller's c-list, stands in slot i
+abbrev pub HeldAt : State → ℕ → ℕ → ℕ → Type 0
+HeldAt st p e i = StandsAt st e i × (eqb (rowOf (st .rows) e .place) (inClist p) ≡ true)
+
+abbrev pub RefusesRegister : List ℕ → ℕ → ℕ → ℕ → ℕ → ℕ → Type 0
+RefusesRegister t n i d next r =
+    (st : State) (p e : ℕ) → sound st ≡ true → HasRows t n st → HeldAt st p e i → registeredDepth st e ≡ d → st .next ≡ next
+    → r ≡ lowest (refusalsRegister st p e)
+
+abbrev pub RegistersRow : List ℕ → ℕ → ℕ → ℕ → List ℕ → Answer → Type 0
+RegistersRow t n i node after r =
+    (st : State) (p e : ℕ) → sound st ≡ true → HasRows t n st → HeldAt st p e i → processAt (st .processes) p .active ≡ node
+    → Answers after r (perform st (Register p e))
+
+-- ---- port
+abbrev pub RefusesPort : List ℕ → ℕ → ℕ → ℕ → ℕ → ℕ → Type 0
+RefusesPort t n i d next r =
+    (st : State) (p e : ℕ) → sound st ≡ true → HasRows t n st → HeldAt st p e i → portDepth st e ≡ d → st .next ≡ next
+    → r ≡ lowest (refusalsPort st p e)
+
+abbrev pub MakesPort : List ℕ → ℕ → ℕ → ℕ → List ℕ → Answer → Type 0
+MakesPort t n i p after r =
+    (st : State) (e : ℕ) → sound st ≡ true → HasRows t n st → HeldAt st p e i
+    → Answers after r (perform st (Port p e))
+
+-- ---- close
+abbrev pub RefusesClose : List ℕ → ℕ → ℕ → ℕ → Type 0
+RefusesClose t i c r =
+    (st : State) (p : ℕ) → sound st ≡ true → Represents t st → HeldAt st p c i → r ≡ lowest (refusalsClose st p c)
+
+-- ---- fetch, reply, refuse
+-- r is the slot of the request that the server sees at its end, which stands in slot i
+abbrev pub FindsAsked : List ℕ → ℕ → ℕ → Found → Type 0
+FindsAsked t m i r =
+    (st : State) (e : ℕ) → HasRequests t m st → StandsAt st e i
+    → r ≡ foundSlot (openSlot (st .requests) (rowOf (st .rows) e .object))
+
+-- the server end e, which the caller holds, stands in slot i, and the request open on its port in slot j
+abbrev pub Serves : State → ℕ → ℕ → ℕ → Type 0
+Serves st p e j =
+    (eqb (rowOf (st .rows) e .place) (inClist p) ≡ true) × (isServer (rowOf (st .rows) e .kind) ≡ true)
+    × (openSlot (st .requests) (rowOf (st .rows) e .object) ≡ suc j)
+
+abbrev pub FetchesRequest : List ℕ → ℕ → ℕ → ℕ → List ℕ → Answer → Type 0
+FetchesRequest t n j p after r =
+    (st : State) (e : ℕ) → sound st ≡ true → HasRows t n st → Serves st p e j → p ≤ PROCESSES
+    → Answers after r (perform st (Fetch p e))
+
+abbrev pub FetchesEnd : List ℕ → ℕ → ℕ → ℕ → List ℕ → Answer → Type 0
+FetchesEnd t n i p after r =
+    (st : State) (e : ℕ) → sound st ≡ true → HasRows t n st → HeldAt st p e i → p ≤ PROCESSES
+    → Answers after r (perform st (Fetch p e))
+
+abbrev pub RefusesEnd : List ℕ → List Process → ℕ → List ℕ → Performed → Type 0
+RefusesEnd t ps i after r =
+    (st : State) (p e : ℕ) → sound st ≡ true → Represents t st → st .processes ≡ ps → HeldAt st p e i
+    → Agrees after r (perform st (Refuse p e))
+
+-- ---- drop
+-- r says whether a row has the row in slot i for a source
+abbrev pub IsSource : List ℕ → ℕ → ℕ → Bool → Type 0
+IsSource t n i r =
+    (st : State) (e : ℕ) → HasRows t n st → StandsAt st e i → r ≡ any (λ r. member e (sources r)) (st .rows)
+
+abbrev pub RefusesDrop : List ℕ → ℕ → ℕ → ℕ → ℕ → ℕ → Type 0
+RefusesDrop t n i through e r =
+    (st : State) (p : ℕ) → HasRows t n st → HeldAt st p e i → processAt (st .processes) p .through ≡ through
+    → r ≡ lowest (refusalsDrop st p e)

@@ -1,0 +1,57 @@
+// What the tests of several calls ask: room for new rows, lent rows.
+use questions::question;
+use rows::codes::A_SUBDIRECTORY;
+use rows::codes::GREATEST_DEPTH;
+use rows::layout::KIND;
+use rows::layout::ROWS;
+ghost use mathlib.Core.Path.{_≡_};
+ghost use Prim.Native.Nat.{_≤_, _<_};
+ghost use lib.ListN.{length};
+ghost use Rattle.rows.specs.contracts.Sizes.{ROWS, IsTables};
+ghost use Rattle.calls.specs.contracts.Performs.{RefusesRows, HasRoom, IsLentWord, TakesLent};
+
+// the greatest next number
+pub const LAST_NEXT: u32 = 1000001;
+
+// What refuses k new rows of depth d: 15, 16, 18; 0 for nothing.
+// Ruled out: full, with a slot free; a row of depth 13.
+pub fn rows_refusal(n: usize, next: u32, d: u32, k: u32) -> u32
+    requires { ⌜ (n ≤ ROWS) × (k ≤ 2) ⌝ }
+    ensures lowest { λ r. ⌜ RefusesRows n next d k r ⌝ }
+    ensures room { λ r. ⌜ HasRoom n next k r ⌝ }
+{
+    if GREATEST_DEPTH < d {
+        return 15;
+    }
+    if ROWS < n + k as usize {
+        return 16;
+    }
+    if LAST_NEXT - k < next {
+        return 18;
+    }
+    0
+}
+
+// Whether the row at a source word is lent; 0 is none.
+// Ruled out: yes where there is no row; the answer for the row before.
+pub fn lent_word(t: &[u32], w: u32) -> bool
+    requires { ⌜ IsTables (now t) × (w ≤ ROWS) ⌝ }
+    ensures { λ r. ⌜ IsLentWord (now (t .entry)) w r ⌝ }
+{
+    if w == 0 {
+        return false;
+    }
+    question::lent(t, w as usize - 1)
+}
+
+// Whether the row in slot i is a subdirectory and the row at the word via is lent.
+// Ruled out: yes for an operation; yes where the caller went through nothing.
+pub fn takes_lent(t: &[u32], i: usize, via: u32) -> bool
+    requires { ⌜ IsTables (now t) × (i < ROWS) × (via ≤ ROWS) ⌝ }
+    ensures { λ r. ⌜ TakesLent (now (t .entry)) i via r ⌝ }
+{
+    if t[KIND + i] != A_SUBDIRECTORY {
+        return false;
+    }
+    lent_word(t, via)
+}
