@@ -37,11 +37,11 @@ through-among st s p l =
     let r = rowOf (st .rows) (x .through) in
     ⊎-elim (λ e. inl (eqb-true (x .through) 0 (and-l (eqb (x .through) 0) (eqb (x .active) (x .prime)) e)))
     (λ e. let k : isSubdirectory (r .kind) ≡ true = search (and-l, and-r) in inr (subdirectory-there (st .rows) (x .through) k))
-    (or-cases (eqb (x .through) 0 && eqb (x .active) (x .prime)) _ (placed-at st s p l))
+    (or-cases (eqb (x .through) 0 && eqb (x .active) (x .prime)) _ (placed-at st (s .placed) p l))
 
 -- the first source of a standing row stands
 pub source-among : (st : State) → Sound st → (e : ℕ) → member e (numbers (st .rows)) ≡ true → Among (st .rows) (rowOf (st .rows) e .source)
-source-among st s e t = shape-sources (st .requests) (rowOf (st .rows) e) (st .rows) (standing-shape st s e t) .0
+source-among st s e t = shape-sources (st .requests) (rowOf (st .rows) e) (st .rows) (standing-shape st (s .numbers) (s .rows) e t) .0
 
 -- ---- go
 process-at : (ps : List Process) (p : ℕ) → 0 < p → getD ps (p - 1) noProcess ≡ processAt ps p

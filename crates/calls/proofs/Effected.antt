@@ -71,7 +71,7 @@ pub manager-few : (st : State) → sound st ≡ true → (e i : ℕ) → rowSlot
 manager-few st sd e i at k =
     let so = sound-open st sd in
     let r = rowOf (st .rows) e in
-    listed-range st so (r .object) (manager-listed (st .processes) r (row-object st so e (row-found (st .rows) e i at .0)) k) .1
+    listed-range st (so .placed) (r .object) (manager-listed (st .processes) r (row-object st (so .rows) e (row-found (st .rows) e i at .0)) k) .1
 
 -- ---- calls that close
 module _ {after : List ℕ} (st : State) (p e : ℕ) (r : List Process) where

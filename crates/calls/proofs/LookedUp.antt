@@ -101,7 +101,7 @@ lent-none st x sd s = sym (and-rf (some x) (reaches (lentItself (st .requests)) 
 
 pub lent-row : (st : State) (x : ℕ) → sound st ≡ true → (i : ℕ) → rowSlot (st .rows) x ≡ suc i → isLent st x ≡ some x && isLent st x
 lent-row st x sd i s =
-    let (lo, hi) = row-below st (sound-open st sd) x (row-found (st .rows) x i s .0) in
+    let (lo, hi) = row-below st (sound-open st sd .numbers) x (row-found (st .rows) x i s .0) in
     rw (pos-some x lo) refl
 
 -- a test of what is no subdirectory; of a subdirectory

@@ -63,9 +63,9 @@ returns c =
           let x = processAt (st .processes) (a .p) .through in
           let first = ap (numberOfSlot (st .rows)) (add-one (a .i)) ∙ number-of-row (st .rows) e (a .i) at in
           let second = number-of-word (st .rows) x (a .via) via (through-among st so (a .p) l) in
-          let mid = copy .ensures .0 st e e x h at (omega (arith, rows-top st so, next)) first second in
+          let mid = copy .ensures .0 st e e x h at (omega (arith, rows-top st (so .numbers), next)) first second in
           subst (λ (y : State). Represents (put .last .0) y)
-          (held-state st (a .p) e (a .next) _ _ (a .d) (sym next) (row-words (h .0) e (a .i) at .rights) (place .ensures (listed-range st so (a .p) l .1)) (sym deep))
+          (held-state st (a .p) e (a .next) _ _ (a .d) (sym next) (row-words (h .0) e (a .i) at .rights) (place .ensures (listed-range st (so .placed) (a .p) l .1)) (sym deep))
           (put .ensures .0 _ mid)),
       put .ensures .1,
     )

@@ -44,7 +44,7 @@ returns c =
           let so = sound-open st sd in
           let x = rowOf (st .rows) e .source in
           let first = number-of-word (st .rows) x (a .source) source (source-among st so e (row-found (st .rows) e (a .i) at .0)) in
-          let mid = copy .ensures .0 st e x 0 h at (omega (arith, rows-top st so, next)) first (number-of-none (st .rows)) in
+          let mid = copy .ensures .0 st e x 0 h at (omega (arith, rows-top st (so .numbers), next)) first (number-of-none (st .rows)) in
           subst (λ (y : State). Represents (put .last .0) y)
           (registered-state st p e (a .next) _ (a .node) (a .d) (sym next) (row-words (h .0) e (a .i) at .rights) (sym node) (sym deep))
           (put .ensures .0 _ mid)),

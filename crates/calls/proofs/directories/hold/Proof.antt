@@ -59,7 +59,7 @@ returns c =
     let a = s .args in (
       (λ st sd rep same listed.
           let x = at-process st (a .t2) same (a .p) (s .pre .1 .0) in
-          let node = node-some _ (ap (λ (y : Process). isNode (y .active)) x ∙ active-node st (sound-open st sd) (a .p) (listed (pos-some (a .p) (s .pre .1 .0)))) in
+          let node = node-some _ (ap (λ (y : Process). isNode (y .active)) x ∙ active-node st (sound-open st sd .placed) (a .p) (listed (pos-some (a .p) (s .pre .1 .0)))) in
           let away = not-in st _ (a .s) node (found .result) (found .ensures .1 st (rep, b .rows-in .ensures .0 ∙ represented-rows rep)) (c .enum-told .given .1) in
           refused-agrees st (Hold (a .p) (a .s)) rep (a .t2) same 7 (hold-seven st (a .p) (a .s) (in-active st (a .p) (a .s) _ (ap (λ (y : Process). y .active) x) _ away)) (λ z. absurd (omega arith))),
       s .pre .0,

@@ -62,7 +62,7 @@ returns c =
       (λ st e sd h at few deep next.
           let object = row-words (h .0) e (a .i) at .object in
           let first = ap (numberOfSlot (st .rows)) (add-one (a .i)) ∙ number-of-row (st .rows) e (a .i) at in
-          let mid = ends .ensures .0 st e h (omega (arith, rows-top st (sound-open st sd), next)) first in
+          let mid = ends .ensures .0 st e h (omega (arith, rows-top st (sound-open st sd .numbers), next)) first in
           subst (λ (y : State). Represents (put .last .0) y)
           (port-state st (a .p) e w (sym next) (here .ensures (s .pre .4 .1)) (there .ensures (subst (λ (k : ℕ). k ≤ 64) (sym object) few) ∙ ap inClist object) (sym deep))
           (put .ensures .0 _ mid)),
