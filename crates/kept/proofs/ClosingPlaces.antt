@@ -22,7 +22,7 @@ use Rattle.rows.proofs.RowSources.{subdirectory-there}
 use Rattle.rows.proofs.Places.{clist-not-node, subdirectory-no-end}
 use Rattle.tables.proofs.Awaits.{older-listers, awaits-none}
 use Rattle.closing.specs.Closing.{oldestListing, returned, listedIn, leaves, homed, trimmed, remaining, settled}
-use Rattle.rows.specs.Setters.{withPlace, withItems}
+use Rattle.rows.specs.Setters.{withPlace}
 use Rattle.closing.proofs.TrimmedLists.{any-first}
 use Rattle.closing.proofs.Facts.{Stands, IsOpen, end-at, request-number, listed-right}
 use Rattle.closing.proofs.RemovedRows.{Closed}

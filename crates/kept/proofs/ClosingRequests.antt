@@ -14,12 +14,12 @@ use Rattle.rows.specs.Lists.{any, all, each, filter, member, topOf, distinct, s
 use Rattle.rows.specs.Limits.{rowSlots, requestSlots, mostItems}
 use Rattle.rows.specs.Codes.{isClient}
 use Rattle.rows.specs.Tables.{State, rowOf, numbers, isListed, lists}
-use Rattle.rows.specs.Sound.{rowsRise, requestsRise, numbersApart, belowNext, rowsFit, requestsFit, fetchedInRange, portStands, portsStand, requestersListed, itemsFew, itemsApart, mayBeListed, itemsLent, onePerPort, isFetched, olderFetchedBy, olderFetched, copiesListed}
+use Rattle.rows.specs.Sound.{rowsRise, requestsRise, numbersApart, belowNext, rowsFit, requestsFit, fetchedInRange, portStands, portsStand, requestersListed, itemsFew, itemsApart, mayBeListed, itemsLent, onePerPort, isFetched, olderFetchedBy, copiesListed}
 use Rattle.rows.proofs.Bools.{clash, and-l, and-r, and-i, not-t, or-fl, or-map, any-mono, all-at}
 use Rattle.rows.proofs.Keyed.{rises-range}
 use Rattle.tables.proofs.Sound.{Numbers, LoansSound}
 use Rattle.rows.proofs.Lists.{distinct-filter, all-of-member, member-nonzero}
-use Rattle.rows.specs.Setters.{withPlace, withItems}
+use Rattle.rows.specs.Setters.{withPlace}
 use Rattle.closing.specs.Closing.{returned, listedIn, leaves, homed, trimmed, remaining, settled}
 use Rattle.closing.proofs.TrimmedLists.{top-member, length-filter, trim, member-trim, any-trim, distinct-trim}
 use Rattle.closing.proofs.Facts.{Stands}

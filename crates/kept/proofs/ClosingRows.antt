@@ -1,32 +1,30 @@
 -- The clauses of soundness on rows hold of those that closing leaves: a row that is left has its sources, its other end and its request left.
-use Prim.Native.Nat.{ℕ, _<_, _≤_}
+use Prim.Native.Nat.{ℕ, _<_}
 use mathlib.Core.Bool.{Bool, true, false, not, cond, _&&_, _||_}
 use mathlib.Core.List.{List, map}
 use mathlib.Core.Path.{_≡_, refl, sym, ap, _∙_}
-use mathlib.Core.Logic.{_⊎_, inl, inr, ⊎-elim}
+use mathlib.Core.Logic.{_⊎_, ⊎-elim}
 use lib.Dec.{ltb, eqb}
-use lib.ListN.{length, length-map}
-use borrow.Author.Tests.{eqb-false, ltb-true, lt-ltb, leb-true, le-leb}
+use borrow.Author.Tests.{eqb-false}
 use native.Mathlib.Omega.{arith}
 use Rattle.rows.specs.declared.Row.{Row}
 use Rattle.rows.specs.declared.Request.{Request}
-use Rattle.rows.specs.Lists.{filter, member, topOf, rises, some}
-use Rattle.rows.specs.Limits.{rowSlots}
+use Rattle.rows.specs.Lists.{member, rises, some}
 use Rattle.rows.specs.Codes.{isEnd, inClist}
-use Rattle.rows.specs.Tables.{State, noRequest, rowOf, requestOf, depthOver, lists, numbers}
-use Rattle.rows.specs.Sound.{rowsRise, requestsRise, belowNext, rowsFit, objectInRange, objectsInRange, rightInRange, rightsInRange, sourcesRight, depthsRight, copiesMatch, isPairedWith, otherEnd, endPaired, endsPaired, copyListed, copiesListed, hasRightSources, hasRightDepth, matchesSource, sourceOf, viaOf, sourced, sourceOf, viaOf, hasRightSources, hasRightDepth, matchesSource}
-use Rattle.rows.proofs.Bools.{false-of, clash, and-l, and-r, and-i, or-l, or-r, pos-some, true-or-false}
+use Rattle.rows.specs.Tables.{State, noRequest, rowOf, requestOf, lists, numbers}
+use Rattle.rows.specs.Sound.{requestsRise, objectInRange, objectsInRange, rightInRange, rightsInRange, sourcesRight, depthsRight, copiesMatch, isPairedWith, otherEnd, endPaired, endsPaired, copyListed, copiesListed, hasRightSources, hasRightDepth, matchesSource, sourceOf, viaOf, sourced, sourceOf, viaOf, hasRightSources, hasRightDepth, matchesSource}
+use Rattle.rows.proofs.Bools.{false-of, clash, and-l, and-i, or-l, pos-some, true-or-false}
 use Rattle.rows.proofs.Keyed.{first-none, rises-range, olderOf}
 use Rattle.tables.proofs.Sound.{RowsSound, Sound}
 use Rattle.tables.proofs.SoundFacts.{row-number}
 use Rattle.tables.proofs.Standing.{source-lower, via-lower}
 use Rattle.rows.proofs.Places.{clist-not-node}
-use Rattle.rows.specs.Setters.{withPlace, withItems}
+use Rattle.rows.specs.Setters.{withPlace}
 use Rattle.closing.specs.Closing.{oldestListing, returned, listedIn, leaves, homed, trimmed, remaining, settled}
-use Rattle.closing.proofs.TrimmedLists.{any-older, top-member, length-filter}
+use Rattle.closing.proofs.TrimmedLists.{any-older}
 use Rattle.closing.proofs.Facts.{Stands, IsOpen, end-at, copy-at, copy-listed, lists-open}
 use Rattle.closing.proofs.RemovedRows.{Closed, source-stays, via-stays}
-use Rattle.closing.proofs.Lookups.{trimmed-lists, remaining-known, remaining-rises, request-after, returned-keeps, row-after, left-stood, all-left, each-left, older-before, older-after}
+use Rattle.closing.proofs.Lookups.{trimmed-lists, remaining-rises, request-after, returned-keeps, row-after, all-left, each-left, older-before, older-after}
 use Rattle.closing.proofs.Processes.{listed-kept}
 use Rattle.kept.proofs.Sourced.{Placeless, depth-placeless, copy-placeless, rows-elsewhere, sources-alike, right-elsewhere}
 use Rattle.kept.proofs.ClosingPlaces.{places-in-range-kept, listed-end, no-end-same, node-kept}
