@@ -86,10 +86,10 @@ module _ (st : State) where
 -- and by soundness
 module _ (st : State) (s : Sound st) where
   pub end-at : (n : ℕ) → Stands st n → isEnd (rowOf (st .rows) n .kind) ≡ true → EndFacts (rowOf (st .rows) n)
-  end-at n t k = end-facts _ _ (end-shape _ _ _ k (standing-shape st s n t))
+  end-at n t k = end-facts _ _ (end-shape _ _ _ k (standing-shape st (s .numbers) (s .rows) n t))
 
   pub copy-at : (n : ℕ) → Stands st n → some (rowOf (st .rows) n .request) ≡ true → CopyFacts (st .requests) (st .rows) (rowOf (st .rows) n)
-  copy-at n t k = copy-facts _ _ _ k (standing-shape st s n t)
+  copy-at n t k = copy-facts _ _ _ k (standing-shape st (s .numbers) (s .rows) n t)
 
   -- a copy is listed by the open request that it bears
   pub copy-listed : (n : ℕ) → Stands st n → some (rowOf (st .rows) n .request) ≡ true → lists n (requestOf (st .requests) (rowOf (st .rows) n .request)) ≡ true

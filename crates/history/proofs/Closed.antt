@@ -37,14 +37,16 @@ sweep-sourced f [] = refl
 sweep-sourced f (r ∷ rs) = pick (sweep-sourced f rs) (survives f (noted (sweep f rs)) r) refl
   where
     pick : sourced (sweep f rs) ≡ true → (b : Bool) → survives f (noted (sweep f rs)) r ≡ b → sourced (cond b (r ∷ sweep f rs) (sweep f rs)) ≡ true
-    pick ih true q = and-i (all (λ s. member s (noted (sweep f rs))) (r .sources)) (sourced (sweep f rs)) (unfold survives in and-r (not (f r)) (all (λ s. member s (noted (sweep f rs))) (r .sources)) q) ih
+    pick ih true q =
+        and-i (all (λ s. member s (noted (sweep f rs))) (r .sources)) (sourced (sweep f rs)) (unfold survives in and-r (not (f r)) (all (λ s. member s (noted (sweep f rs))) (r .sources)) q) ih
     pick ih false q = ih
 
 -- ---- what closing leaves as it is
 home-view : (f : Request → Bool) (vs : List Request) (r : Row) → view (returned f vs r) ≡ view r
 home-view f vs r = returned-keeps view (λ p r. unfold view withPlace sources in refl) f vs r
 
-remaining-view : (f : Request → Bool) (g : List ℕ) (p : Open → Bool) → ((v : Request) → not (f v) ≡ p (ofRequest v)) → (vs : List Request) → map ofRequest (remaining f g vs) ≡ filter p (map ofRequest vs)
+remaining-view : (f : Request → Bool) (g : List ℕ) (p : Open → Bool) → ((v : Request) → not (f v) ≡ p (ofRequest v)) → (vs : List Request)
+    → map ofRequest (remaining f g vs) ≡ filter p (map ofRequest vs)
 remaining-view f g p h vs = remaining-keys f g ofRequest (λ is v. unfold ofRequest in refl) vs ∙ filter-through ofRequest p (λ v. not (f v)) h vs
 
 -- ---- processes

@@ -54,15 +54,15 @@ server-other r k = rw (eqb-true (r .kind) 4 k) refl
 module _ (st : State) (s : Sound st) where
   -- a row in a node is no end
   pub node-no-end : (e : ℕ) → member e (numbers (st .rows)) ≡ true → isNode (rowOf (st .rows) e .place) ≡ true → isEnd (rowOf (st .rows) e .kind) ≡ false
-  node-no-end e t n = copied-no-end (rowOf (st .rows) e .kind) (in-node-copied (st .requests) (st .rows) (rowOf (st .rows) e) (standing-shape st s e t) n)
+  node-no-end e t n = copied-no-end (rowOf (st .rows) e .kind) (in-node-copied (st .requests) (st .rows) (rowOf (st .rows) e) (standing-shape st (s .numbers) (s .rows) e t) n)
 
   pub server-port : (e : ℕ) → member e (numbers (st .rows)) ≡ true → isServer (rowOf (st .rows) e .kind) ≡ true → rowOf (st .rows) e .object ≡ pred e
   server-port e t k =
       let n = row-number (st .rows) e t in
-      let o = server-object (st .processes) (rowOf (st .rows) e) (row-object st s e t) k in omega arith
+      let o = server-object (st .processes) (rowOf (st .rows) e) (row-object st (s .rows) e t) k in omega arith
 
   pub client-port : (e : ℕ) → member e (numbers (st .rows)) ≡ true → isClient (rowOf (st .rows) e .kind) ≡ true → rowOf (st .rows) e .object ≡ e
-  client-port e t k = client-object (st .processes) (rowOf (st .rows) e) (row-object st s e t) k ∙ row-number (st .rows) e t
+  client-port e t k = client-object (st .processes) (rowOf (st .rows) e) (row-object st (s .rows) e t) k ∙ row-number (st .rows) e t
 
   -- the port of an end has a number: a client end's is its own, a server end's that of its other end
   end-port-low : (e : ℕ) → member e (numbers (st .rows)) ≡ true → isEnd (rowOf (st .rows) e .kind) ≡ true → 0 < rowOf (st .rows) e .object
@@ -72,13 +72,13 @@ module _ (st : State) (s : Sound st) where
       r = rowOf (st .rows) e
 
       client : isClient (r .kind) ≡ true → 0 < r .object
-      client c = let z = client-port e t c in let (lo, hi) = row-below st s e t in omega arith
+      client c = let z = client-port e t c in let (lo, hi) = row-below st (s .numbers) e t in omega arith
 
       server : isServer (r .kind) ≡ true → 0 < r .object
       server c =
           let z : r .object ≡ pred e = server-port e t c in
           let n : r .number ≡ e = row-number (st .rows) e t in
-          let (lo, hi) = row-below st s (otherEnd r) (end-there (st .rows) (otherEnd r) (unfold isPairedWith in and-l (isEnd (rowOf (st .rows) (otherEnd r) .kind)) _ (paired-at st s e t k))) in
+          let (lo, hi) = row-below st (s .numbers) (otherEnd r) (end-there (st .rows) (otherEnd r) (unfold isPairedWith in and-l (isEnd (rowOf (st .rows) (otherEnd r) .kind)) _ (paired-at st (s .rows) e t k))) in
           let o : otherEnd r ≡ pred (r .number) = server-other r c in
           omega arith
 

@@ -81,7 +81,8 @@ module _ (h : History) (r : Noted) where
   unfolding spoiled
   whole-port e p = none-closed (r .port) _ p (or-fr (some (r .request) && member (r .request) (h .closedRequests)) _ (or-fr (member (r .number) (h .dropped)) _ e))
 
-  pub make-whole : member (r .number) (h .dropped) ≡ false → (0 < r .request → member (r .request) (h .closedRequests) ≡ false) → (0 < r .port → member (r .port) (h .closedPorts) ≡ false) → spoiled h r ≡ false
+  pub make-whole : member (r .number) (h .dropped) ≡ false → (0 < r .request → member (r .request) (h .closedRequests) ≡ false)
+      → (0 < r .port → member (r .port) (h .closedPorts) ≡ false) → spoiled h r ≡ false
   unfolding spoiled
   make-whole d q p = rw (d, closed-none (r .request) _ q) (closed-none (r .port) _ p)
 

@@ -84,13 +84,13 @@ module _ (st : State) (s : Sound st) (n : ℕ) (e : isNode (rowOf (st .rows) n .
   unfolding closing
   closing-stays seed qs h =
       left-keys (marked seed (st .rows)) (closes qs (marked seed (st .rows))) st n ∙ ap (λ b. b && not (member n (marked seed (st .rows)))) t
-      ∙ ap not (nodes-stay st s seed h n e)
+      ∙ ap not (nodes-stay st (s .numbers) (s .rows) seed h n e)
 
   request-stays : (q : ℕ) → some q ≡ true → member n (numbers (closeRequest q st .rows)) ≡ true
   unfolding closeRequest bears
   request-stays q z =
       closing-stays (bears q) (q ∷ [])
-      (λ k u f. ne-eqb (rowOf (st .rows) k .request) q (λ w. let b = node-bears-none (st .requests) (st .rows) (rowOf (st .rows) k) (standing-shape st s k u) f in let l = some-pos q z in omega arith))
+      (λ k u f. ne-eqb (rowOf (st .rows) k .request) q (λ w. let b = node-bears-none (st .requests) (st .rows) (rowOf (st .rows) k) (standing-shape st (s .numbers) (s .rows) k u) f in let l = some-pos q z in omega arith))
 
   port-stays : (c : ℕ) → member n (numbers (closePort c st .rows)) ≡ true
   unfolding closePort isEndOf
@@ -144,4 +144,7 @@ pub rights-never-grow : (t p text : List ℕ) → accepts (openEntry t p text .r
     member n (numbers rows) ≡ true → isEnd (rowOf rows n .kind) ≡ false → some (rowOf rows n .source) ≡ true
     → (member (rowOf rows n .source) (numbers rows) ≡ true) × (within (rowOf rows n .rights) (rowOf rows (rowOf rows n .source) .rights) ≡ true)
 unfolding stateIn
-rights-never-grow t p text a lines n = rights-within _ (words-sound _ _ (kept .session-sound t p text a lines)) n
+rights-never-grow t p text a lines n =
+    let w = lentAfter (openEntry t p text) lines in
+    let s : Sound (stateIn w) = words-sound _ _ (kept .session-sound t p text a lines) in
+    rights-within (stateIn w) (s .numbers) (s .rows) n

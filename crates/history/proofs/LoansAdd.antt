@@ -55,7 +55,7 @@ module _ (rs rs′ : List Row) (same : (e : ℕ) → member e (numbers rs) ≡ t
 -- new rows before the old ones
 rows-more : (st : State) → Sound st → (new : List Row) → all (λ r. leb (st .next) (r .number)) new ≡ true → loansIn (new ++ st .rows) (st .requests) ≡ loansIn (st .rows) (st .requests)
 rows-more st s new a =
-    kinds-same (st .rows) (new ++ st .rows) (λ e t. ap (λ r. r .kind) (row-before (st .next) (st .rows) new a e (row-below st s e t .1))) (st .requests) (s .loans .items-lent)
+    kinds-same (st .rows) (new ++ st .rows) (λ e t. ap (λ r. r .kind) (row-before (st .next) (st .rows) new a e (row-below st (s .numbers) e t .1))) (st .requests) (s .loans .items-lent)
 
 one-new : (st : State) (r : Row) → r .number ≡ st .next → all (λ r. leb (st .next) (r .number)) (r ∷ []) ≡ true
 unfolding all

@@ -73,7 +73,7 @@ module _ (st : State) (s : Sound st) (c v : ℕ) (x : Item) (l : Lending) (es : 
   lent-end : moves st x ≡ true → Lent st (lendEnd x l) (es ++ (x .row ∷ []))
   unfolding lendEnd moves itemRow nonzero
   lent-end m =
-      let (lo, hi) = row-below st s (x .row) t in
+      let (lo, hi) = row-below st (s .numbers) (x .row) t in
       let same = system-kind (x .row) lo (l .rows) in
       let more = j .more in
       let end : isEnd (rowOf (l .rows) (x .row) .kind) ≡ true = ap isEnd (j .old (x .row) hi) ∙ m in
@@ -146,7 +146,7 @@ module _ (h : History) (st : State) (i : Inv h st) (l : Lends h st) (s : Sound s
   asked-loans p c xs e =
       let m = lendItems st c (st .next) xs (record { rows = st .rows; items = []; next = suc (st .next) }) in
       let j : Lent st m (map (λ x. x .row) (filter (moves st) xs)) = lent-all st s p c (st .next) xs e (record { rows = st .rows; items = []; next = suc (st .next) }) [] (begun) in
-      rw (nonzero-pad mostItems (m .items), j .ends, named-ends p xs e, kinds-same (st .rows) (m .rows) (λ k t. j .old k (row-below st s k t .1)) (st .requests) (s .loans .items-lent), l .lends) refl
+      rw (nonzero-pad mostItems (m .items), j .ends, named-ends p xs e, kinds-same (st .rows) (m .rows) (λ k t. j .old k (row-below st (s .numbers) k t .1)) (st .requests) (s .loans .items-lent), l .lends) refl
     where
       begun : Lent st (record { rows = st .rows; items = []; next = suc (st .next) }) []
       begun = record { more = omega arith; old = λ k lt. refl; low = unfold all in refl; ends = unfold nonzero filter in refl }

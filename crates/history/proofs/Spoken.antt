@@ -77,7 +77,7 @@ unfolding nextInRange
 request-ranged st s =
     let (lo, hi) = between-range 1 (suc greatestNumber) (st .next) (s .numbers .next-in-range) in
     all-mono (λ v. ltb (v .number) (st .next)) (λ v. leb (v .number) greatestNumber)
-    (λ v e. let lt = ltb-true (v .number) (st .next) e in le-leb (v .number) greatestNumber (omega arith)) (st .requests) (requests-below st s)
+    (λ v e. let lt = ltb-true (v .number) (st .next) e in le-leb (v .number) greatestNumber (omega arith)) (st .requests) (requests-below st (s .numbers))
 
 -- also where none is found
 open-ranged : (m : ℕ) (vs : List Request) (c : ℕ) → all (λ v. leb (v .number) m) vs ≡ true → leb (openOn vs c .number) m ≡ true

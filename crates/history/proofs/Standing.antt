@@ -86,7 +86,8 @@ module _ (h : History) (fit : Fit h) where
   falls-by : (n : ℕ) → IsNoted h n → stands h n ≡ false → (spoiled h (notedOf (h .rows) n) ≡ true) ⊎ Fails (stands h) (notedOf (h .rows) n .sources)
   falls-by n t z = pick (spoiled h (notedOf (h .rows) n)) refl (sym (stands-eq h fit n t) ∙ z)
     where
-      pick : (b : Bool) → spoiled h (notedOf (h .rows) n) ≡ b → not b && all (stands h) (notedOf (h .rows) n .sources) ≡ false → (spoiled h (notedOf (h .rows) n) ≡ true) ⊎ Fails (stands h) (notedOf (h .rows) n .sources)
+      pick : (b : Bool) → spoiled h (notedOf (h .rows) n) ≡ b → not b && all (stands h) (notedOf (h .rows) n .sources) ≡ false
+          → (spoiled h (notedOf (h .rows) n) ≡ true) ⊎ Fails (stands h) (notedOf (h .rows) n .sources)
       pick true q z = inl q
       pick false q z = inr (some-fails (stands h) (notedOf (h .rows) n .sources) z)
 

@@ -110,7 +110,7 @@ module _ (h : History) (st : State) (i : Inv h st) (s : Sound st) where
       let end : isEnd (rowOf (st .rows) e .kind) ≡ false = node-no-end st s e t (a .node) in
       add-plain h st _ (heldSources h p e) i
       (view-copy (rowOf (st .rows) e) (st .next) _ _ e (processAt (st .processes) p .through) _ 0 end
-      ∙ ap (λ k. newNoted (st .next) k 0 0) (ap (λ k. nonzero (e ∷ k ∷ [])) (i .through p (a .caller)) ∙ held-sources h p e (row-below st s e t .0)))
+      ∙ ap (λ k. newNoted (st .next) k 0 0) (ap (λ k. nonzero (e ∷ k ∷ [])) (i .through p (a .caller)) ∙ held-sources h p e (row-below st (s .numbers) e t .0)))
       (sources-some h p e) (sources-stand h p e (row-stands h st i e t))
 
   -- ---- register
@@ -127,7 +127,7 @@ module _ (h : History) (st : State) (i : Inv h st) (s : Sound st) where
       let a = rowOf (st .rows) e .source in
       let t = r .row .there in
       let up : member a (numbers (st .rows)) ≡ true = held-source p e r in
-      let lo : 0 < a = row-below st s a up .0 in
+      let lo : 0 < a = row-below st (s .numbers) a up .0 in
       let ss : firstOnly (notedOf (h .rows) e .sources) ≡ a ∷ [] = first-source e t lo in
       rw ss (add-plain h st _ (a ∷ []) i (view-copy (rowOf (st .rows) e) (st .next) _ _ a 0 _ 0 (r .no-end) ∙ ap (λ k. newNoted (st .next) k 0 0) (one-source a lo))
       (unfold isEmpty in refl) (one-stands h a (row-stands h st i a up)))
@@ -138,7 +138,7 @@ module _ (h : History) (st : State) (i : Inv h st) (s : Sound st) where
   port-inv p e t =
       let n = st .next in
       let d = portDepth st e in
-      let lo : 0 < e = row-below st s e t .0 in
+      let lo : 0 < e = row-below st (s .numbers) e t .0 in
       let up : stands h e ≡ true = row-stands h st i e t in
       let cn : some n && member n (h .closedPorts) ≡ false = and-rf (some n) (member n (h .closedPorts)) (not-below n (h .closedPorts) (i .ports-below)) in
       let client = portEnd clientEnd n n (inClist p) e d in

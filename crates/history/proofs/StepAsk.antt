@@ -180,7 +180,7 @@ module _ (h : History) (st : State) (i : Inv h st) (s : Sound st) (p c : ℕ) (e
       and-rf (some (st .next)) (member (st .next) (h .closedRequests)) (not-below (st .next) (h .closedRequests) (i .closed-below)) in
       let v : view (copyLent st c (st .next) (l .next) x) ≡ newNoted (l .next) (a ∷ c ∷ []) (st .next) 0 =
       view-copy (itemRow st x) (l .next) (x .rights) withSystem a c (copyDepth st c x) (st .next) end
-      ∙ ap (λ ss. newNoted (l .next) ss (st .next) 0) (two-sources a c (row-below st s a t .0) (row-below st s c there .0)) in
+      ∙ ap (λ ss. newNoted (l .next) ss (st .next) 0) (two-sources a c (row-below st (s .numbers) a t .0) (row-below st (s .numbers) c there .0)) in
       record {
         inv =
             seen-inv (noting (newNoted (l .next) (a ∷ c ∷ []) (st .next) 0 ∷ rs) (loanBy st p c es) os h)
@@ -217,7 +217,7 @@ module _ (h : History) (st : State) (i : Inv h st) (s : Sound st) where
   unfolding portNoted
   port-there p c es t k =
       let n : notedOf (h .rows) c .port ≡ c = ap (λ r. r .port) (row-noted h st i c (row-stands h st i c t)) ∙ client-view (rowOf (st .rows) c) k ∙ client-port st s c t k in
-      and-i (some c) (eqb (notedOf (h .rows) c .port) c) (pos-some c (row-below st s c t .0)) (eq-eqb (notedOf (h .rows) c .port) c n)
+      and-i (some c) (eqb (notedOf (h .rows) c .port) c) (pos-some c (row-below st (s .numbers) c t .0)) (eq-eqb (notedOf (h .rows) c .port) c n)
     where
       client-view : (r : Row) → isClient (r .kind) ≡ true → view r .port ≡ r .object
       client-view r k = unfold view isEnd in rw k refl

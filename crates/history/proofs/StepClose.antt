@@ -78,7 +78,7 @@ module _ (st : State) (s : Sound st) where
   found-range key n e =
       let v = firstWith key noRequest (st .requests) n in
       let r : some (v .number) && ltb (v .number) (st .next) ≡ true =
-      all-first key noRequest (λ v. some (v .number) && ltb (v .number) (st .next)) (st .requests) n (requests-between st s) (found-there key n e) in
+      all-first key noRequest (λ v. some (v .number) && ltb (v .number) (st .next)) (st .requests) n (requests-between st (s .numbers)) (found-there key n e) in
       (some-pos (v .number) (and-l (some (v .number)) _ r), ltb-true (v .number) (st .next) (and-r (some (v .number)) _ r))
 
   pub request-range : (q : ℕ) → eqb (requestOf (st .requests) q .number) 0 ≡ false → (0 < q) × (q < st .next)

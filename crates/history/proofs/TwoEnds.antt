@@ -59,7 +59,8 @@ module _ {A : Type 0} (key : A → ℕ) (none : A) where
 
       pick : (member a (map key xs) ≡ true → member b (map key xs) ≡ true → filter (λ x. eqb (key x) a || eqb (key x) b) xs ≡ firstWith key none xs b ∷ firstWith key none xs a ∷ [])
           → (c : Bool) → eqb (key x) a ≡ c → (d : Bool) → eqb (key x) b ≡ d
-          → cond (c || d) (x ∷ filter (λ x. eqb (key x) a || eqb (key x) b) xs) (filter (λ x. eqb (key x) a || eqb (key x) b) xs) ≡ cond d x (firstWith key none xs b) ∷ cond c x (firstWith key none xs a) ∷ []
+          → cond (c || d) (x ∷ filter (λ x. eqb (key x) a || eqb (key x) b) xs) (filter (λ x. eqb (key x) a || eqb (key x) b) xs)
+          ≡ cond d x (firstWith key none xs b) ∷ cond c x (firstWith key none xs a) ∷ []
       pick ih true q d r =
           let z = eqb-true (key x) a q in
           let ne : eqb (key x) b ≡ false = ne-eqb (key x) b (λ w. omega arith) in
@@ -80,14 +81,15 @@ end-of ps r o k = ⊎-elim (λ c. client-end c (client-object ps r o c)) (λ c. 
 -- ---- both ends
 module _ (st : State) (s : Sound st) where
   end-of-row : (n : ℕ) → member n (numbers (st .rows)) ≡ true → isEnd (rowOf (st .rows) n .kind) ≡ true → EndOf (rowOf (st .rows) n)
-  end-of-row n t k = end-of (st .processes) (rowOf (st .rows) n) (row-object st s n t) k
+  end-of-row n t k = end-of (st .processes) (rowOf (st .rows) n) (row-object st (s .rows) n t) k
 
   -- an end is with a process or the system
   end-held : (n : ℕ) → member n (numbers (st .rows)) ≡ true → isEnd (rowOf (st .rows) n .kind) ≡ true → isClist (rowOf (st .rows) n .place) || isSystem (rowOf (st .rows) n .place) ≡ true
   unfolding rowOf numbers placesInRange placeInRange
   end-held n t k =
       let r = rowOf (st .rows) n in
-      pick (isNode (r .place)) (end-at st s n t k .no-node) (isClist (r .place)) (isListed (st .processes) (ownerOf (r .place))) (isSystem (r .place)) (all-first (λ r. r .number) noRow (placeInRange (st .processes)) (st .rows) n (s .rows .places-in-range) t)
+      pick (isNode (r .place)) (end-at st s n t k .no-node) (isClist (r .place)) (isListed (st .processes) (ownerOf (r .place))) (isSystem (r .place))
+      (all-first (λ r. r .number) noRow (placeInRange (st .processes)) (st .rows) n (s .rows .places-in-range) t)
     where
       pick : (a : Bool) → a ≡ false → (b c d : Bool) → a || ((b && c) || d) ≡ true → b || d ≡ true
       pick true z b c d e = clash refl z
@@ -104,12 +106,15 @@ module _ (st : State) (s : Sound st) where
 
     server-kind : isEnd (rowOf (st .rows) (suc c) .kind) ≡ true
     unfolding isPairedWith
-    server-kind = and-l (isEnd (rowOf (st .rows) (suc c) .kind)) (eqb (rowOf (st .rows) c .object) (rowOf (st .rows) (suc c) .object) && eqb (rowOf (st .rows) c .source) (rowOf (st .rows) (suc c) .source)) (client-paired st s c client)
+    server-kind =
+        and-l (isEnd (rowOf (st .rows) (suc c) .kind))
+        (eqb (rowOf (st .rows) c .object) (rowOf (st .rows) (suc c) .object) && eqb (rowOf (st .rows) c .source) (rowOf (st .rows) (suc c) .source)) (client-paired st (s .rows) c client)
 
     server-port : rowOf (st .rows) (suc c) .object ≡ c
     unfolding isPairedWith
     server-port =
-        let h = and-r (isEnd (rowOf (st .rows) (suc c) .kind)) (eqb (rowOf (st .rows) c .object) (rowOf (st .rows) (suc c) .object) && eqb (rowOf (st .rows) c .source) (rowOf (st .rows) (suc c) .source)) (client-paired st s c client) in
+        let h = and-r (isEnd (rowOf (st .rows) (suc c) .kind))
+        (eqb (rowOf (st .rows) c .object) (rowOf (st .rows) (suc c) .object) && eqb (rowOf (st .rows) c .source) (rowOf (st .rows) (suc c) .source)) (client-paired st (s .rows) c client) in
         sym (eqb-true (rowOf (st .rows) c .object) (rowOf (st .rows) (suc c) .object) (and-l _ (eqb (rowOf (st .rows) c .source) (rowOf (st .rows) (suc c) .source)) h)) ∙ o
 
     server-there : member (suc c) (numbers (st .rows)) ≡ true
@@ -128,16 +133,20 @@ module _ (st : State) (s : Sound st) where
     is-end-of n u = bool-eq _ _ there back
       where
         there : isEnd (rowOf (st .rows) n .kind) && eqb (rowOf (st .rows) n .object) c ≡ true → eqb (rowOf (st .rows) n .number) c || eqb (rowOf (st .rows) n .number) (suc c) ≡ true
-        there h = pick (end-of-row n u (and-l (isEnd (rowOf (st .rows) n .kind)) (eqb (rowOf (st .rows) n .object) c) h)) (eqb-true (rowOf (st .rows) n .object) c (and-r (isEnd (rowOf (st .rows) n .kind)) (eqb (rowOf (st .rows) n .object) c) h))
+        there h =
+            pick (end-of-row n u (and-l (isEnd (rowOf (st .rows) n .kind)) (eqb (rowOf (st .rows) n .object) c) h))
+            (eqb-true (rowOf (st .rows) n .object) c (and-r (isEnd (rowOf (st .rows) n .kind)) (eqb (rowOf (st .rows) n .object) c) h))
           where
             pick : EndOf (rowOf (st .rows) n) → rowOf (st .rows) n .object ≡ c → eqb (rowOf (st .rows) n .number) c || eqb (rowOf (st .rows) n .number) (suc c) ≡ true
             pick (client-end h e) z = or-l _ (eqb (rowOf (st .rows) n .number) (suc c)) (eq-eqb (rowOf (st .rows) n .number) c (sym e ∙ z))
             pick (server-end h e) z = or-r (eqb (rowOf (st .rows) n .number) c) _ (eq-eqb (rowOf (st .rows) n .number) (suc c) (sym e ∙ ap suc z))
 
-        at : (m : ℕ) → isEnd (rowOf (st .rows) m .kind) ≡ true → rowOf (st .rows) m .object ≡ c → rowOf (st .rows) n .number ≡ m → isEnd (rowOf (st .rows) n .kind) && eqb (rowOf (st .rows) n .object) c ≡ true
+        at : (m : ℕ) → isEnd (rowOf (st .rows) m .kind) ≡ true → rowOf (st .rows) m .object ≡ c → rowOf (st .rows) n .number ≡ m
+            → isEnd (rowOf (st .rows) n .kind) && eqb (rowOf (st .rows) n .object) c ≡ true
         at m h z e =
             let q : n ≡ m = sym (row-number (st .rows) n u) ∙ e in
-            and-i (isEnd (rowOf (st .rows) n .kind)) (eqb (rowOf (st .rows) n .object) c) (ap (λ x. isEnd (rowOf (st .rows) x .kind)) q ∙ h) (eq-eqb (rowOf (st .rows) n .object) c (ap (λ x. rowOf (st .rows) x .object) q ∙ z))
+            and-i (isEnd (rowOf (st .rows) n .kind)) (eqb (rowOf (st .rows) n .object) c) (ap (λ x. isEnd (rowOf (st .rows) x .kind)) q ∙ h)
+            (eq-eqb (rowOf (st .rows) n .object) c (ap (λ x. rowOf (st .rows) x .object) q ∙ z))
 
         back : eqb (rowOf (st .rows) n .number) c || eqb (rowOf (st .rows) n .number) (suc c) ≡ true → isEnd (rowOf (st .rows) n .kind) && eqb (rowOf (st .rows) n .object) c ≡ true
         back h =
@@ -147,7 +156,8 @@ module _ (st : State) (s : Sound st) where
     ends-are : endsOf c (st .rows) ≡ rowOf (st .rows) (suc c) ∷ rowOf (st .rows) c ∷ []
     unfolding endsOf rowOf numbers rowsRise
     ends-are =
-        filter-agree _ _ (st .rows) (agree-found (λ r. r .number) noRow (λ r. isEnd (r .kind) && eqb (r .object) c) (λ r. eqb (r .number) c || eqb (r .number) (suc c)) (st .rows) (s .numbers .rows-rise) is-end-of)
+        filter-agree _ _ (st .rows)
+        (agree-found (λ r. r .number) noRow (λ r. isEnd (r .kind) && eqb (r .object) c) (λ r. eqb (r .number) c || eqb (r .number) (suc c)) (st .rows) (s .numbers .rows-rise) is-end-of)
         ∙ pick-two (λ r. r .number) noRow (st .rows) c (suc c) (omega arith) (s .numbers .rows-rise) t server-there
 
     pub two-ends : TwoEnds (st .rows) c

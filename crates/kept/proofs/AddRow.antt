@@ -9,36 +9,32 @@ use borrow.Author.Tests.{eq-eqb, ne-eqb, ltb-true, ltb-false, lt-ltb, leb-true, 
 use native.Mathlib.Omega.{arith}
 use Rattle.rows.specs.declared.Row.{Row}
 use Rattle.rows.specs.declared.Request.{Request}
-use Rattle.rows.specs.Lists.{all, each, topOf, rises, firstWith, member, between, some, nonzero}
+use Rattle.rows.specs.Lists.{all, topOf, rises, firstWith, member, between, some, nonzero}
 use Rattle.rows.specs.Limits.{greatestNumber, rowSlots}
-use Rattle.rows.specs.Codes.{clientEnd, serverEnd, isClient, isServer, isEnd, isSystem}
+use Rattle.rows.specs.Codes.{clientEnd, serverEnd, isSubdirectory, isClient, isServer, isEnd, inClist, isSystem}
 use Rattle.rows.specs.Tables.{State, noRow, rowOf, numbers, lists}
-use Rattle.rows.specs.Sound.{rowsRise, requestsRise, numbersApart, belowNext, nextInRange, rowsFit, requestsFit, recordsFit, objectInRange, objectsInRange, rightInRange, rightsInRange, placeInRange, placesInRange, fetchedInRange, sourceRight, sourcesRight, depthRight, depthsRight, copyMatches, copiesMatch, recordsInRange, isPairedWith, otherEnd, endPaired, endsPaired, portStands, portsStand, requestersListed, itemsFew, itemsApart, mayBeListed, itemsLent, onePerPort, copyListed, copiesListed, olderFetched, awaitsFetch, same, systemHolds, processesPlaced, isFetched, hasRightSources, hasRightDepth, matchesSource}
+use Rattle.rows.specs.Sound.{rowsRise, numbersApart, belowNext, nextInRange, rowsFit, objectInRange, objectsInRange, rightInRange, rightsInRange, placeInRange, placesInRange, sourceRight, sourcesRight, depthRight, depthsRight, copyMatches, copiesMatch, isPairedWith, otherEnd, endPaired, endsPaired, portStands, portsStand, mayBeListed, itemsLent, copyListed, copiesListed, awaitsFetch, same, systemHolds, isFetched, hasRightSources, hasRightDepth, matchesSource}
 use Rattle.rows.proofs.Bools.{false-of, clash, and-l, and-r, and-i, not-t, or-l, or-map, all-mono, all-and, all-at, or-r}
 use Rattle.rows.proofs.Keyed.{rises-cons}
-use Rattle.tables.proofs.Sound.{Sound}
+use Rattle.tables.proofs.Sound.{Numbers, RowsSound, LoansSound, HoldersSound, ProcessesSound, Sound}
 use Rattle.rows.proofs.Lists.{all-append, member-nonzero}
 use Rattle.rows.proofs.RowSources.{row-there, subdirectory-there}
 use Rattle.rows.proofs.Places.{no-row-listed}
-use Rattle.tables.proofs.SoundFacts.{same-eq, rows-top, row-below, requests-below, requests-top, next-some, placed-still}
+use Rattle.tables.proofs.SoundFacts.{same-eq, rows-top, row-below, requests-below, requests-top, next-some, SamePlace, same-place, placed-still}
 use Rattle.tables.proofs.Awaits.{awaits-none}
 use Rattle.kept.proofs.Sourced.{sourced-cons}
 use Rattle.calls.specs.Rules.{rowsFull, numbersSpent, withNewRows}
 
 -- ---- what a request lists
 -- what is no row is in no request's list
-pub none-lists : (st : State) → Sound st → (e : ℕ) → member e (numbers (st .rows)) ≡ false → all (λ v. not (lists e v)) (st .requests) ≡ true
+pub none-lists : (rows : List Row) (vs : List Request) → itemsLent rows vs ≡ true → (e : ℕ) → member e (numbers rows) ≡ false → all (λ v. not (lists e v)) vs ≡ true
 unfolding itemsLent lists
-none-lists st s e f =
-    all-mono (λ v. all (λ e. mayBeListed v (rowOf (st .rows) e)) (nonzero (v .items))) (λ v. not (some e && member e (v .items))) listed (st .requests) (s .loans .items-lent)
+none-lists rows vs lent e f = all-mono (λ v. all (λ e. mayBeListed v (rowOf rows e)) (nonzero (v .items))) (λ v. not (some e && member e (v .items))) listed vs lent
   where
-    listed : (v : Request) → all (λ e. mayBeListed v (rowOf (st .rows) e)) (nonzero (v .items)) ≡ true → not (some e && member e (v .items)) ≡ true
+    listed : (v : Request) → all (λ e. mayBeListed v (rowOf rows e)) (nonzero (v .items)) ≡ true → not (some e && member e (v .items)) ≡ true
     listed v a =
         ap not (false-of (some e && member e (v .items)) (λ t.
-        clash
-        (row-there (mayBeListed v) (no-row-listed v) (st .rows) e
-        (all-at (λ e. mayBeListed v (rowOf (st .rows) e)) (nonzero (v .items)) a e (member-nonzero (v .items) e ∙ t)))
-        f))
+        clash (row-there (mayBeListed v) (no-row-listed v) rows e (all-at (λ e. mayBeListed v (rowOf rows e)) (nonzero (v .items)) a e (member-nonzero (v .items) e ∙ t))) f))
 
 -- ---- look-up among new and old rows: rows with numbers from b on stand before rs
 module _ (b : ℕ) (rs : List Row) where
@@ -57,7 +53,7 @@ module _ (b : ℕ) (rs : List Row) where
       rw (ne-eqb n (r .number) (λ q. omega arith)) (number-before new (and-r (leb b (r .number)) (all (λ r. leb b (r .number)) new) a) n h)
 
 -- a test that noRow fails and that an old row passes
-found-before : (st : State) → Sound st → (new : List Row) → all (λ r. leb (st .next) (r .number)) new ≡ true
+found-before : (st : State) → Numbers (st .next) (st .rows) (st .requests) → (new : List Row) → all (λ r. leb (st .next) (r .number)) new ≡ true
     → (P : Row → Bool) → P noRow ≡ false → (n : ℕ) → P (rowOf (st .rows) n) ≡ true → P (rowOf (new ++ st .rows) n) ≡ true
 found-before st s new a P z n t =
     let (lo, hi) = row-below st s n (row-there P z (st .rows) n t) in
@@ -98,7 +94,7 @@ unfolding rowsRise nextInRange between rowsFit all
 added-none st s =
     record {
       rise = s .numbers .rows-rise;
-      below = rows-top st s;
+      below = rows-top st (s .numbers);
       later = omega arith;
       counted = leb-true (st .next) (suc greatestNumber) (and-r (leb 1 (st .next)) (leb (st .next) (suc greatestNumber)) (s .numbers .next-in-range));
       fit = leb-true (length (st .rows)) rowSlots (s .numbers .rows-fit);
@@ -137,102 +133,115 @@ added-one st new n r c f w a =
       unborne = and-i (eqb (r .request) 0) (all (λ r. eqb (r .request) 0) new) (eq-eqb (r .request) 0 (w .unborne)) (a .unborne);
     }
 
--- ---- the clauses on old rows, requests and processes
-module _ (st : State) (s : Sound st) (new : List Row) (a : all (λ r. leb (st .next) (r .number)) new ≡ true) where
-  apart-kept : all (λ v. not (member (v .number) (numbers (new ++ st .rows)))) (st .requests) ≡ true
-  unfolding numbersApart
-  apart-kept =
-      all-and {A = Request} (λ v. ltb (v .number) (st .next)) (λ v. not (member (v .number) (numbers (st .rows)))) (λ v. not (member (v .number) (numbers (new ++ st .rows))))
-      (λ v b t. rw (number-before (st .next) (st .rows) new a (v .number) (ltb-true (v .number) (st .next) b)) t)
-      (st .requests) (requests-below st s) (s .numbers .numbers-apart)
+-- ---- the parts, with the new rows
+module _ (st : State) (s : Sound st) (new : List Row) (n : ℕ) (a : Added st new n) where
+  abbrev rows : List Row
+  rows = new ++ st .rows
 
-  pair-kept : (r : Row) → endPaired (st .rows) r ≡ true → endPaired (new ++ st .rows) r ≡ true
-  unfolding endPaired isPairedWith isEnd isClient isServer clientEnd serverEnd noRow
-  pair-kept r t = or-map (not (isEnd (r .kind))) _ _ (λ q. found-before st s new a (isPairedWith r) refl (otherEnd r) q) t
+  -- a test that noRow fails and that an old row passes
+  still : (P : Row → Bool) → P noRow ≡ false → (n : ℕ) → P (rowOf (st .rows) n) ≡ true → P (rowOf rows n) ≡ true
+  still = found-before st (s .numbers) new (a .new-numbers)
 
-  port-stands-kept : (v : Request) → portStands (st .rows) v ≡ true → portStands (new ++ st .rows) v ≡ true
-  unfolding portStands isClient clientEnd noRow
-  port-stands-kept v t =
-      and-i (isClient (rowOf (new ++ st .rows) (v .port) .kind)) (ltb (suc (v .port)) (v .number))
-      (found-before st s new a (λ r. isClient (r .kind)) refl (v .port) (and-l (isClient (rowOf (st .rows) (v .port) .kind)) (ltb (suc (v .port)) (v .number)) t))
-      (and-r (isClient (rowOf (st .rows) (v .port) .kind)) (ltb (suc (v .port)) (v .number)) t)
+  numbers-added : Numbers n rows (st .requests)
+  unfolding rowsRise numbersApart belowNext nextInRange between rowsFit
+  numbers-added =
+      let later : st .next ≤ n = a .later in
+      let requests : topOf (λ v. v .number) (st .requests) < st .next = requests-top st (s .numbers) in
+      let some : 0 < st .next = next-some st (s .numbers) in
+      record {
+        rows-rise = a .rise;
+        requests-rise = s .numbers .requests-rise;
+        numbers-apart =
+            all-and {A = Request} (λ v. ltb (v .number) (st .next)) (λ v. not (member (v .number) (numbers (st .rows)))) (λ v. not (member (v .number) (numbers rows)))
+            (λ v b t. rw (number-before (st .next) (st .rows) new (a .new-numbers) (v .number) (ltb-true (v .number) (st .next) b)) t)
+            (st .requests) (requests-below st (s .numbers)) (s .numbers .numbers-apart);
+        below-next =
+            and-i (ltb (topOf (λ r. r .number) rows) n) (ltb (topOf (λ v. v .number) (st .requests)) n) (lt-ltb (topOf (λ r. r .number) rows) n (a .below))
+            (lt-ltb (topOf (λ v. v .number) (st .requests)) n (omega arith));
+        next-in-range = and-i (leb 1 n) (leb n (suc greatestNumber)) (le-leb 1 n (omega arith)) (le-leb n (suc greatestNumber) (a .counted));
+        rows-fit = le-leb (length rows) rowSlots (a .fit);
+        requests-fit = s .numbers .requests-fit;
+      }
 
-  items-kept : (v : Request) → all (λ e. mayBeListed v (rowOf (st .rows) e)) (nonzero (v .items)) ≡ true → all (λ e. mayBeListed v (rowOf (new ++ st .rows) e)) (nonzero (v .items)) ≡ true
-  items-kept v t =
-      all-mono (λ e. mayBeListed v (rowOf (st .rows) e)) (λ e. mayBeListed v (rowOf (new ++ st .rows) e)) (λ e q. found-before st s new a (mayBeListed v) (no-row-listed v) e q) (nonzero (v .items)) t
+  rows-added : all (endPaired rows) new ≡ true → RowsSound rows (st .requests) (st .processes)
+  unfolding objectsInRange rightsInRange placesInRange endsPaired
+  rows-added paired =
+      record {
+        objects-in-range = all-append (objectInRange (st .processes)) new (st .rows) (a .objects) (s .rows .objects-in-range);
+        rights-in-range = all-append rightInRange new (st .rows) (a .rights) (s .rows .rights-in-range);
+        places-in-range = all-append (placeInRange (st .processes)) new (st .rows) (a .places) (s .rows .places-in-range);
+        sources-right = a .sources;
+        depths-right = a .depths;
+        copies-match = a .copies;
+        ends-paired = all-append (endPaired rows) new (st .rows) paired (all-mono (endPaired (st .rows)) (endPaired rows) pair-kept (st .rows) (s .rows .ends-paired));
+      }
+    where
+      no-pair : (r : Row) → isPairedWith r noRow ≡ false
+      no-pair r = unfold isPairedWith isEnd isClient isServer clientEnd serverEnd noRow in refl
 
-  -- no request lists a new row
-  new-unlisted : (e : ℕ) → st .next ≤ e → awaitsFetch (st .requests) e ≡ false
-  new-unlisted e h =
-      awaits-none e (st .requests) (all-mono (λ v. not (lists e v)) (λ v. isFetched v || not (lists e v)) (λ v n. or-r (isFetched v) (not (lists e v)) n) (st .requests) (none-lists st s e (false-of (member e (numbers (st .rows))) (λ t. let (lo, hi) = row-below st s e t in omega arith))))
+      pair-kept : (r : Row) → endPaired (st .rows) r ≡ true → endPaired rows r ≡ true
+      pair-kept r t = unfold endPaired in or-map (not (isEnd (r .kind))) _ _ (λ q. still (isPairedWith r) (no-pair r) (otherEnd r) q) t
 
-  new-away : all (λ r. not (isSystem (r .place))) new ≡ true → all (λ r. same (isSystem (r .place)) (awaitsFetch (st .requests) (r .number))) new ≡ true
-  new-away w =
-      all-and {A = Row} (λ r. leb (st .next) (r .number)) (λ r. not (isSystem (r .place))) (λ r. same (isSystem (r .place)) (awaitsFetch (st .requests) (r .number)))
-      (λ r h t. same-eq (isSystem (r .place)) (awaitsFetch (st .requests) (r .number)) (not-t (isSystem (r .place)) t ∙ sym (new-unlisted (r .number) (leb-true (st .next) (r .number) h))))
-      new a w
+  loans-added : LoansSound rows (st .requests) (st .processes)
+  unfolding portsStand portStands itemsLent copiesListed copyListed isClient clientEnd noRow
+  loans-added =
+      record {
+        fetched-in-range = s .loans .fetched-in-range;
+        ports-stand =
+            all-mono (portStands (st .rows)) (portStands rows)
+            (λ v t.
+            and-i (isClient (rowOf rows (v .port) .kind)) (ltb (suc (v .port)) (v .number))
+            (still (λ r. isClient (r .kind)) refl (v .port) (and-l (isClient (rowOf (st .rows) (v .port) .kind)) (ltb (suc (v .port)) (v .number)) t))
+            (and-r (isClient (rowOf (st .rows) (v .port) .kind)) (ltb (suc (v .port)) (v .number)) t))
+            (st .requests) (s .loans .ports-stand);
+        requesters-listed = s .loans .requesters-listed;
+        items-few = s .loans .items-few;
+        items-apart = s .loans .items-apart;
+        items-lent =
+            all-mono (λ v. all (λ e. mayBeListed v (rowOf (st .rows) e)) (nonzero (v .items))) (λ v. all (λ e. mayBeListed v (rowOf rows e)) (nonzero (v .items)))
+            (λ v t. all-mono (λ e. mayBeListed v (rowOf (st .rows) e)) (λ e. mayBeListed v (rowOf rows e)) (still (mayBeListed v) (no-row-listed v)) (nonzero (v .items)) t)
+            (st .requests) (s .loans .items-lent);
+        one-per-port = s .loans .one-per-port;
+        copies-listed =
+            all-append (copyListed (st .requests)) new (st .rows) (all-mono (λ r. eqb (r .request) 0) (copyListed (st .requests)) (λ r t. or-l (eqb (r .request) 0) _ t) new (a .unborne))
+            (s .loans .copies-listed);
+      }
 
--- ---- the tables with the new rows
-pub added-sound : (st : State) → Sound st → (new : List Row) (n : ℕ) → Added st new n → all (endPaired (new ++ st .rows)) new ≡ true → Sound (withNewRows (new ++ st .rows) n st)
-unfolding withNewRows rowsRise requestsRise numbersApart belowNext nextInRange rowsFit requestsFit recordsFit objectsInRange rightsInRange placesInRange fetchedInRange sourcesRight depthsRight copiesMatch recordsInRange endsPaired portsStand requestersListed itemsFew itemsApart itemsLent onePerPort copiesListed copyListed olderFetched systemHolds processesPlaced between
-added-sound st s new n a paired =
-    let later : st .next ≤ n = a .later in
-    let requests : topOf (λ v. v .number) (st .requests) < st .next = requests-top st s in
-    let some : 0 < st .next = next-some st s in
-    record {
-      numbers =
-          record {
-            rows-rise = a .rise;
-            requests-rise = s .numbers .requests-rise;
-            numbers-apart = apart-kept st s new (a .new-numbers);
-            below-next =
-                and-i (ltb (topOf (λ r. r .number) (new ++ st .rows)) n) (ltb (topOf (λ v. v .number) (st .requests)) n) (lt-ltb (topOf (λ r. r .number) (new ++ st .rows)) n (a .below))
-                (lt-ltb (topOf (λ v. v .number) (st .requests)) n (omega arith));
-            next-in-range = and-i (leb 1 n) (leb n (suc greatestNumber)) (le-leb 1 n (omega arith)) (le-leb n (suc greatestNumber) (a .counted));
-            rows-fit = le-leb (length (new ++ st .rows)) rowSlots (a .fit);
-            requests-fit = s .numbers .requests-fit;
-          };
-      rows =
-          record {
-            objects-in-range = all-append (objectInRange (st .processes)) new (st .rows) (a .objects) (s .rows .objects-in-range);
-            rights-in-range = all-append rightInRange new (st .rows) (a .rights) (s .rows .rights-in-range);
-            places-in-range = all-append (placeInRange (st .processes)) new (st .rows) (a .places) (s .rows .places-in-range);
-            sources-right = a .sources;
-            depths-right = a .depths;
-            copies-match = a .copies;
-            ends-paired =
-                all-append (endPaired (new ++ st .rows)) new (st .rows) paired
-                (all-mono (endPaired (st .rows)) (endPaired (new ++ st .rows)) (pair-kept st s new (a .new-numbers)) (st .rows) (s .rows .ends-paired));
-          };
-      loans =
-          record {
-            fetched-in-range = s .loans .fetched-in-range;
-            ports-stand = all-mono (portStands (st .rows)) (portStands (new ++ st .rows)) (port-stands-kept st s new (a .new-numbers)) (st .requests) (s .loans .ports-stand);
-            requesters-listed = s .loans .requesters-listed;
-            items-few = s .loans .items-few;
-            items-apart = s .loans .items-apart;
-            items-lent =
-                all-mono (λ v. all (λ e. mayBeListed v (rowOf (st .rows) e)) (nonzero (v .items))) (λ v. all (λ e. mayBeListed v (rowOf (new ++ st .rows) e)) (nonzero (v .items)))
-                (items-kept st s new (a .new-numbers)) (st .requests) (s .loans .items-lent);
-            one-per-port = s .loans .one-per-port;
-            copies-listed =
-                all-append (copyListed (st .requests)) new (st .rows)
-                (all-mono (λ r. eqb (r .request) 0) (copyListed (st .requests)) (λ r t. or-l (eqb (r .request) 0) _ t) new (a .unborne))
-                (s .loans .copies-listed);
-          };
-      holders =
-          record {
-            older-fetched = s .holders .older-fetched;
-            system-holds =
-                all-append (λ r. same (isSystem (r .place)) (awaitsFetch (st .requests) (r .number))) new (st .rows) (new-away st s new (a .new-numbers) (a .away)) (s .holders .system-holds);
-          };
-      placed =
-          record {
-            records-fit = s .placed .records-fit;
-            records-in-range = s .placed .records-in-range;
-            processes-placed = placed-still st s (new ++ st .rows) (λ e p hi k at. row-before (st .next) (st .rows) new (a .new-numbers) e (row-below st s e (subdirectory-there (st .rows) e k) .1));
-          };
-    }
+  holders-added : HoldersSound rows (st .requests)
+  unfolding systemHolds
+  holders-added =
+      record {
+        older-fetched = s .holders .older-fetched;
+        system-holds = all-append holds new (st .rows) new-held (s .holders .system-holds);
+      }
+    where
+      holds : Row → Bool
+      holds r = same (isSystem (r .place)) (awaitsFetch (st .requests) (r .number))
+
+      -- no request lists a new row
+      unlisted : (e : ℕ) → st .next ≤ e → awaitsFetch (st .requests) e ≡ false
+      unlisted e h =
+          awaits-none e (st .requests)
+          (all-mono (λ v. not (lists e v)) (λ v. isFetched v || not (lists e v)) (λ v n. or-r (isFetched v) (not (lists e v)) n) (st .requests)
+          (none-lists (st .rows) (st .requests) (s .loans .items-lent) e (false-of (member e (numbers (st .rows))) (λ t. let (lo, hi) = row-below st (s .numbers) e t in omega arith))))
+
+      new-held : all holds new ≡ true
+      new-held =
+          all-and {A = Row} (λ r. leb (st .next) (r .number)) (λ r. not (isSystem (r .place))) holds
+          (λ r h t. same-eq (isSystem (r .place)) (awaitsFetch (st .requests) (r .number)) (not-t (isSystem (r .place)) t ∙ sym (unlisted (r .number) (leb-true (st .next) (r .number) h))))
+          new (a .new-numbers) (a .away)
+
+  processes-added : ProcessesSound rows (st .processes)
+  processes-added =
+      record { records-fit = s .placed .records-fit; records-in-range = s .placed .records-in-range; processes-placed = placed-still (st .rows) rows stays (st .processes) (s .placed) }
+    where
+      stays : (e p : ℕ) → p ≤ 64 → isSubdirectory (rowOf (st .rows) e .kind) ≡ true → rowOf (st .rows) e .place ≡ inClist p → SamePlace (rowOf (st .rows) e) (rowOf rows e)
+      stays e p hi k at =
+          same-place (rowOf (st .rows) e) (rowOf rows e) (row-before (st .next) (st .rows) new (a .new-numbers) e (row-below st (s .numbers) e (subdirectory-there (st .rows) e k) .1))
+
+  pub added-sound : all (endPaired rows) new ≡ true → Sound (withNewRows rows n st)
+  unfolding withNewRows
+  added-sound paired = record { numbers = numbers-added; rows = rows-added paired; loans = loans-added; holders = holders-added; placed = processes-added }
 
 -- room for k more rows, and numbers for them
 pub rows-room : (st : State) (k : ℕ) → rowsFull st k ≡ false → length (st .rows) + k ≤ rowSlots

@@ -59,7 +59,7 @@ pub hold-allowed : (st : State) → Sound st → (p s : ℕ) → isListed (st .p
 unfolding refusalsHold Passed inNode
 hold-allowed st sound p s l w =
     let r = rowOf (st .rows) s in
-    let n : isNode (r .place) ≡ true = ap isNode (eqb-true (r .place) (processAt (st .processes) p .active) (not-f _ (w .0))) ∙ active-node st sound p l in
+    let n : isNode (r .place) ≡ true = ap isNode (eqb-true (r .place) (processAt (st .processes) p .active) (not-f _ (w .0))) ∙ active-node st (sound .placed) p l in
     record {
       caller = l;
       node = n;

@@ -39,7 +39,8 @@ lendable-there st p c i g = held-there st p (i .row) (not-t (notHeld st p (i .ro
 no-end-copied : (ps : List Process) (r : Row) → isEnd (r .kind) ≡ false → objectInRange ps r ≡ true → isCopied (r .kind) ≡ true
 unfolding objectInRange isEnd isCopied
 no-end-copied ps r n e =
-    pick (isOperation (r .kind)) _ (isSubdirectory (r .kind)) _ (isClient (r .kind)) _ (isServer (r .kind)) _ (or-fl (isClient (r .kind)) (isServer (r .kind)) n) (or-fr (isClient (r .kind)) (isServer (r .kind)) n) e
+    pick (isOperation (r .kind)) _ (isSubdirectory (r .kind)) _ (isClient (r .kind)) _ (isServer (r .kind)) _
+    (or-fl (isClient (r .kind)) (isServer (r .kind)) n) (or-fr (isClient (r .kind)) (isServer (r .kind)) n) e
   where
     pick : (a x b y c w d u : Bool) → c ≡ false → d ≡ false → (a && x) || ((b && y) || ((c && w) || (d && u))) ≡ true → a || b ≡ true
     pick true x b y c w d u p q e = refl
@@ -79,14 +80,16 @@ module _ (st : State) (s : Sound st) (p c : ℕ) (client : isClient (rowOf (st .
         le-leb (copyDepth st c i) greatestDepth (ltb-false greatestDepth (copyDepth st c i) (not-t (ltb greatestDepth (copyDepth st c i)) d))
 
     object-of : objectInRange (st .processes) (rowOf (st .rows) (i .row)) ≡ true
-    object-of = row-object st s (i .row) (lendable-there st p c i g)
+    object-of = row-object st (s .rows) (i .row) (lendable-there st p c i g)
 
     copy-no-end : isEnd (copyLent st c (st .next) n i .kind) ≡ false
     unfolding copyLent copyOf itemRow
     copy-no-end = no-end
 
     pub copy-object : objectInRange (st .processes) (copyLent st c (st .next) n i) ≡ true
-    copy-object = equal (or-fl (isClient (rowOf (st .rows) (i .row) .kind)) (isServer (rowOf (st .rows) (i .row) .kind)) ends) (or-fr (isClient (rowOf (st .rows) (i .row) .kind)) (isServer (rowOf (st .rows) (i .row) .kind)) ends) ∙ object-of
+    copy-object =
+        equal (or-fl (isClient (rowOf (st .rows) (i .row) .kind)) (isServer (rowOf (st .rows) (i .row) .kind)) ends)
+        (or-fr (isClient (rowOf (st .rows) (i .row) .kind)) (isServer (rowOf (st .rows) (i .row) .kind)) ends) ∙ object-of
       where
         ends : isClient (rowOf (st .rows) (i .row) .kind) || isServer (rowOf (st .rows) (i .row) .kind) ≡ false
         ends = unfold isEnd in no-end
@@ -124,7 +127,16 @@ module _ (st : State) (s : Sound st) (p c : ℕ) (client : isClient (rowOf (st .
         right : isLentCopy requests′ (copyLent st c (st .next) n i) (rowOf base (i .row)) (rowOf base c) ≡ true
         right =
             unfold isLentCopy copyLent copyOf itemRow in
-            rw (pos-some (st .next) (next-some st s), system-no-node, item-copied, kind-same t withSystem z (st .rows) (i .row), item-copied, kind-same t withSystem z (st .rows) c, client, request-new)
+            rw (
+              pos-some (st .next) (next-some st (s .numbers)),
+              system-no-node,
+              item-copied,
+              kind-same t withSystem z (st .rows) (i .row),
+              item-copied,
+              kind-same t withSystem z (st .rows) c,
+              client,
+              request-new,
+            )
             (unfold newRequest in eqb-self c)
 
     -- tests that do not look at places say the same of the sources where they were
@@ -142,7 +154,9 @@ module _ (st : State) (s : Sound st) (p c : ℕ) (client : isClient (rowOf (st .
     copy-matches = unmoved matchesSource copy-placeless (copyLent st c (st .next) n i) itself
       where
         itself : matchesSource (copyLent st c (st .next) n i) item client-end ≡ true
-        itself = unfold matchesSource copyLent copyOf itemRow in or-r (eqb (i .row) 0) _ (or-r (isEnd (item .kind)) _ (rw (eqb-self (item .kind), eqb-self (item .object), eqb-self (item .operation)) rights-within))
+        itself =
+            unfold matchesSource copyLent copyOf itemRow in or-r (eqb (i .row) 0) _
+            (or-r (isEnd (item .kind)) _ (rw (eqb-self (item .kind), eqb-self (item .object), eqb-self (item .operation)) rights-within))
 
     -- ---- with the new request, which lists it
     module _ (later : st .next < n) (listed : lists n (newRequest (st .next) c p its) ≡ true) where

@@ -55,7 +55,7 @@ module _ (st : State) (s : Sound st) (p c : ℕ) (is : List Item) (a : AskAllowe
   named-held e t = not-t (notHeld st p e) (named-at st (λ e. not (notHeld st p e)) is (a .held) e t)
 
   pub named-old : (e : ℕ) → isItem st is e ≡ true → (0 < e) × (e < st .next)
-  named-old e t = row-below st s e (held-there st p e (named-held e t))
+  named-old e t = row-below st (s .numbers) e (held-there st p e (named-held e t))
 
   -- ---- the new request's list
   lists-as : (e : ℕ) → some e ≡ true → lists e (asked st p c is) ≡ member e (listed st is (suc (st .next)))
@@ -84,7 +84,7 @@ module _ (st : State) (s : Sound st) (p c : ℕ) (is : List Item) (a : AskAllowe
   -- a test that noRow fails, that does not look at the place, and that an old row passes
   pub old-passes : (P : Row → Bool) → P noRow ≡ false → ((r : Row) → P (withPlace withSystem r) ≡ P r) → (m : ℕ) → P (rowOf (st .rows) m) ≡ true → P (rowOf (askedRows st c is) m) ≡ true
   old-passes P z h m e =
-      let (lo, hi) = row-below st s m (row-there P z (st .rows) m e) in
+      let (lo, hi) = row-below st (s .numbers) m (row-there P z (st .rows) m e) in
       ap P (row-stacked st c (st .next) (copies st is) (suc (st .next)) (lentRows st is) m (omega arith)) ∙ row-same (isItem st is) withSystem none-named P h (st .rows) m ∙ e
 
   -- ---- old requests
@@ -92,7 +92,7 @@ module _ (st : State) (s : Sound st) (p c : ℕ) (is : List Item) (a : AskAllowe
   next-unused =
       false-of (member (st .next) (map (λ v. v .number) (st .requests))) λ t.
       let (lo, hi) = rises-range (λ v. v .number) (st .requests) (unfold requestsRise in s .numbers .requests-rise) (st .next) t in
-      let top = requests-top st s in
+      let top = requests-top st (s .numbers) in
       omega arith
 
   -- the request that an old row bears
@@ -106,7 +106,7 @@ module _ (st : State) (s : Sound st) (p c : ℕ) (is : List Item) (a : AskAllowe
       unborne q (inl z) =
           let b : st .next ≡ r .request = eqb-true (st .next) (r .request) q in
           let y : r .request ≡ 0 = eqb-true (r .request) 0 z in
-          let pos = next-some st s in
+          let pos = next-some st (s .numbers) in
           omega arith
       unborne q (inr l) =
           let b : st .next ≡ r .request = eqb-true (st .next) (r .request) q in

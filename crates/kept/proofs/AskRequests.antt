@@ -55,17 +55,17 @@ module _ (st : State) (s : Sound st) (p c : ℕ) (is : List Item) (a : AskAllowe
   -- ---- numbers
   pub requests-rise : requestsRise (askedState st p c is .requests) ≡ true
   unfolding requestsRise newRequest
-  requests-rise = rises-cons (λ v. v .number) (asked st p c is) (st .requests) (requests-top st s) (s .numbers .requests-rise)
+  requests-rise = rises-cons (λ v. v .number) (asked st p c is) (st .requests) (requests-top st (s .numbers)) (s .numbers .requests-rise)
 
   pub numbers-apart : numbersApart (askedState st p c is .rows) (askedState st p c is .requests) ≡ true
   unfolding numbersApart
   numbers-apart =
       requests-all (λ v. not (member (v .number) (numbers (askedRows st c is)))) (unfold newRequest in ap not fresh)
       (all-and (λ v. ltb (v .number) (st .next)) (λ v. not (member (v .number) (numbers (st .rows)))) (λ v. not (member (v .number) (numbers (askedRows st c is)))) older
-      (st .requests) (requests-below st s) (s .numbers .numbers-apart))
+      (st .requests) (requests-below st (s .numbers)) (s .numbers .numbers-apart))
     where
       fresh : member (st .next) (numbers (askedRows st c is)) ≡ false
-      fresh = old-number st s p c is a (st .next) (omega arith) ∙ false-of (member (st .next) (numbers (st .rows))) (λ t. let (lo, hi) = row-below st s (st .next) t in omega arith)
+      fresh = old-number st s p c is a (st .next) (omega arith) ∙ false-of (member (st .next) (numbers (st .rows))) (λ t. let (lo, hi) = row-below st (s .numbers) (st .next) t in omega arith)
 
       older : (v : Request) → ltb (v .number) (st .next) ≡ true → not (member (v .number) (numbers (st .rows))) ≡ true → not (member (v .number) (numbers (askedRows st c is))) ≡ true
       older v t e = let lt = ltb-true (v .number) (st .next) t in ap not (old-number st s p c is a (v .number) (omega arith)) ∙ e
@@ -96,7 +96,7 @@ module _ (st : State) (s : Sound st) (p c : ℕ) (is : List Item) (a : AskAllowe
   -- the other end of port c has number c + 1
   server-older : suc c < st .next
   unfolding isPairedWith
-  server-older = row-below st s (suc c) (end-there (st .rows) (suc c) (and-l (isEnd (rowOf (st .rows) (suc c) .kind)) _ (client-paired st s c (a .client)))) .1
+  server-older = row-below st (s .numbers) (suc c) (end-there (st .rows) (suc c) (and-l (isEnd (rowOf (st .rows) (suc c) .kind)) _ (client-paired st (s .rows) c (a .client)))) .1
 
   pub ports-stand : portsStand (askedState st p c is .rows) (askedState st p c is .requests) ≡ true
   unfolding portsStand
@@ -157,7 +157,7 @@ module _ (st : State) (s : Sound st) (p c : ℕ) (is : List Item) (a : AskAllowe
       older : all (λ i. ltb (i .row) (suc (st .next))) is ≡ true
       older =
           all-mono (λ i. not (notHeld st p (i .row))) (λ i. ltb (i .row) (suc (st .next)))
-          (λ i h. let (lo, hi) = row-below st s (i .row) (held-there st p (i .row) (not-t (notHeld st p (i .row)) h)) in lt-ltb (i .row) (suc (st .next)) (omega arith)) is (a .held)
+          (λ i h. let (lo, hi) = row-below st (s .numbers) (i .row) (held-there st p (i .row) (not-t (notHeld st p (i .row)) h)) in lt-ltb (i .row) (suc (st .next)) (omega arith)) is (a .held)
 
   pub items-lent : itemsLent (askedState st p c is .rows) (askedState st p c is .requests) ≡ true
   unfolding itemsLent
@@ -180,7 +180,7 @@ module _ (st : State) (s : Sound st) (p c : ℕ) (is : List Item) (a : AskAllowe
           unfold mayBeListed newRequest in
           or-r (isEnd (rowOf (askedRows st c is) e .kind) && ltb (rowOf (askedRows st c is) e .number) (st .next))
           (some (rowOf (askedRows st c is) e .request) && eqb (rowOf (askedRows st c is) e .request) (st .next))
-          (rw (bears-stacked st c (st .next) (copies st is) (suc (st .next)) (lentRows st is) e lo hi, pos-some (st .next) (next-some st s)) (eqb-self (st .next)))
+          (rw (bears-stacked st c (st .next) (copies st is) (suc (st .next)) (lentRows st is) e lo hi, pos-some (st .next) (next-some st (s .numbers))) (eqb-self (st .next)))
 
   -- ---- the older requests that list an end isItem are fetched
   pub older-fetched : olderFetched (askedState st p c is .requests) ≡ true
@@ -200,7 +200,7 @@ module _ (st : State) (s : Sound st) (p c : ℕ) (is : List Item) (a : AskAllowe
           let held : rowOf (st .rows) e .place ≡ inClist p =
           unfold notHeld in eqb-true (rowOf (st .rows) e .place) (inClist p)
           (not-f (eqb (rowOf (st .rows) e .place) (inClist p)) (named-held st s p c is a e g)) in
-          ap isSystem held ∙ clist-not-system st s p (a .caller)
+          ap isSystem held ∙ clist-not-system st (s .placed) p (a .caller)
 
       -- what the new request lists no unfetched one lists
       unshared : (w : ℕ) → member w (map (λ v. v .number) (st .requests)) ≡ true → isFetched (requestOf (st .requests) w) ≡ false
@@ -208,11 +208,11 @@ module _ (st : State) (s : Sound st) (p c : ℕ) (is : List Item) (a : AskAllowe
       unshared w t f e (inl g) =
           let all-fetched =
           listers-fetched e (st .requests) (s .holders .older-fetched)
-          (sym (eq-same (isSystem (rowOf (st .rows) e .place)) (awaitsFetch (st .requests) e) (held-so st s e (held-there st p e (named-held st s p c is a e g)))) ∙ in-clist e g) in
+          (sym (eq-same (isSystem (rowOf (st .rows) e .place)) (awaitsFetch (st .requests) e) (held-so (st .rows) (st .requests) (s .holders .system-holds) e (held-there st p e (named-held st s p c is a e g)))) ∙ in-clist e g) in
           not-t (lists e (requestOf (st .requests) w)) (rw f at (at w t (λ w. isFetched w || not (lists e w)) all-fetched))
       unshared w t f e (inr (lo, hi)) =
-          let new : member e (numbers (st .rows)) ≡ false = false-of (member e (numbers (st .rows))) (λ m. let (l, h) = row-below st s e m in omega arith) in
-          not-t (lists e (requestOf (st .requests) w)) (at w t (λ v. not (lists e v)) (none-lists st s e new))
+          let new : member e (numbers (st .rows)) ≡ false = false-of (member e (numbers (st .rows))) (λ m. let (l, h) = row-below st (s .numbers) e m in omega arith) in
+          not-t (lists e (requestOf (st .requests) w)) (at w t (λ v. not (lists e v)) (none-lists (st .rows) (st .requests) (s .loans .items-lent) e new))
 
       pick : (n : ℕ) → member n (map (λ v. v .number) (st .requests)) ≡ true → (b : Bool) → isFetched (requestOf (st .requests) n) ≡ b → fetched-or (requestOf (st .requests) n) ≡ true
       pick n t true f = or-l (isFetched (requestOf (st .requests) n)) (not (any (λ e. lists e (requestOf (st .requests) n)) (asked st p c is .items))) f

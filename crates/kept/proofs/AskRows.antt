@@ -18,7 +18,7 @@ use Rattle.rows.proofs.Bools.{false-of, clash, and-l, or-map, not-f, all-mono, 
 use Rattle.rows.proofs.Keyed.{rises-map}
 use Rattle.tables.proofs.Sound.{Sound}
 use Rattle.rows.proofs.RowSources.{subdirectory-there, end-there, client-there}
-use Rattle.tables.proofs.SoundFacts.{row-below, rows-top, row-number, same-eq, placed-still}
+use Rattle.tables.proofs.SoundFacts.{row-below, rows-top, row-number, same-eq, same-place, placed-still}
 use Rattle.rows.proofs.Places.{clist-not-node, system-no-node, system-in-range, subdirectory-no-end}
 use Rattle.rows.proofs.Lists.{all-map}
 use Rattle.rows.specs.Setters.{withPlace}
@@ -47,7 +47,8 @@ module _ (st : State) (s : Sound st) (p c : ℕ) (is : List Item) (a : AskAllowe
   none = none-named st s p c is a
 
   -- what holds of the old rows and of each copy
-  rows-all : (P : Row → Bool) → ((n : ℕ) (i : Item) → lendable st p c i ≡ true → lo ≤ n → n < hi → P (copyLent st c (st .next) n i) ≡ true) → all P (lentRows st is) ≡ true → all P (askedRows st c is) ≡ true
+  rows-all : (P : Row → Bool) → ((n : ℕ) (i : Item) → lendable st p c i ≡ true → lo ≤ n → n < hi → P (copyLent st c (st .next) n i) ≡ true)
+      → all P (lentRows st is) ≡ true → all P (askedRows st c is) ≡ true
   rows-all P h e = all-stacked st c (st .next) (lendable st p c) lo hi P h (copies st is) lo (lentRows st is) (a .lent) (omega arith) (omega arith) e
 
   rows-sourced : (F : Row → Row → Row → Bool)
@@ -58,11 +59,11 @@ module _ (st : State) (s : Sound st) (p c : ℕ) (is : List Item) (a : AskAllowe
       (λ n i g. (below (i .row) (lendable-there st p c i g), h n i g)) (copies st is) lo (lentRows st is) (a .lent) (omega arith) (λ m _. refl) e
     where
       below : (m : ℕ) → member m (numbers (st .rows)) ≡ true → m < lo
-      below m t = let (l, u) = row-below st s m t in omega arith
+      below m t = let (l, u) = row-below st (s .numbers) m t in omega arith
 
   -- ---- numbers
   lent-top : topOf (λ r. r .number) (lentRows st is) < lo
-  lent-top = rw (top-map (λ r. r .number) noRow (moved (isItem st is) withSystem) (moved-number (isItem st is) withSystem) (st .rows)) (let t = rows-top st s in omega arith)
+  lent-top = rw (top-map (λ r. r .number) noRow (moved (isItem st is) withSystem) (moved-number (isItem st is) withSystem) (st .rows)) (let t = rows-top st (s .numbers) in omega arith)
 
   pub rows-top′ : topOf (λ r. r .number) (askedRows st c is) < hi
   rows-top′ = top-stacked st c (st .next) (copies st is) lo (lentRows st is) lent-top
@@ -99,7 +100,8 @@ module _ (st : State) (s : Sound st) (p c : ℕ) (is : List Item) (a : AskAllowe
   places-in-range =
       rows-all (placeInRange (st .processes)) (λ n i g _ _. copy-place st s p c (a .client) (isItem st is) none [] n i g)
       (all-map (placeInRange (st .processes)) (moved (isItem st is) withSystem) (st .rows)
-      ∙ all-mono (placeInRange (st .processes)) (λ r. placeInRange (st .processes) (moved (isItem st is) withSystem r)) (λ r e. unfold moved in pick r (isItem st is (r .number)) e) (st .rows) (s .rows .places-in-range))
+      ∙ all-mono (placeInRange (st .processes)) (λ r. placeInRange (st .processes) (moved (isItem st is) withSystem r))
+      (λ r e. unfold moved in pick r (isItem st is (r .number)) e) (st .rows) (s .rows .places-in-range))
     where
       pick : (r : Row) (b : Bool) → placeInRange (st .processes) r ≡ true → placeInRange (st .processes) (cond b (withPlace withSystem r) r) ≡ true
       pick r true e = system-in-range (st .processes) (withPlace withSystem r) (unfold withPlace in refl)
@@ -108,12 +110,13 @@ module _ (st : State) (s : Sound st) (p c : ℕ) (is : List Item) (a : AskAllowe
   -- ---- sources
   may-move : all (mayMove (isItem st is)) (st .rows) ≡ true
   unfolding mayMove
-  may-move = of-rows st s (mayMove (isItem st is)) (λ n m. pick n m (isItem st is n) refl)
+  may-move = of-rows (st .rows) (s .numbers .rows-rise) (mayMove (isItem st is)) (λ n m. pick n m (isItem st is n) refl)
     where
       pick : (n : ℕ) → member n (numbers (st .rows)) ≡ true → (b : Bool) → isItem st is n ≡ b
           → not (isItem st is (rowOf (st .rows) n .number)) || (not (isNode (rowOf (st .rows) n .place)) && (isEnd (rowOf (st .rows) n .kind) || some (rowOf (st .rows) n .request))) ≡ true
       pick n m true g =
-          let at : rowOf (st .rows) n .place ≡ inClist p = unfold notHeld in eqb-true (rowOf (st .rows) n .place) (inClist p) (not-f (eqb (rowOf (st .rows) n .place) (inClist p)) (named-held st s p c is a n g)) in
+          let at : rowOf (st .rows) n .place ≡ inClist p =
+          unfold notHeld in eqb-true (rowOf (st .rows) n .place) (inClist p) (not-f (eqb (rowOf (st .rows) n .place) (inClist p)) (named-held st s p c is a n g)) in
           rw (row-number (st .rows) n m, g, at, clist-not-node p, named-end st is n g) refl
       pick n m false g = rw (row-number (st .rows) n m, g) refl
 
@@ -151,8 +154,9 @@ module _ (st : State) (s : Sound st) (p c : ℕ) (is : List Item) (a : AskAllowe
 
       other : (r : Row) → isPairedWith r (rowOf (lentRows st is) (otherEnd r)) ≡ true → isPairedWith r (rowOf (askedRows st c is) (otherEnd r)) ≡ true
       other r e =
-          let k : isEnd (rowOf (st .rows) (otherEnd r) .kind) ≡ true = sym (ap isEnd (kind-same (isItem st is) withSystem none (st .rows) (otherEnd r))) ∙ end-of r (rowOf (lentRows st is) (otherEnd r)) e in
-          let (lo, hi) = row-below st s (otherEnd r) (end-there (st .rows) (otherEnd r) k) in
+          let k : isEnd (rowOf (st .rows) (otherEnd r) .kind) ≡ true =
+          sym (ap isEnd (kind-same (isItem st is) withSystem none (st .rows) (otherEnd r))) ∙ end-of r (rowOf (lentRows st is) (otherEnd r)) e in
+          let (lo, hi) = row-below st (s .numbers) (otherEnd r) (end-there (st .rows) (otherEnd r) k) in
           ap (isPairedWith r) (row-stacked st c (st .next) (copies st is) (suc (st .next)) (lentRows st is) (otherEnd r) (omega arith)) ∙ e
 
       step : (r : Row) → endPaired (lentRows st is) r ≡ true → endPaired (askedRows st c is) r ≡ true
@@ -177,7 +181,7 @@ module _ (st : State) (s : Sound st) (p c : ℕ) (is : List Item) (a : AskAllowe
   system-holds =
       rows-all holds
       (λ n i g l h. copy-held st s p c (a .client) (isItem st is) none (listed st is (suc (st .next))) n i g (omega arith) (lists-copy st s p c is a n l h))
-      (all-map holds (moved (isItem st is) withSystem) (st .rows) ∙ of-rows st s (λ r. holds (moved (isItem st is) withSystem r)) (λ n m. pick n m (isItem st is n) refl))
+      (all-map holds (moved (isItem st is) withSystem) (st .rows) ∙ of-rows (st .rows) (s .numbers .rows-rise) (λ r. holds (moved (isItem st is) withSystem r)) (λ n m. pick n m (isItem st is n) refl))
     where
       holds : Row → Bool
       holds r = same (isSystem (r .place)) (awaitsFetch (asked st p c is ∷ st .requests) (r .number))
@@ -206,17 +210,17 @@ module _ (st : State) (s : Sound st) (p c : ℕ) (is : List Item) (a : AskAllowe
           ∙ sym (ap (awaitsFetch (asked st p c is ∷ st .requests)) (moved-number (isItem st is) withSystem (rowOf (st .rows) n) ∙ row-number (st .rows) n m) ∙ awaited n g))
       pick n m false g =
           rw (moved-stays (isItem st is) withSystem (rowOf (st .rows) n) (ap (isItem st is) (row-number (st .rows) n m) ∙ g))
-          (rw (row-number (st .rows) n m, as-before n (row-below st s n m .1) g) (held-so st s n m))
+          (rw (row-number (st .rows) n m, as-before n (row-below st (s .numbers) n m .1) g) (held-so (st .rows) (st .requests) (s .holders .system-holds) n m))
 
   -- ---- processes
   pub processes-placed : processesPlaced (askedRows st c is) (st .processes) ≡ true
   unfolding processesPlaced
   processes-placed =
-      placed-still st s (askedRows st c is) stays
+      placed-still (st .rows) (askedRows st c is) (λ e k hi sub at. same-place (rowOf (st .rows) e) (rowOf (askedRows st c is) e) (stays e k hi sub at)) (st .processes) (s .placed)
     where
       stays : (e k : ℕ) → k ≤ 64 → isSubdirectory (rowOf (st .rows) e .kind) ≡ true → rowOf (st .rows) e .place ≡ inClist k → rowOf (askedRows st c is) e ≡ rowOf (st .rows) e
       stays e k u sub at =
           let m : member e (numbers (st .rows)) ≡ true = subdirectory-there (st .rows) e sub in
-          let below : e < st .next = row-below st s e m .1 in
+          let below : e < st .next = row-below st (s .numbers) e m .1 in
           let g : isItem st is e ≡ false = false-of (isItem st is e) (λ g. clash (named-end st is e g) (subdirectory-no-end (rowOf (st .rows) e .kind) sub)) in
           old-found st s p c is a e (omega arith) ∙ moved-stays (isItem st is) withSystem (rowOf (st .rows) e) (ap (isItem st is) (row-number (st .rows) e m) ∙ g)

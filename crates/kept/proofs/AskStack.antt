@@ -54,7 +54,8 @@ module _ (st : State) (c v : ℕ) where
   pub length-stacked : (ks : List Item) (n : ℕ) (rs : List Row) → length (stacked st c v ks n rs) ≡ length ks + length rs
   unfolding stacked
   length-stacked [] n rs = omega arith
-  length-stacked (i ∷ ks) n rs = let ih : length (stacked st c v ks (suc n) (copyLent st c v n i ∷ rs)) ≡ length ks + suc (length rs) = length-stacked ks (suc n) (copyLent st c v n i ∷ rs) in omega arith
+  length-stacked (i ∷ ks) n rs =
+      let ih : length (stacked st c v ks (suc n) (copyLent st c v n i ∷ rs)) ≡ length ks + suc (length rs) = length-stacked ks (suc n) (copyLent st c v n i ∷ rs) in omega arith
 
   pub rises-stacked : (ks : List Item) (n : ℕ) (rs : List Row) → topOf (λ r. r .number) rs < n → rises (λ r. r .number) rs ≡ true → rises (λ r. r .number) (stacked st c v ks n rs) ≡ true
   unfolding stacked
@@ -66,7 +67,8 @@ module _ (st : State) (c v : ℕ) where
   unfolding stacked
   top-stacked [] n rs h = omega arith
   top-stacked (i ∷ ks) n rs h =
-      let ih : topOf (λ r. r .number) (stacked st c v ks (suc n) (copyLent st c v n i ∷ rs)) < suc n + length ks = top-stacked ks (suc n) (copyLent st c v n i ∷ rs) (unfold topOf copyLent copyOf in omega arith) in omega arith
+      let ih : topOf (λ r. r .number) (stacked st c v ks (suc n) (copyLent st c v n i ∷ rs)) < suc n + length ks =
+      top-stacked ks (suc n) (copyLent st c v n i ∷ rs) (unfold topOf copyLent copyOf in omega arith) in omega arith
 
   -- ---- what holds of each copy, with a number from lo on and below hi
   module _ (good : Item → Bool) (lo hi : ℕ) where
@@ -89,5 +91,6 @@ module _ (st : State) (c v : ℕ) where
         sourced-stacked F b low h ks (suc n) (copyLent st c v n i ∷ rs) (and-r (good i) (all good ks) g) (omega arith) (λ m lt. cons-found n i rs m (omega arith) ∙ o m lt)
         (sourced-cons F (copyLent st c v n i) rs (fits (h n i (and-l (good i) (all good ks) g))) e)
       where
-        fits : (i .row < lo) × (F (copyLent st c v n i) (rowOf b (i .row)) (rowOf b c) ≡ true) → F (copyLent st c v n i) (rowOf rs (copyLent st c v n i .source)) (rowOf rs (copyLent st c v n i .via)) ≡ true
+        fits : (i .row < lo) × (F (copyLent st c v n i) (rowOf b (i .row)) (rowOf b c) ≡ true)
+            → F (copyLent st c v n i) (rowOf rs (copyLent st c v n i .source)) (rowOf rs (copyLent st c v n i .via)) ≡ true
         fits (k, q) = unfold copyLent copyOf in (rw (o (i .row) k, o c low) q)

@@ -12,9 +12,9 @@ use Rattle.rows.specs.declared.Request.{Request}
 use Rattle.rows.specs.Lists.{member, some}
 use Rattle.rows.specs.Codes.{isEnd}
 use Rattle.rows.specs.Tables.{State, rowOf, marked, bears}
-use Rattle.rows.specs.Sound.{nextInRange, isPairedWith, otherEnd}
+use Rattle.rows.specs.Sound.{isPairedWith, otherEnd}
 use Rattle.rows.proofs.Bools.{clash, and-l, and-r, some-pos, member-cases}
-use Rattle.tables.proofs.Sound.{Sound}
+use Rattle.tables.proofs.Sound.{Numbers, RowsSound, LoansSound, HoldersSound, ProcessesSound, Sound}
 use Rattle.tables.proofs.SoundFacts.{row-number, paired-at}
 use Rattle.rows.proofs.RowSources.{end-there}
 use Rattle.closing.specs.Closing.{closes, settled, closing, closeRequest, isEndOf, closePort, isRow, dropRow}
@@ -26,53 +26,61 @@ use Rattle.kept.proofs.ClosingRequests.{requests-rise-kept, numbers-apa
 use Rattle.kept.proofs.ClosingPlaces.{places-in-range-kept, system-holds-kept, processes-placed-kept}
 use Rattle.kept.proofs.ClosingRows.{below-next-kept, rows-fit-kept, objects-in-range-kept, rights-in-range-kept, sources-right-kept, depths-right-kept, copies-match-kept, ends-paired-kept, copies-listed-kept}
 
--- the removal of rows and the closing of requests that go together
-settled-kept : (g : List ℕ) (f : Request → Bool) (st : State) → Sound st → Closed g f st → Sound (settled g f st)
-settled-kept g f st s c =
-    record {
-      numbers =
-          record {
-            rows-rise = rows-rise-kept g f st (s .numbers .rows-rise);
-            requests-rise = requests-rise-kept g f st s;
-            numbers-apart = numbers-apart-kept g f st s;
-            below-next = below-next-kept g f st s;
-            next-in-range = unfold nextInRange settled in s .numbers .next-in-range;
-            rows-fit = rows-fit-kept g f st s;
-            requests-fit = requests-fit-kept g f st s;
-          };
-      rows =
-          record {
-            objects-in-range = objects-in-range-kept g f st s;
-            rights-in-range = rights-in-range-kept g f st s;
-            places-in-range = places-in-range-kept g f st s c;
-            sources-right = sources-right-kept g f st s c;
-            depths-right = depths-right-kept g f st s c;
-            copies-match = copies-match-kept g f st s c;
-            ends-paired = ends-paired-kept g f st s c;
-          };
-      loans =
-          record {
-            fetched-in-range = fetched-in-range-kept g f st s;
-            ports-stand = ports-stand-kept g f st s c;
-            requesters-listed = requesters-listed-kept g f st s;
-            items-few = items-few-kept g f st s;
-            items-apart = items-apart-kept g f st s;
-            items-lent = items-lent-kept g f st s;
-            one-per-port = one-per-port-kept g f st s;
-            copies-listed = copies-listed-kept g f st s c;
-          };
-      holders =
-          record {
-            older-fetched = older-fetched-kept g f st s;
-            system-holds = system-holds-kept g f st s c;
-          };
-      placed =
-          record {
-            records-fit = records-fit-kept g f st (s .placed .records-fit);
-            records-in-range = records-in-range-kept g f st (s .placed .records-in-range);
-            processes-placed = processes-placed-kept g f st s c;
-          };
-    }
+-- the removal of rows and the closing of requests that go together, part by part
+module _ (g : List ℕ) (f : Request → Bool) (st : State) (s : Sound st) (c : Closed g f st) where
+  abbrev after : State
+  after = settled g f st
+
+  numbers-kept : Numbers (after .next) (after .rows) (after .requests)
+  numbers-kept =
+      record {
+        rows-rise = rows-rise-kept g f st (s .numbers .rows-rise);
+        requests-rise = requests-rise-kept g f st (s .numbers .requests-rise);
+        numbers-apart = numbers-apart-kept g f st (s .numbers .numbers-apart);
+        below-next = below-next-kept g f st s;
+        next-in-range = unfold settled in s .numbers .next-in-range;
+        rows-fit = rows-fit-kept g f st s;
+        requests-fit = requests-fit-kept g f st (s .numbers .requests-fit);
+      }
+
+  rows-kept : RowsSound (after .rows) (after .requests) (after .processes)
+  rows-kept =
+      record {
+        objects-in-range = objects-in-range-kept g f st s;
+        rights-in-range = rights-in-range-kept g f st s;
+        places-in-range = places-in-range-kept g f st s c;
+        sources-right = sources-right-kept g f st s c;
+        depths-right = depths-right-kept g f st s c;
+        copies-match = copies-match-kept g f st s c;
+        ends-paired = ends-paired-kept g f st s c;
+      }
+
+  loans-kept : LoansSound (after .rows) (after .requests) (after .processes)
+  loans-kept =
+      record {
+        fetched-in-range = fetched-in-range-kept g f st (s .loans .fetched-in-range);
+        ports-stand = ports-stand-kept g f st c (s .loans .ports-stand);
+        requesters-listed = requesters-listed-kept g f st (s .loans .requesters-listed);
+        items-few = items-few-kept g f st (s .loans .items-few);
+        items-apart = items-apart-kept g f st (s .loans .items-apart);
+        items-lent = items-lent-kept g f st (s .loans .items-lent);
+        one-per-port = one-per-port-kept g f st (s .loans .one-per-port);
+        copies-listed = copies-listed-kept g f st s c;
+      }
+
+  holders-kept : HoldersSound (after .rows) (after .requests)
+  holders-kept = record { older-fetched = older-fetched-kept g f st (s .holders .older-fetched); system-holds = system-holds-kept g f st s c }
+
+  processes-kept : ProcessesSound (after .rows) (after .processes)
+  processes-kept =
+      record {
+        records-fit = records-fit-kept g f st (s .placed .records-fit);
+        records-in-range = records-in-range-kept g f st (s .placed .records-in-range);
+        processes-placed = processes-placed-kept g f st s c;
+      }
+
+  settled-kept : Sound after
+  settled-kept = record { numbers = numbers-kept; rows = rows-kept; loans = loans-kept; holders = holders-kept; placed = processes-kept }
 
 closing-kept : (seed : Row → Bool) (qs : List ℕ) (st : State) → Sound st → Closable seed qs st → Sound (closing seed qs st)
 unfolding closing
@@ -91,7 +99,7 @@ module _ (st : State) (s : Sound st) where
   pair-at n t k =
       let r : Row = rowOf (st .rows) n in
       let o : Row = rowOf (st .rows) (otherEnd r) in
-      let p : isPairedWith r o ≡ true = paired-at st s n t k in
+      let p : isPairedWith r o ≡ true = paired-at st (s .rows) n t k in
       let e : isEnd (o .kind) ≡ true = and-l (isEnd (o .kind)) (eqb (r .object) (o .object) && eqb (r .source) (o .source)) p in
       record {
         stands = end-there (st .rows) (otherEnd r) e;
@@ -117,7 +125,9 @@ module _ (st : State) (s : Sound st) where
   close-port-kept c = closing-kept (isEndOf c) [] st s (record { pairs = pairs; bearing = λ n t m. clash m refl })
     where
       pairs : (n : ℕ) → Stands st n → isEnd (rowOf (st .rows) n .kind) ≡ true → isEndOf c (rowOf (st .rows) n) ≡ isEndOf c (rowOf (st .rows) (otherEnd (rowOf (st .rows) n)))
-      pairs n t k = ap (λ b. b && eqb (rowOf (st .rows) n .object) c) (k ∙ sym (pair-at n t k .is-end)) ∙ ap (λ m. isEnd (rowOf (st .rows) (otherEnd (rowOf (st .rows) n)) .kind) && eqb m c) (pair-at n t k .port)
+      pairs n t k =
+          ap (λ b. b && eqb (rowOf (st .rows) n .object) c) (k ∙ sym (pair-at n t k .is-end))
+          ∙ ap (λ m. isEnd (rowOf (st .rows) (otherEnd (rowOf (st .rows) n)) .kind) && eqb m c) (pair-at n t k .port)
 
   pub drop-kept : (e : ℕ) → isEnd (rowOf (st .rows) e .kind) ≡ false → Sound (dropRow e st)
   unfolding dropRow isRow member

@@ -70,8 +70,12 @@ module _ (f : Request → Bool) (g : List ℕ) (n : ℕ) where
       pick : (listedIn f vs n ≡ true → awaitsFetch (remaining f g vs) n ≡ false) → (a b : Bool) → listedIn f vs n ≡ b → (a && lists n v) || b ≡ true
           → awaitsFetch (cond a (remaining f g vs) (trimmed f g vs v ∷ remaining f g vs)) n ≡ false
       pick ih true true q h = ih q
-      pick ih true false q h = awaits-none n (remaining f g vs) (all-remaining f g (λ w. isFetched w || not (lists n w)) (λ w. isFetched w || not (lists n w)) fewer vs (older-listers n v vs (⊎-elim (λ l. l) (λ z. clash z refl) (or-cases (lists n v) false h)) (and-l (olderFetchedBy v vs) (each olderFetchedBy vs) o)))
-      pick ih false true q h = skips (trimmed f g vs v) (remaining f g vs) (trimmed-lists f g vs v n ∙ ap (λ b. lists n v && not b) (or-r (member n g) (listedIn f vs n) q) ∙ and-rf (lists n v) false refl) ∙ ih q
+      pick ih true false q h =
+          awaits-none n (remaining f g vs)
+          (all-remaining f g (λ w. isFetched w || not (lists n w)) (λ w. isFetched w || not (lists n w)) fewer vs
+          (older-listers n v vs (⊎-elim (λ l. l) (λ z. clash z refl) (or-cases (lists n v) false h)) (and-l (olderFetchedBy v vs) (each olderFetchedBy vs) o)))
+      pick ih false true q h =
+          skips (trimmed f g vs v) (remaining f g vs) (trimmed-lists f g vs v n ∙ ap (λ b. lists n v && not b) (or-r (member n g) (listedIn f vs n) q) ∙ and-rf (lists n v) false refl) ∙ ih q
       pick ih false false q h = clash h refl
 
 -- ---- the c-list of a listed process
@@ -82,11 +86,13 @@ record Clist (ps : List Process) (place : ℕ) : Type 0 where
   pub owned : isClist place && isListed ps (ownerOf place) ≡ true
 
 clist : (st : State) → Sound st → (p : ℕ) → isListed (st .processes) p ≡ true → Clist (st .processes) (inClist p)
-clist st s p l = record { no-node = clist-not-node p; no-system = clist-not-system st s p l; owned = clist-owned st s p l }
+clist st s p l = record { no-node = clist-not-node p; no-system = clist-not-system st (s .placed) p l; owned = clist-owned st (s .placed) p l }
 
 module _ (g : List ℕ) (f : Request → Bool) (st : State) (s : Sound st) (c : Closed g f st) where
   requests-positive : all (λ v. some (v .number)) (st .requests) ≡ true
-  requests-positive = all-mono (λ v. some (v .number) && ltb (v .number) (st .next)) (λ v. some (v .number)) (λ v e. and-l (some (v .number)) (ltb (v .number) (st .next)) e) (st .requests) (requests-between st s)
+  requests-positive =
+      all-mono (λ v. some (v .number) && ltb (v .number) (st .next)) (λ v. some (v .number)) (λ v e. and-l (some (v .number)) (ltb (v .number) (st .next)) e)
+      (st .requests) (requests-between st (s .numbers))
 
   -- ---- only ends are returned
   pub listed-end : (n : ℕ) → Stands st n → member n g ≡ false → listedIn f (st .requests) n ≡ true → isEnd (rowOf (st .rows) n .kind) ≡ true
@@ -149,9 +155,11 @@ module _ (g : List ℕ) (f : Request → Bool) (st : State) (s : Sound st) (c : 
       in-range : (r : Row) → placeInRange (st .processes) r ≡ true → placeInRange (map (homed g) (st .processes)) r ≡ true
       in-range r e = unfold placeInRange in rw (listed-kept g (st .processes) (ownerOf (r .place))) e
 
-      at-row : (n : ℕ) → Stands st n → member n g ≡ false → placeInRange (st .processes) (rowOf (st .rows) n) ≡ true → placeInRange (map (homed g) (st .processes)) (returned f (st .requests) (rowOf (st .rows) n)) ≡ true
+      at-row : (n : ℕ) → Stands st n → member n g ≡ false → placeInRange (st .processes) (rowOf (st .rows) n) ≡ true
+          → placeInRange (map (homed g) (st .processes)) (returned f (st .requests) (rowOf (st .rows) n)) ≡ true
       at-row n t k e =
-          ⊎-elim (λ h. in-range (returned f (st .requests) (rowOf (st .rows) n)) (moved n (listed-clist n t h))) (λ h. in-range _ (ap (placeInRange (st .processes)) (unlisted-same n t h) ∙ e)) (true-or-false (listedIn f (st .requests) n))
+          ⊎-elim (λ h. in-range (returned f (st .requests) (rowOf (st .rows) n)) (moved n (listed-clist n t h)))
+          (λ h. in-range _ (ap (placeInRange (st .processes)) (unlisted-same n t h) ∙ e)) (true-or-false (listedIn f (st .requests) n))
         where
           moved : (n : ℕ) → Clist (st .processes) (returned f (st .requests) (rowOf (st .rows) n) .place) → placeInRange (st .processes) (returned f (st .requests) (rowOf (st .rows) n)) ≡ true
           moved n x = unfold placeInRange in rw (x .no-node, x .owned) refl
@@ -159,7 +167,8 @@ module _ (g : List ℕ) (f : Request → Bool) (st : State) (s : Sound st) (c : 
   pub system-holds-kept : systemHolds (settled g f st .requests) (settled g f st .rows) ≡ true
   unfolding systemHolds olderFetched
   system-holds-kept =
-      unfold settled in all-left g f st (λ r. same (isSystem (r .place)) (awaitsFetch (st .requests) (r .number))) (λ r. same (isSystem (r .place)) (awaitsFetch (remaining f g (st .requests)) (r .number))) (s .numbers .rows-rise) at-row (s .holders .system-holds)
+      unfold settled in all-left g f st (λ r. same (isSystem (r .place)) (awaitsFetch (st .requests) (r .number)))
+      (λ r. same (isSystem (r .place)) (awaitsFetch (remaining f g (st .requests)) (r .number))) (s .numbers .rows-rise) at-row (s .holders .system-holds)
     where
       R : ℕ → Row
       R n = returned f (st .requests) (rowOf (st .rows) n)
@@ -172,7 +181,8 @@ module _ (g : List ℕ) (f : Request → Bool) (st : State) (s : Sound st) (c : 
       at-row n t k e =
           ⊎-elim
           (λ h. let a : isSystem (R n .place) ≡ false = listed-clist n t h .no-system in
-          let b : awaitsFetch (remaining f g (st .requests)) (R n .number) ≡ false = ap (awaitsFetch (remaining f g (st .requests))) (number n t) ∙ awaits-returned f g n (st .requests) (s .holders .older-fetched) h in
+          let b : awaitsFetch (remaining f g (st .requests)) (R n .number) ≡ false =
+          ap (awaitsFetch (remaining f g (st .requests))) (number n t) ∙ awaits-returned f g n (st .requests) (s .holders .older-fetched) h in
           ap (λ x. same x (awaitsFetch (remaining f g (st .requests)) (R n .number))) a ∙ ap (same false) b ∙ (unfold same in refl))
           (λ h. let a : R n ≡ rowOf (st .rows) n = unlisted-same n t h in
           let b : awaitsFetch (remaining f g (st .requests)) (R n .number) ≡ awaitsFetch (st .requests) (rowOf (st .rows) n .number) =

@@ -14,7 +14,6 @@ use Rattle.rows.specs.Codes.{isClient}
 use Rattle.rows.specs.Tables.{State, rowOf, numbers, isListed, lists}
 use Rattle.rows.specs.Sound.{requestsRise, numbersApart, requestsFit, fetchedInRange, portStands, portsStand, requestersListed, itemsFew, itemsApart, mayBeListed, itemsLent, onePerPort, isFetched, olderFetchedBy, olderFetched}
 use Rattle.rows.proofs.Bools.{clash, and-l, and-r, and-i, not-t, or-fl, or-map, any-mono, all-at}
-use Rattle.tables.proofs.Sound.{Sound}
 use Rattle.rows.proofs.Lists.{distinct-filter, all-of-member, member-nonzero}
 use Rattle.rows.specs.Setters.{withPlace, withItems}
 use Rattle.closing.specs.Closing.{listedIn, leaves, homed, trimmed, remaining, settled}
@@ -65,58 +64,62 @@ module _ (f : Request → Bool) (g : List ℕ) where
       omega arith
 
 -- ---- the clauses
-module _ (g : List ℕ) (f : Request → Bool) (st : State) (s : Sound st) where
-  pub requests-rise-kept : requestsRise (settled g f st .requests) ≡ true
+module _ (g : List ℕ) (f : Request → Bool) (st : State) where
+  pub requests-rise-kept : requestsRise (st .requests) ≡ true → requestsRise (settled g f st .requests) ≡ true
   unfolding requestsRise settled
-  requests-rise-kept = remaining-rises f g (st .requests) (s .numbers .requests-rise)
+  requests-rise-kept w = remaining-rises f g (st .requests) w
 
-  pub requests-fit-kept : requestsFit (settled g f st .requests) ≡ true
+  pub requests-fit-kept : requestsFit (st .requests) ≡ true → requestsFit (settled g f st .requests) ≡ true
   unfolding requestsFit settled
-  requests-fit-kept =
-      let a : length (st .requests) ≤ requestSlots = leb-true (length (st .requests)) requestSlots (s .numbers .requests-fit) in
+  requests-fit-kept w =
+      let a : length (st .requests) ≤ requestSlots = leb-true (length (st .requests)) requestSlots w in
       let b : length (remaining f g (st .requests)) ≤ length (st .requests) = length-remaining f g (st .requests) in
       le-leb (length (remaining f g (st .requests))) requestSlots (omega arith)
 
-  pub numbers-apart-kept : numbersApart (settled g f st .rows) (settled g f st .requests) ≡ true
+  pub numbers-apart-kept : numbersApart (st .rows) (st .requests) ≡ true → numbersApart (settled g f st .rows) (settled g f st .requests) ≡ true
   unfolding numbersApart
-  numbers-apart-kept = unfold settled in all-remaining f g (λ v. not (member (v .number) (numbers (st .rows)))) (λ v. not (member (v .number) (numbers (settled g f st .rows)))) at-request (st .requests) (s .numbers .numbers-apart)
+  numbers-apart-kept w =
+      unfold settled in all-remaining f g (λ v. not (member (v .number) (numbers (st .rows)))) (λ v. not (member (v .number) (numbers (settled g f st .rows)))) at-request (st .requests) w
     where
       apart : (n : ℕ) → not (member n (numbers (st .rows))) ≡ true → not (member n (numbers (settled g f st .rows))) ≡ true
       apart n e = ap not (left-keys g f st n ∙ ap (λ b. b && not (member n g)) (not-t (member n (numbers (st .rows))) e))
 
-      at-request : (vs : List Request) (v : Request) → f v ≡ false → not (member (v .number) (numbers (st .rows))) ≡ true → not (member (trimmed f g vs v .number) (numbers (settled g f st .rows))) ≡ true
+      at-request : (vs : List Request) (v : Request) → f v ≡ false → not (member (v .number) (numbers (st .rows))) ≡ true
+          → not (member (trimmed f g vs v .number) (numbers (settled g f st .rows))) ≡ true
       at-request vs v q e = unfold trimmed in apart (v .number) e
 
-  pub fetched-in-range-kept : fetchedInRange (settled g f st .requests) ≡ true
+  pub fetched-in-range-kept : fetchedInRange (st .requests) ≡ true → fetchedInRange (settled g f st .requests) ≡ true
   unfolding fetchedInRange settled trimmed
-  fetched-in-range-kept = all-remaining f g (λ v. leb (v .fetched) 1) (λ v. leb (v .fetched) 1) (λ vs v q e. e) (st .requests) (s .loans .fetched-in-range)
+  fetched-in-range-kept w = all-remaining f g (λ v. leb (v .fetched) 1) (λ v. leb (v .fetched) 1) (λ vs v q e. e) (st .requests) w
 
-  pub requesters-listed-kept : requestersListed (settled g f st .processes) (settled g f st .requests) ≡ true
+  pub requesters-listed-kept : requestersListed (st .processes) (st .requests) ≡ true → requestersListed (settled g f st .processes) (settled g f st .requests) ≡ true
   unfolding requestersListed settled trimmed
-  requesters-listed-kept =
-      all-remaining f g (λ v. isListed (st .processes) (v .asker)) (λ v. isListed (map (homed g) (st .processes)) (v .asker)) (λ vs v q e. listed-kept g (st .processes) (v .asker) ∙ e) (st .requests) (s .loans .requesters-listed)
+  requesters-listed-kept w =
+      all-remaining f g (λ v. isListed (st .processes) (v .asker)) (λ v. isListed (map (homed g) (st .processes)) (v .asker))
+      (λ vs v q e. listed-kept g (st .processes) (v .asker) ∙ e) (st .requests) w
 
-  pub items-few-kept : itemsFew (settled g f st .requests) ≡ true
+  pub items-few-kept : itemsFew (st .requests) ≡ true → itemsFew (settled g f st .requests) ≡ true
   unfolding itemsFew settled trimmed
-  items-few-kept =
-      all-remaining f g (λ v. eqb (length (v .items)) mostItems) (λ v. eqb (length (v .items)) mostItems) (λ vs v q e. ap (λ n. eqb n mostItems) (length-map (v .items) (λ e. cond (leaves f g vs e) 0 e)) ∙ e) (st .requests) (s .loans .items-few)
+  items-few-kept w =
+      all-remaining f g (λ v. eqb (length (v .items)) mostItems) (λ v. eqb (length (v .items)) mostItems)
+      (λ vs v q e. ap (λ n. eqb n mostItems) (length-map (v .items) (λ e. cond (leaves f g vs e) 0 e)) ∙ e) (st .requests) w
 
-  pub items-apart-kept : itemsApart (settled g f st .requests) ≡ true
+  pub items-apart-kept : itemsApart (st .requests) ≡ true → itemsApart (settled g f st .requests) ≡ true
   unfolding itemsApart settled trimmed trim
-  items-apart-kept =
-      all-remaining f g (λ v. distinct (nonzero (v .items))) (λ v. distinct (nonzero (v .items))) (λ vs v q e. distinct-trim (leaves f g vs) (v .items) e) (st .requests) (s .loans .items-apart)
+  items-apart-kept w =
+      all-remaining f g (λ v. distinct (nonzero (v .items))) (λ v. distinct (nonzero (v .items))) (λ vs v q e. distinct-trim (leaves f g vs) (v .items) e) (st .requests) w
 
-  pub one-per-port-kept : onePerPort (settled g f st .requests) ≡ true
+  pub one-per-port-kept : onePerPort (st .requests) ≡ true → onePerPort (settled g f st .requests) ≡ true
   unfolding onePerPort settled
-  one-per-port-kept = ap distinct (remaining-keys f g (λ v. v .port) (λ is v. refl) (st .requests)) ∙ distinct-filter (λ v. v .port) (λ v. not (f v)) (st .requests) (s .loans .one-per-port)
+  one-per-port-kept w = ap distinct (remaining-keys f g (λ v. v .port) (λ is v. refl) (st .requests)) ∙ distinct-filter (λ v. v .port) (λ v. not (f v)) (st .requests) w
 
-  pub older-fetched-kept : olderFetched (settled g f st .requests) ≡ true
+  pub older-fetched-kept : olderFetched (st .requests) ≡ true → olderFetched (settled g f st .requests) ≡ true
   unfolding olderFetched settled
-  older-fetched-kept = older-fetched-remain f g (st .requests) (s .holders .older-fetched)
+  older-fetched-kept w = older-fetched-remain f g (st .requests) w
 
-  pub ports-stand-kept : Closed g f st → portsStand (settled g f st .rows) (settled g f st .requests) ≡ true
+  pub ports-stand-kept : Closed g f st → portsStand (st .rows) (st .requests) ≡ true → portsStand (settled g f st .rows) (settled g f st .requests) ≡ true
   unfolding portsStand portStands settled trimmed withPlace
-  ports-stand-kept c = all-remaining f g (portStands (st .rows)) (portStands (settled g f st .rows)) at-request (st .requests) (s .loans .ports-stand)
+  ports-stand-kept c w = all-remaining f g (portStands (st .rows)) (portStands (settled g f st .rows)) at-request (st .requests) w
     where
       at-request : (vs : List Request) (v : Request) → f v ≡ false → portStands (st .rows) v ≡ true → portStands (settled g f st .rows) (trimmed f g vs v) ≡ true
       at-request vs v q e =
@@ -124,10 +127,11 @@ module _ (g : List ℕ) (f : Request → Bool) (st : State) (s : Sound st) where
           ap (λ r. isClient (r .kind)) (row-after g f st (v .port) (c .port-stays v q)) ∙ returned-keeps (λ r. isClient (r .kind)) (λ p r. refl) f (st .requests) (rowOf (st .rows) (v .port)) in
           ap (λ b. b && ltb (suc (v .port)) (v .number)) k ∙ e
 
-  pub items-lent-kept : itemsLent (settled g f st .rows) (settled g f st .requests) ≡ true
+  pub items-lent-kept : itemsLent (st .rows) (st .requests) ≡ true → itemsLent (settled g f st .rows) (settled g f st .requests) ≡ true
   unfolding itemsLent mayBeListed settled trimmed trim withPlace leaves
-  items-lent-kept =
-      all-remaining f g (λ v. all (λ e. mayBeListed v (rowOf (st .rows) e)) (nonzero (v .items))) (λ v. all (λ e. mayBeListed v (rowOf (settled g f st .rows) e)) (nonzero (v .items))) at-request (st .requests) (s .loans .items-lent)
+  items-lent-kept w =
+      all-remaining f g (λ v. all (λ e. mayBeListed v (rowOf (st .rows) e)) (nonzero (v .items)))
+      (λ v. all (λ e. mayBeListed v (rowOf (settled g f st .rows) e)) (nonzero (v .items))) at-request (st .requests) w
     where
       at-item : (vs : List Request) (v : Request) → all (λ e. mayBeListed v (rowOf (st .rows) e)) (nonzero (v .items)) ≡ true → (e : ℕ) → member e (nonzero (trim (leaves f g vs) (v .items))) ≡ true
           → mayBeListed v (rowOf (settled g f st .rows) e) ≡ true
@@ -137,7 +141,8 @@ module _ (g : List ℕ) (f : Request → Bool) (st : State) (s : Sound st) where
           let w : member e (v .items) && not (leaves f g vs e) ≡ true = sym (member-trim (leaves f g vs) (v .items) e sm) ∙ and-r (some e) (member e (trim (leaves f g vs) (v .items))) u in
           let stays : leaves f g vs e ≡ false = not-t (leaves f g vs e) (and-r (member e (v .items)) (not (leaves f g vs e)) w) in
           let left : member e g ≡ false = or-fl (member e g) (listedIn f vs e) stays in
-          let before : mayBeListed v (rowOf (st .rows) e) ≡ true = all-at (λ e. mayBeListed v (rowOf (st .rows) e)) (nonzero (v .items)) a e (member-nonzero (v .items) e ∙ and-i _ _ sm (and-l (member e (v .items)) (not (leaves f g vs e)) w)) in
+          let before : mayBeListed v (rowOf (st .rows) e) ≡ true =
+          all-at (λ e. mayBeListed v (rowOf (st .rows) e)) (nonzero (v .items)) a e (member-nonzero (v .items) e ∙ and-i _ _ sm (and-l (member e (v .items)) (not (leaves f g vs e)) w)) in
           ap (mayBeListed v) (row-after g f st e left) ∙ returned-keeps (mayBeListed v) (λ p r. refl) f (st .requests) (rowOf (st .rows) e) ∙ before
 
       at-request : (vs : List Request) (v : Request) → f v ≡ false → all (λ e. mayBeListed v (rowOf (st .rows) e)) (nonzero (v .items)) ≡ true

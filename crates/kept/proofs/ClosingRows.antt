@@ -25,7 +25,7 @@ use Rattle.rows.specs.Setters.{withPlace, withItems}
 use Rattle.closing.specs.Closing.{oldestListing, returned, listedIn, leaves, homed, trimmed, remaining, settled}
 use Rattle.closing.proofs.TrimmedLists.{any-older, top-member, length-filter}
 use Rattle.closing.proofs.Facts.{Stands, IsOpen, end-at, copy-at, copy-listed, lists-open}
-use Rattle.closing.proofs.RemovedRows.{Closed}
+use Rattle.closing.proofs.RemovedRows.{Closed, source-stays, via-stays}
 use Rattle.closing.proofs.Lookups.{trimmed-lists, remaining-known, remaining-rises, request-after, returned-keeps, row-after, left-stood, all-left, each-left, older-before, older-after}
 use Rattle.closing.proofs.Processes.{listed-kept}
 use Rattle.kept.proofs.Sourced.{Placeless, depth-placeless, copy-placeless, rows-elsewhere, sources-alike, right-elsewhere}
@@ -76,8 +76,10 @@ module _ (g : List ℕ) (f : Request → Bool) (st : State) (s : Sound st) where
       rows (inl z) = below _ _ _ rows-below (inl z)
       rows (inr t) = below _ _ _ rows-below (inr (rises-range (λ r. r .number) (st .rows) (s .numbers .rows-rise) _ (left-stood g f st _ t) .1))
 
-      requests : (topOf (λ v. v .number) (remaining f g (st .requests)) ≡ 0) ⊎ (member (topOf (λ v. v .number) (remaining f g (st .requests))) (map (λ v. v .number) (remaining f g (st .requests))) ≡ true)
-          → topOf (λ v. v .number) (remaining f g (st .requests)) < st .next
+      left : List Request
+      left = remaining f g (st .requests)
+
+      requests : (topOf (λ v. v .number) left ≡ 0) ⊎ (member (topOf (λ v. v .number) left) (map (λ v. v .number) left) ≡ true) → topOf (λ v. v .number) left < st .next
       requests (inl z) = below _ _ _ requests-below (inl z)
       requests (inr t) = below _ _ _ requests-below (inr (rises-range (λ v. v .number) (st .requests) (s .numbers .requests-rise) _ (remaining-known f g (st .requests) _ t) .1))
 
@@ -115,11 +117,11 @@ module _ (g : List ℕ) (f : Request → Bool) (st : State) (s : Sound st) (c : 
       at-row n t k e =
           ap (λ m. G (back (row n)) (rowOf (after n) m) (viaOf (after n) (back (row n)))) (returned-keeps (λ r. r .source) (λ p r. unfold withPlace in refl) f (st .requests) (row n))
           ∙ ap (λ m. G (back (row n)) (sourceOf (after n) (row n)) (rowOf (after n) m)) (returned-keeps (λ r. r .via) (λ p r. unfold withPlace in refl) f (st .requests) (row n))
-          ∙ ap (λ x. G (back (row n)) x (viaOf (after n) (row n))) (left n (row n .source) t k (source-lower st s n t) (c .source-stays n t k))
-          ∙ ap (λ x. G (back (row n)) (back (row (row n .source))) x) (left n (row n .via) t k (via-lower st s n t) (c .via-stays n t k))
+          ∙ ap (λ x. G (back (row n)) x (viaOf (after n) (row n))) (left n (row n .source) t k (source-lower st (s .numbers) (s .rows) n t) (source-stays g f st c n t k))
+          ∙ ap (λ x. G (back (row n)) (back (row (row n .source))) x) (left n (row n .via) t k (via-lower st (s .numbers) (s .rows) n t) (via-stays g f st c n t k))
           ∙ h n t k
-          (ap (λ x. F (row n) x (row (row n .via))) (sym (old n (row n .source) t (source-lower st s n t)))
-          ∙ ap (λ x. F (row n) (sourceOf (before n) (row n)) x) (sym (old n (row n .via) t (via-lower st s n t))) ∙ e)
+          (ap (λ x. F (row n) x (row (row n .via))) (sym (old n (row n .source) t (source-lower st (s .numbers) (s .rows) n t)))
+          ∙ ap (λ x. F (row n) (sourceOf (before n) (row n)) x) (sym (old n (row n .via) t (via-lower st (s .numbers) (s .rows) n t))) ∙ e)
 
   placeless-kept : (F : Row → Row → Row → Bool) → Placeless F → sourced F (st .rows) ≡ true → sourced F (settled g f st .rows) ≡ true
   placeless-kept F h =
@@ -153,7 +155,9 @@ module _ (g : List ℕ) (f : Request → Bool) (st : State) (s : Sound st) (c : 
   unfolding requestsRise trimmed
   port-same n t k =
       ⊎-elim (λ h. ap (λ v. v .port) (request-left n t k h))
-      (λ h. ap (λ v. v .port) (none-zero (remaining f g (st .requests)) (remaining-rises f g (st .requests) (s .numbers .requests-rise)) (rowOf (st .rows) n .request) h ∙ sym (none-zero (st .requests) (s .numbers .requests-rise) (rowOf (st .rows) n .request) h)))
+      (λ h. ap (λ v. v .port)
+      (none-zero (remaining f g (st .requests)) (remaining-rises f g (st .requests) (s .numbers .requests-rise)) (rowOf (st .rows) n .request) h ∙ sym
+      (none-zero (st .requests) (s .numbers .requests-rise) (rowOf (st .rows) n .request) h)))
       (true-or-false (some (rowOf (st .rows) n .request)))
 
   -- ---- "Sources are standing, of the kind above and older"
@@ -169,7 +173,9 @@ module _ (g : List ℕ) (f : Request → Bool) (st : State) (s : Sound st) (c : 
 
       at-row : (n : ℕ) → Stands st n → member n g ≡ false → hasRightSources (st .requests) (row n) (row (row n .source)) (row (row n .via)) ≡ true
           → hasRightSources left (back (row n)) (back (row (row n .source))) (back (row (row n .via))) ≡ true
-      at-row n t k e = ⊎-elim (elsewhere (some (w .number))) (λ h. ap (λ r. hasRightSources left r (back (row (row n .source))) (back (row (row n .via)))) (no-end-same g f st s c n t k h) ∙ stays) (true-or-false (isEnd (row n .kind)))
+      at-row n t k e =
+          ⊎-elim (elsewhere (some (w .number)))
+          (λ h. ap (λ r. hasRightSources left r (back (row (row n .source))) (back (row (row n .via)))) (no-end-same g f st s c n t k h) ∙ stays) (true-or-false (isEnd (row n .kind)))
         where
           w : Request
           w = oldestListing f (row n .number) (st .requests)
@@ -177,11 +183,12 @@ module _ (g : List ℕ) (f : Request → Bool) (st : State) (s : Sound st) (c : 
           stays : hasRightSources left (row n) (back (row (row n .source))) (back (row (row n .via))) ≡ true
           stays =
               sources-alike (st .requests) left (row n) (row (row n .source)) (back (row (row n .source))) (row (row n .via)) (back (row (row n .via)))
-              (kind (row (row n .source))) (node-kept g f st s c (row n .source) (c .source-stays n t k)) (kind (row (row n .via))) (port-same n t k)
+              (kind (row (row n .source))) (node-kept g f st s c (row n .source) (source-stays g f st c n t k)) (kind (row (row n .via))) (port-same n t k)
               ∙ e
 
           -- an end, which may be elsewhere
-          elsewhere : (b : Bool) → isEnd (row n .kind) ≡ true → hasRightSources left (cond b (withPlace (inClist (w .asker)) (row n)) (row n)) (back (row (row n .source))) (back (row (row n .via))) ≡ true
+          elsewhere : (b : Bool) → isEnd (row n .kind) ≡ true
+              → hasRightSources left (cond b (withPlace (inClist (w .asker)) (row n)) (row n)) (back (row (row n .source))) (back (row (row n .via))) ≡ true
           elsewhere true h =
               right-elsewhere left (inClist (w .asker)) (row n) (back (row (row n .source))) (back (row (row n .via))) (clist-not-node (w .asker)) (end-at st s n t h .no-node)
               (or-l (isEnd (row n .kind)) (some (row n .request)) h) stays
@@ -230,7 +237,8 @@ module _ (g : List ℕ) (f : Request → Bool) (st : State) (s : Sound st) (c : 
       not-zero-positive : (q : ℕ) → (q ≡ 0 → ⊥) → 0 < q
       not-zero-positive q h = omega arith
 
-      at-row : (n : ℕ) → Stands st n → member n g ≡ false → copyListed (st .requests) (rowOf (st .rows) n) ≡ true → copyListed (remaining f g (st .requests)) (returned f (st .requests) (rowOf (st .rows) n)) ≡ true
+      at-row : (n : ℕ) → Stands st n → member n g ≡ false → copyListed (st .requests) (rowOf (st .rows) n) ≡ true
+          → copyListed (remaining f g (st .requests)) (returned f (st .requests) (rowOf (st .rows) n)) ≡ true
       at-row n t k e = returned-keeps (copyListed (remaining f g (st .requests))) (λ p r. refl) f (st .requests) r ∙ pick (eqb (r .request) 0) refl e
         where
           r : Row
@@ -242,4 +250,5 @@ module _ (g : List ℕ) (f : Request → Bool) (st : State) (s : Sound st) (c : 
           pick false h e =
               and-i (ltb (r .request) (r .number)) (lists (r .number) (requestOf (remaining f g (st .requests)) (r .request)))
               (and-l (ltb (r .request) (r .number)) (lists (r .number) (requestOf (st .requests) (r .request))) e)
-              (ap (λ m. lists m (requestOf (remaining f g (st .requests)) (r .request))) (row-number (st .rows) n t) ∙ still-listed n t k (pos-some (r .request) (not-zero-positive (r .request) (eqb-false (r .request) 0 h))))
+              (ap (λ m. lists m (requestOf (remaining f g (st .requests)) (r .request))) (row-number (st .rows) n t) ∙ still-listed n t k
+              (pos-some (r .request) (not-zero-positive (r .request) (eqb-false (r .request) 0 h))))

@@ -18,7 +18,7 @@ use Rattle.rows.proofs.Keyed.{all-first, rises-map, rises-range, keys-map}
 use Rattle.tables.proofs.Sound.{Sound}
 use Rattle.rows.proofs.Lists.{member-nonzero, all-map}
 use Rattle.rows.proofs.Places.{clist-not-node, clist-no-system, system-no-node}
-use Rattle.tables.proofs.SoundFacts.{clist-not-system, clist-in-range, row-number, same-eq, eq-same, placed-still}
+use Rattle.tables.proofs.SoundFacts.{clist-not-system, clist-in-range, row-number, same-eq, eq-same, same-place, placed-still}
 use Rattle.tables.proofs.Awaits.{listers-fetched}
 use Rattle.rows.proofs.RowSources.{subdirectory-there}
 use Rattle.rows.specs.Setters.{withPlace, withFetched}
@@ -70,11 +70,11 @@ module _ (st : State) (s : Sound st) (p : ℕ) (v : Request) (found : requestOf 
   system-had : (n : ℕ) → member n (numbers (st .rows)) ≡ true → goes n ≡ true → rowOf (st .rows) n .place ≡ withSystem
   system-had n m g =
       unfold isSystem in eqb-true (rowOf (st .rows) n .place) withSystem
-      (eq-same (isSystem (rowOf (st .rows) n .place)) (awaitsFetch (st .requests) n) (held-so st s n m) ∙ awaited n g)
+      (eq-same (isSystem (rowOf (st .rows) n .place)) (awaitsFetch (st .requests) n) (held-so (st .rows) (st .requests) (s .holders .system-holds) n m) ∙ awaited n g)
 
   may-move : all (mayMove goes) (st .rows) ≡ true
   unfolding mayMove mayBeListed
-  may-move = of-rows st s (mayMove goes) (λ n m. pick n m (goes n) refl)
+  may-move = of-rows (st .rows) (s .numbers .rows-rise) (mayMove goes) (λ n m. pick n m (goes n) refl)
     where
       ended : (a b c d : Bool) → (a && b) || (c && d) ≡ true → a || c ≡ true
       ended true b c d e = refl
@@ -146,7 +146,7 @@ module _ (st : State) (s : Sound st) (p : ℕ) (v : Request) (found : requestOf 
       (λ r e. unfold moved in pick r (goes (r .number)) e) (st .rows) (s .rows .places-in-range)
     where
       pick : (r : Row) (b : Bool) → placeInRange (st .processes) r ≡ true → placeInRange (st .processes) (cond b (withPlace (inClist p) r) r) ≡ true
-      pick r true e = clist-in-range st s p listed (withPlace (inClist p) r) (unfold withPlace in refl)
+      pick r true e = clist-in-range st (s .placed) p listed (withPlace (inClist p) r) (unfold withPlace in refl)
       pick r false e = e
 
   fetched-in-range : fetchedInRange (after .requests) ≡ true
@@ -258,31 +258,31 @@ module _ (st : State) (s : Sound st) (p : ℕ) (v : Request) (found : requestOf 
   unfolding systemHolds
   system-holds =
       all-map (λ r. same (isSystem (r .place)) (awaitsFetch requests′ (r .number))) (moved goes (inClist p)) (st .rows)
-      ∙ of-rows st s (λ r. same (isSystem (moved goes (inClist p) r .place)) (awaitsFetch requests′ (moved goes (inClist p) r .number))) (λ n m. pick n m (goes n) refl)
+      ∙ of-rows (st .rows) (s .numbers .rows-rise) (λ r. same (isSystem (moved goes (inClist p) r .place)) (awaitsFetch requests′ (moved goes (inClist p) r .number))) (λ n m. pick n m (goes n) refl)
     where
       pick : (n : ℕ) → member n (numbers (st .rows)) ≡ true → (b : Bool) → goes n ≡ b
           → same (isSystem (moved goes (inClist p) (rowOf (st .rows) n) .place)) (awaitsFetch requests′ (moved goes (inClist p) (rowOf (st .rows) n) .number)) ≡ true
       pick n m true g =
           same-eq (isSystem (moved goes (inClist p) (rowOf (st .rows) n) .place)) (awaitsFetch requests′ (moved goes (inClist p) (rowOf (st .rows) n) .number))
           (ap isSystem (moved-goes goes (inClist p) (rowOf (st .rows) n) (ap goes (row-number (st .rows) n m) ∙ g))
-          ∙ clist-not-system st s p listed
+          ∙ clist-not-system st (s .placed) p listed
           ∙ sym
           (ap (awaitsFetch requests′) (moved-number goes (inClist p) (rowOf (st .rows) n) ∙ row-number (st .rows) n m)
           ∙ fetched-now (v .number) n (st .requests) (unfold olderFetched in s .holders .older-fetched) there (rw found unfetched) (rw found g)))
       pick n m false g =
           rw (moved-stays goes (inClist p) (rowOf (st .rows) n) (ap goes (row-number (st .rows) n m) ∙ g))
-          (rw (row-number (st .rows) n m, awaits-same (v .number) n (st .requests) (unfold requestsRise in s .numbers .requests-rise) (rw found g)) (held-so st s n m))
+          (rw (row-number (st .rows) n m, awaits-same (v .number) n (st .requests) (unfold requestsRise in s .numbers .requests-rise) (rw found g)) (held-so (st .rows) (st .requests) (s .holders .system-holds) n m))
 
   processes-placed : processesPlaced (after .rows) (after .processes) ≡ true
   unfolding processesPlaced
   processes-placed =
-      placed-still st s rows′ (λ e k hi sub at. row-moved goes (inClist p) none-goes (st .rows) e ∙ stays e k hi sub at)
+      placed-still (st .rows) rows′ (λ e k hi sub at. same-place (rowOf (st .rows) e) (rowOf rows′ e) (row-moved goes (inClist p) none-goes (st .rows) e ∙ stays e k hi sub at)) (st .processes) (s .placed)
     where
       stays : (e k : ℕ) → k ≤ 64 → isSubdirectory (rowOf (st .rows) e .kind) ≡ true → rowOf (st .rows) e .place ≡ inClist k → moved goes (inClist p) (rowOf (st .rows) e) ≡ rowOf (st .rows) e
       stays e k hi sub at =
           let m : member e (numbers (st .rows)) ≡ true = subdirectory-there (st .rows) e sub in
           let in-clist : isSystem (rowOf (st .rows) e .place) ≡ false = ap isSystem at ∙ clist-no-system k hi in
-          let g : goes e ≡ false = false-of (goes e) (λ g. clash (eq-same (isSystem (rowOf (st .rows) e .place)) (awaitsFetch (st .requests) e) (held-so st s e m) ∙ awaited e g) in-clist) in
+          let g : goes e ≡ false = false-of (goes e) (λ g. clash (eq-same (isSystem (rowOf (st .rows) e .place)) (awaitsFetch (st .requests) e) (held-so (st .rows) (st .requests) (s .holders .system-holds) e m) ∙ awaited e g) in-clist) in
           moved-stays goes (inClist p) (rowOf (st .rows) e) (ap goes (row-number (st .rows) e m) ∙ g)
 
   fetched-sound : Sound after

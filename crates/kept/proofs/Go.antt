@@ -12,7 +12,7 @@ use Rattle.rows.specs.Lists.{if_then_else_, between, some}
 use Rattle.rows.specs.Limits.{processes, nodes}
 use Rattle.rows.specs.Codes.{isSubdirectory, inClist, isNode, ownerOf}
 use Rattle.rows.specs.Tables.{State, noProcess, rowOf, processAt, isListed}
-use Rattle.rows.specs.Sound.{rowsRise, requestsRise, numbersApart, belowNext, nextInRange, rowsFit, requestsFit, recordsFit, objectInRange, objectsInRange, rightsInRange, placeInRange, placesInRange, fetchedInRange, sourcesRight, depthsRight, copiesMatch, recordUnused, recordInRange, recordsInRange, endsPaired, portsStand, requestersListed, itemsFew, itemsApart, itemsLent, onePerPort, copiesListed, olderFetched, systemHolds, processPlaced, placedFrom, processesPlaced}
+use Rattle.rows.specs.Sound.{recordsFit, objectInRange, objectsInRange, placeInRange, placesInRange, recordUnused, recordInRange, recordsInRange, requestersListed, processPlaced, placedFrom, processesPlaced}
 use Rattle.rows.proofs.Bools.{and-l, and-r, and-i, or-l, or-r, eqb-self, pos-some, all-eq}
 use Rattle.tables.proofs.Sound.{Sound}
 use Rattle.tables.proofs.SoundFacts.{row-below, listed-range, prime-node, row-object, subdirectory-node}
@@ -54,29 +54,20 @@ module _ (st : State) (s : Sound st) (p : ℕ) (l : isListed (st .processes) p �
   listed-set : (q : ℕ) → isListed (set (st .processes) (p - 1) x) q ≡ isListed (st .processes) q
   unfolding isListed processAt
   listed-set zero = refl
-  listed-set (suc j) = ap some (go p (listed-range st s p l .0) e)
+  listed-set (suc j) = ap some (go p (listed-range st (s .placed) p l .0) e)
     where
       go : (p : ℕ) → 0 < p → x .prime ≡ processAt (st .processes) p .prime → getD (set (st .processes) (p - 1) x) j noProcess .prime ≡ getD (st .processes) j noProcess .prime
       go zero h e = absurd (omega arith)
       go (suc i) h e = let z : suc i - 1 ≡ i = omega arith in rw z (prime-set (st .processes) i x e j)
 
   record-kept : isNode (x .active) ≡ true → processPlaced (st .rows) p x ≡ true → Sound (withRecord p x st)
-  unfolding withRecord rowsRise requestsRise numbersApart belowNext nextInRange rowsFit requestsFit recordsFit objectsInRange rightsInRange placesInRange fetchedInRange sourcesRight depthsRight copiesMatch recordInRange recordsInRange endsPaired portsStand requestersListed itemsFew itemsApart itemsLent onePerPort copiesListed olderFetched systemHolds processesPlaced isNode
+  unfolding withRecord objectsInRange placesInRange requestersListed recordsFit recordInRange recordsInRange processesPlaced between isNode
   record-kept n h =
       let ps = st .processes in
       let qs = set ps (p - 1) x in
-      let (lo, hi) = listed-range st s p l in
+      let (lo, hi) = listed-range st (s .placed) p l in
       record {
-        numbers =
-            record {
-              rows-rise = s .numbers .rows-rise;
-              requests-rise = s .numbers .requests-rise;
-              numbers-apart = s .numbers .numbers-apart;
-              below-next = s .numbers .below-next;
-              next-in-range = s .numbers .next-in-range;
-              rows-fit = s .numbers .rows-fit;
-              requests-fit = s .numbers .requests-fit;
-            };
+        numbers = s .numbers;
         rows =
             record {
               objects-in-range = all-eq (objectInRange qs) (objectInRange ps) (object-same ps qs listed-set) (st .rows) ∙ s .rows .objects-in-range;
@@ -98,17 +89,13 @@ module _ (st : State) (s : Sound st) (p : ℕ) (l : isListed (st .processes) p �
               one-per-port = s .loans .one-per-port;
               copies-listed = s .loans .copies-listed;
             };
-        holders =
-            record {
-              older-fetched = s .holders .older-fetched;
-              system-holds = s .holders .system-holds;
-            };
+        holders = s .holders;
         placed =
             record {
               records-fit = rw (length-set ps (p - 1) x) (s .placed .records-fit);
               records-in-range =
                   all-set recordInRange ps (p - 1) x (s .placed .records-in-range)
-                  (or-r (recordUnused x) _ (and-i (between 1 nodes (x .prime)) (between 1 nodes (x .active)) (ap isNode e ∙ prime-node st s p l) n));
+                  (or-r (recordUnused x) _ (and-i (between 1 nodes (x .prime)) (between 1 nodes (x .active)) (ap isNode e ∙ prime-node st (s .placed) p l) n));
               processes-placed = placed-set (st .rows) ps 1 (p - 1) p x (omega arith) (s .placed .processes-placed) h;
             };
       }
@@ -120,7 +107,7 @@ module _ (st : State) (s : Sound st) (p : ℕ) (l : isListed (st .processes) p �
   home-kept =
       let x = processAt (st .processes) p in
       let y : Process = record { prime = x .prime; active = x .prime; through = 0 } in
-      record-kept st s p l y refl (prime-node st s p l) (or-l (eqb (x .prime) (x .prime)) _ (eqb-self (x .prime)))
+      record-kept st s p l y refl (prime-node st (s .placed) p l) (or-l (eqb (x .prime) (x .prime)) _ (eqb-self (x .prime)))
 
   through-kept : (e : ℕ) → InHand st p e → isSubdirectory (rowOf (st .rows) e .kind) ≡ true → Sound (goThrough st p e)
   unfolding goThrough processPlaced
@@ -128,9 +115,9 @@ module _ (st : State) (s : Sound st) (p : ℕ) (l : isListed (st .processes) p �
       let r = rowOf (st .rows) e in
       let there = h .there in
       let x : Process = record { prime = processAt (st .processes) p .prime; active = r .object; through = e } in
-      record-kept st s p l x refl (subdirectory-node (st .processes) r (row-object st s e there) k)
+      record-kept st s p l x refl (subdirectory-node (st .processes) r (row-object st (s .rows) e there) k)
       (or-r (eqb e 0 && eqb (x .active) (x .prime)) _
-      (and-i (some e) _ (pos-some e (row-below st s e there .0)) (and-i (isSubdirectory (r .kind)) _ k (and-i (eqb (r .place) (inClist p)) _ (h .place) (eqb-self (r .object))))))
+      (and-i (some e) _ (pos-some e (row-below st (s .numbers) e there .0)) (and-i (isSubdirectory (r .kind)) _ k (and-i (eqb (r .place) (inClist p)) _ (h .place) (eqb-self (r .object))))))
 
 pub go-kept : (st : State) → Sound st → (p e : ℕ) → GoAllowed st p e → Sound (if eqb e 0 then goHome st p else goThrough st p e)
 go-kept st s p e a = pick (eqb e 0) refl

@@ -44,8 +44,8 @@ copy-added st s e place source via d t c p y q z v m f n =
     add-row st s (copied st e place source via d)
     (record {
       number = refl;
-      object = copy-object (st .processes) (rowOf (st .rows) e) (st .next) (rowOf (st .rows) e .rights) place source via d 0 c (row-object st s e t);
-      right = row-right st s e t;
+      object = copy-object (st .processes) (rowOf (st .rows) e) (st .next) (rowOf (st .rows) e .rights) place source via d 0 c (row-object st (s .rows) e t);
+      right = row-right st (s .rows) e t;
       place = p;
       away = y;
       source = q;
@@ -71,14 +71,14 @@ hold-kept st s p e a =
     let l = a .caller in
     let r = rowOf (st .rows) e in
     let via = processAt (st .processes) p .through in
-    let c = in-node-copied (st .requests) (st .rows) r (standing-shape st s e (a .there)) (a .node) in
+    let c = in-node-copied (st .requests) (st .rows) r (standing-shape st (s .numbers) (s .rows) e (a .there)) (a .node) in
     let new = copied st e (inClist p) e via (depthOver (st .rows) e via) in
     copy-added st s e (inClist p) e via (depthOver (st .rows) e via) (a .there) c
-    (clist-in-range st s p l new refl)
-    (clist-not-system st s p l)
+    (clist-in-range st (s .placed) p l new refl)
+    (clist-not-system st (s .placed) p l)
     (or-r (isOpening new) _ (or-r (isRegistered new (sourceOf (st .rows) new)) _ (or-l (isHeld new (sourceOf (st .rows) new) (viaOf (st .rows) new)) _
-    (and-i (isClist (inClist p)) _ (clist-is st s p l) (and-i (isCopied (r .kind)) _ c
-    (and-i (isNode (r .place)) _ (a .node) (and-i _ true (through-right st s p l (processAt (st .processes) p) (placed-at st s p l)) refl)))))))
+    (and-i (isClist (inClist p)) _ (clist-is st (s .placed) p l) (and-i (isCopied (r .kind)) _ c
+    (and-i (isNode (r .place)) _ (a .node) (and-i _ true (through-right st s p l (processAt (st .processes) p) (placed-at st (s .placed) p l)) refl)))))))
     refl (a .depth)
     (or-r (eqb e 0) _ (or-r (isEnd (r .kind)) _ (and-i _ _ (eqb-self (r .kind)) (and-i _ _ (eqb-self (r .object)) (and-i _ _ (eqb-self (r .operation)) (within-self (r .rights)))))))
     (a .rows-free) (a .numbers-free)
@@ -90,7 +90,7 @@ was-held st s p e a =
     let there = a .row .there in
     let r = rowOf (st .rows) e in
     let outside : isNode (r .place) ≡ false = ap isNode (eqb-true (r .place) (inClist p) (a .row .place)) ∙ clist-not-node p in
-    not-lent-held (st .requests) (st .rows) r (standing-shape st s e there) outside (a .no-end) (unlent-unborne st e there (a .unlent))
+    not-lent-held (st .requests) (st .rows) r (standing-shape st (s .numbers) (s .rows) e there) outside (a .no-end) (unlent-unborne st e there (a .unlent))
 
 pub register-kept : (st : State) → Sound st → (p e : ℕ) → RegisterAllowed st p e → Sound (withRegistered st p e)
 unfolding withRegistered copyOf hasRightSources isHeld isRegistered matchesSource inNode
@@ -103,12 +103,12 @@ register-kept st s p e a =
     let above : isNode (rowOf (st .rows) (r .source) .place) ≡ true = and-l (isNode (rowOf (st .rows) (r .source) .place)) _ (and-r (isCopied (r .kind)) _ (and-r (isClist (r .place)) _ held)) in
     let d′ = depthOver (st .rows) (r .source) 0 in
     let new = copied st e node (r .source) 0 d′ in
-    let active = active-node st s p (a .caller) in
+    let active = active-node st (s .placed) p (a .caller) in
     copy-added st s e node (r .source) 0 d′ there c
     (node-in-range (st .processes) new active)
     (node-not-system node active)
     (or-r (isOpening new) _ (or-l (isRegistered new (sourceOf (st .rows) new)) _
     (and-i (isNode node) _ active (and-i (isCopied (r .kind)) _ c (and-i (isNode (rowOf (st .rows) (r .source) .place)) true above refl)))))
     refl (a .depth)
-    (standing-copy st s e there)
+    (standing-copy st (s .numbers) (s .rows) e there)
     (a .rows-free) (a .numbers-free)

@@ -11,11 +11,10 @@ use Rattle.rows.specs.declared.Request.{Request}
 use Rattle.rows.specs.Lists.{all, each, firstWith, rises, member, some}
 use Rattle.rows.specs.Codes.{isSystem, fetchedMark}
 use Rattle.rows.specs.Setters.{withFetched}
-use Rattle.rows.specs.Tables.{State, noRow, noRequest, rowOf, requestOf, numbers, lists}
+use Rattle.rows.specs.Tables.{noRow, noRequest, rowOf, requestOf, numbers, lists}
 use Rattle.rows.specs.Sound.{isFetched, olderFetchedBy, awaitsFetch, same, systemHolds, rowsRise}
 use Rattle.rows.proofs.Bools.{false-of, clash, and-l, and-r, eqb-sym-f, and-rf}
 use Rattle.rows.proofs.Keyed.{all-first, first-map, first-none, rises-rest, rises-fresh}
-use Rattle.tables.proofs.Sound.{Sound}
 use Rattle.tables.proofs.Picked.{all-found}
 use Rattle.tables.proofs.SoundFacts.{row-number}
 use Rattle.tables.proofs.Awaits.{older-listers}
@@ -101,13 +100,12 @@ module _ (q e : ℕ) where
       pick ih true z l = rw (now-lists q e w, l) (ih (none-after z))
       pick ih false z l = rw (now-other q w z) (rw (ih l) refl)
 
--- ---- rows of sound tables
-module _ (st : State) (s : Sound st) where
-  -- what holds of each row that can be looked up holds of all
-  pub of-rows : (P : Row → Bool) → ((n : ℕ) → member n (numbers (st .rows)) ≡ true → P (rowOf (st .rows) n) ≡ true) → all P (st .rows) ≡ true
-  of-rows P h = unfold numbers rowOf in all-found (λ r. r .number) noRow P (st .rows) (unfold rowsRise in s .numbers .rows-rise) h
+-- ---- rows of tables
+-- what holds of each row that can be looked up holds of all
+pub of-rows : (rows : List Row) → rowsRise rows ≡ true → (P : Row → Bool) → ((n : ℕ) → member n (numbers rows) ≡ true → P (rowOf rows n) ≡ true) → all P rows ≡ true
+of-rows rows up P h = unfold numbers rowOf in all-found (λ r. r .number) noRow P rows (unfold rowsRise in up) h
 
-  pub held-so : (n : ℕ) → member n (numbers (st .rows)) ≡ true → same (isSystem (rowOf (st .rows) n .place)) (awaitsFetch (st .requests) n) ≡ true
-  held-so n m =
-      subst (λ k. same (isSystem (rowOf (st .rows) n .place)) (awaitsFetch (st .requests) k) ≡ true) (row-number (st .rows) n m)
-      (unfold numbers rowOf in all-first (λ r. r .number) noRow (λ r. same (isSystem (r .place)) (awaitsFetch (st .requests) (r .number))) (st .rows) n (unfold systemHolds in s .holders .system-holds) m)
+pub held-so : (rows : List Row) (vs : List Request) → systemHolds vs rows ≡ true → (n : ℕ) → member n (numbers rows) ≡ true → same (isSystem (rowOf rows n .place)) (awaitsFetch vs n) ≡ true
+held-so rows vs h n m =
+    subst (λ k. same (isSystem (rowOf rows n .place)) (awaitsFetch vs k) ≡ true) (row-number rows n m)
+    (unfold numbers rowOf in all-first (λ r. r .number) noRow (λ r. same (isSystem (r .place)) (awaitsFetch vs (r .number))) rows n (unfold systemHolds in h) m)

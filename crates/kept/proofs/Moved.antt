@@ -120,10 +120,12 @@ module _ (t : ℕ → Bool) (x : ℕ) (z : t 0 ≡ false) where
         stayed : hasRightSources vs′ r (moved t x s) (moved t x v) ≡ true
         stayed = sources-alike vs vs′ r s (moved t x s) v (moved t x v) (kind s) (node-same s n) (kind v) port ∙ e
 
-        pick : (b : Bool) → t (r .number) ≡ b → not b || (not (isNode (r .place)) && (isEnd (r .kind) || some (r .request))) ≡ true → hasRightSources vs′ (moved t x r) (moved t x s) (moved t x v) ≡ true
+        pick : (b : Bool) → t (r .number) ≡ b → not b || (not (isNode (r .place)) && (isEnd (r .kind) || some (r .request))) ≡ true
+            → hasRightSources vs′ (moved t x r) (moved t x s) (moved t x v) ≡ true
         pick true g q =
             rw (moved-goes-to t x r g)
-            (right-elsewhere vs′ x r (moved t x s) (moved t x v) away (not-t (isNode (r .place)) (and-l (not (isNode (r .place))) (isEnd (r .kind) || some (r .request)) q)) (and-r (not (isNode (r .place))) (isEnd (r .kind) || some (r .request)) q) stayed)
+            (right-elsewhere vs′ x r (moved t x s) (moved t x v) away
+            (not-t (isNode (r .place)) (and-l (not (isNode (r .place))) (isEnd (r .kind) || some (r .request)) q)) (and-r (not (isNode (r .place))) (isEnd (r .kind) || some (r .request)) q) stayed)
         pick false g q = rw (moved-stays t x r g) stayed
 
     pub sources-moved : (vs vs′ : List Request) (rs : List Row) → all (mayMove t) rs ≡ true → ((r : Row) → copyListed vs r ≡ true → requestOf vs′ (r .request) .port ≡ requestOf vs (r .request) .port)

@@ -36,8 +36,8 @@ module _ (st : State) (s : Sound st) (rs : List Row) (e d : ℕ) where
         number = refl;
         object = o;
         right = rw k refl;
-        place = clist-in-range st s p l r refl;
-        away = clist-not-system st s p l;
+        place = clist-in-range st (s .placed) p l r refl;
+        away = clist-not-system st (s .placed) p l;
         source =
             or-r (isOpening r) _ (or-r (isRegistered r (sourceOf rs r)) _ (or-r (isHeld r (sourceOf rs r) (viaOf rs r)) _ (or-l (isPortEnd r (sourceOf rs r)) _
             (and-i (isEnd kind) _ k (and-i (not (isNode (inClist p))) _ (ap not (clist-not-node p)) (and-i (isOperation (rowOf rs e .kind)) true h refl))))));
@@ -79,12 +79,12 @@ port-kept st s p e a =
     let one : Added st (client ∷ []) (suc n) =
     added-one st [] n client (omega arith) (omega arith)
     (end-new st s rs e d clientEnd n n p refl (client-object (st .processes) n (inClist p) e d) (a .caller) (a .operation) refl (a .depth)) (added-none st s) in
-    let (lo, hi) = row-below st s e there in
+    let (lo, hi) = row-below st (s .numbers) e there in
     let at-e : rowOf (client ∷ rs) e ≡ rowOf rs e = row-before n rs (client ∷ []) (one .new-numbers) e hi in
-    let at-0 : rowOf (client ∷ rs) 0 ≡ rowOf rs 0 = row-before n rs (client ∷ []) (one .new-numbers) 0 (next-some st s) in
+    let at-0 : rowOf (client ∷ rs) 0 ≡ rowOf rs 0 = row-before n rs (client ∷ []) (one .new-numbers) 0 (next-some st (s .numbers)) in
     let two : Added st (server ∷ client ∷ []) (suc (suc n)) =
     added-one st (client ∷ []) (suc n) server (omega arith) (omega arith)
     (end-new st s (client ∷ rs) e d serverEnd (suc n) n manager refl (server-object (st .processes) n (inClist manager) e d)
-    (manager-listed (st .processes) (rowOf rs e) (row-object st s e there) (a .operation)) (rw at-e (a .operation)) (rw (at-e, at-0) refl) (a .depth))
+    (manager-listed (st .processes) (rowOf rs e) (row-object st (s .rows) e there) (a .operation)) (rw at-e (a .operation)) (rw (at-e, at-0) refl) (a .depth))
     one in
     added-sound st s (server ∷ client ∷ []) (suc (suc n)) two (ends-pair n (inClist p) (inClist manager) e d rs)

@@ -118,26 +118,28 @@ module _ (st : State) (s : Sound st) (seed : Row → Bool) (qs : List ℕ)
       by-number : member (v .number) qs ≡ true → member n gone ≡ true
       by-number e =
           let is-open : member (r .request) (map (λ v. v .number) (st .requests)) ≡ true = and-l (member (r .request) (map (λ v. v .number) (st .requests))) (closes qs gone v) kept in
-          marked-seed seed (st .rows) (s .numbers .rows-rise) (sources-older st s) n t (bearers n t (rw (first-key (λ v. v .number) noRequest (st .requests) (r .request) is-open) at e) b)
+          marked-seed seed (st .rows) (s .numbers .rows-rise) (sources-older st (s .numbers) (s .rows)) n t
+          (bearers n t (rw (first-key (λ v. v .number) noRequest (st .requests) (r .request) is-open) at e) b)
 
       by-port : member (v .port) gone ≡ true → member n gone ≡ true
       by-port e =
           let copy = copy-at st s n t b in
           let stands = client-there (st .rows) (r .via) (copy .via-client) in
           let above = rises-range (λ r. r .number) (st .rows) (s .numbers .rows-rise) (r .via) stands in
-          marked-source seed (st .rows) (s .numbers .rows-rise) (sources-older st s) n t (r .via) (via-listed r (pos-some (r .via) (above .0))) (rw (copy .through-port) at e)
+          marked-source seed (st .rows) (s .numbers .rows-rise) (sources-older st (s .numbers) (s .rows)) n t (r .via) (via-listed r (pos-some (r .via) (above .0))) (rw (copy .through-port) at e)
 
   -- so nothing more is removed
   gone-again : marked (falls all-gone) (st .rows) ≡ gone
   unfolding all-gone gone falls rowsRise
   gone-again =
-      marked-wider seed (falls all-gone) (st .rows) (s .numbers .rows-rise) (sources-older st s)
+      marked-wider seed (falls all-gone) (st .rows) (s .numbers .rows-rise) (sources-older st (s .numbers) (s .rows))
       (λ n t e.
       or-l (member (rowOf (st .rows) n .number) gone) (some (rowOf (st .rows) n .request) && member (rowOf (st .rows) n .request) shut)
-      (rw (row-number (st .rows) n t) (marked-seed seed (st .rows) (s .numbers .rows-rise) (sources-older st s) n t e)))
+      (rw (row-number (st .rows) n t) (marked-seed seed (st .rows) (s .numbers .rows-rise) (sources-older st (s .numbers) (s .rows)) n t e)))
       (λ n t e.
       ⊎-elim (λ m. rw (row-number (st .rows) n t) at m)
-      (λ m. bearer-gone n t (and-l (some (rowOf (st .rows) n .request)) (member (rowOf (st .rows) n .request) shut) m) (and-r (some (rowOf (st .rows) n .request)) (member (rowOf (st .rows) n .request) shut) m))
+      (λ m. bearer-gone n t (and-l (some (rowOf (st .rows) n .request)) (member (rowOf (st .rows) n .request) shut) m)
+      (and-r (some (rowOf (st .rows) n .request)) (member (rowOf (st .rows) n .request) shut) m))
       (or-cases (member (rowOf (st .rows) n .number) gone) (some (rowOf (st .rows) n .request) && member (rowOf (st .rows) n .request) shut) e))
 
   -- a round from the removed rows, whether qs are closed or all of `shut`

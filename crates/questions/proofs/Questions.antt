@@ -10,11 +10,11 @@ use borrow.Author.Tests.{eqb-true, eq-eqb, ne-eqb, leb-true}
 use lib.Dec.{leb, eqb}
 use lib.ListN.{getD}
 use Rattle.rows.specs.declared.Row.{Row}
-use Rattle.rows.specs.Lists.{filter, any, member, some, nonzero}
+use Rattle.rows.specs.Lists.{filter, any, member, some, nonzero, each}
 use Rattle.rows.specs.Limits.{greatestDepth}
 use Rattle.rows.specs.Codes.{operation, subdirectory, clientEnd, isOperation, isSubdirectory, isClient, isEnd, isCopied}
 use Rattle.rows.specs.Tables.{State, noRow, rowOf, numbers, sources, depthOver, reaches, marked, bears, comesFrom, onLoan, lentItself, isLent}
-use Rattle.rows.specs.Sound.{rowsRise, sound, isOpening, isRegistered, isHeld, isPortEnd, isLentCopy, sourceRight, sourcesRight, depthRight, depthsRight, hasRightDepth, sourceOf, viaOf}
+use Rattle.rows.specs.Sound.{rowsRise, sound, isOpening, isRegistered, isHeld, isPortEnd, isLentCopy, sourceRight, sourcesRight, depthRight, depthsRight, hasRightDepth, sourceOf, viaOf, sourced}
 use Rattle.rows.specs.contracts.Represents.{Represents}
 use Rattle.rows.specs.Layout.{rowSlot}
 use Rattle.questions.specs.contracts.Questions.{touches, Touched, Reaches, ViaReaches, PortReaches}
@@ -113,7 +113,7 @@ module _ (st : State) (s : Sound st) where
       let rs = st .rows in
       let r = rowOf rs n in
       sym (marked-reaches f rs (s .numbers .rows-rise) n)
-      ∙ marked-closed f rs (s .numbers .rows-rise) (sources-older st s) n h
+      ∙ marked-closed f rs (s .numbers .rows-rise) (sources-older st (s .numbers) (s .rows)) n h
       ∙ ap (λ (b : Bool). f r || b)
       (any-eq (λ m. member m (marked f rs)) (λ m. reaches f rs m) (marked-reaches f rs (s .numbers .rows-rise)) (sources r)
       ∙ any-sources (λ m. reaches f rs m) (reaches-zero f) r)
@@ -123,7 +123,7 @@ module _ (st : State) (s : Sound st) where
     pub depth-falls : (rowOf (st .rows) (rowOf (st .rows) n .source) .depth < rowOf (st .rows) n .depth)
         × (rowOf (st .rows) (rowOf (st .rows) n .via) .depth < rowOf (st .rows) n .depth)
         × (rowOf (st .rows) n .depth ≤ 12)
-    unfolding depthsRight hasRightDepth depthOver greatestDepth rowsRise rowOf numbers sourcesRight
+    unfolding depthsRight hasRightDepth depthOver greatestDepth rowsRise rowOf numbers sourcesRight each sourced
     depth-falls =
         let r = rowOf (st .rows) n in
         let old = olderOf (λ r. r .number) (st .rows) n in
@@ -145,7 +145,7 @@ module _ (st : State) (s : Sound st) where
     -- a client end has one source, its operation row
     pub client-via : isClient (rowOf (st .rows) n .kind) ≡ true → rowOf (st .rows) n .via ≡ 0
     unfolding isOpening isRegistered isHeld isPortEnd isLentCopy
-    client-via k = pick (standing-shape st s n t)
+    client-via k = pick (standing-shape st (s .numbers) (s .rows) n t)
       where
         r : Row
         r = rowOf (st .rows) n
@@ -160,7 +160,7 @@ module _ (st : State) (s : Sound st) where
     -- what bears a request is a copy, with the port it was lent over under it
     pub copy-port : (rowOf (st .rows) n .request ≡ 0 → ⊥) → isClient (rowOf (st .rows) (rowOf (st .rows) n .via) .kind) ≡ true
     unfolding isOpening isRegistered isHeld isPortEnd isLentCopy
-    copy-port h = pick (standing-shape st s n t)
+    copy-port h = pick (standing-shape st (s .numbers) (s .rows) n t)
       where
         r : Row
         r = rowOf (st .rows) n

@@ -10,10 +10,10 @@ use Rattle.rows.specs.Limits.{processes, rowSlots, requestSlots}
 use Rattle.rows.specs.Tables.{State}
 use Rattle.rows.specs.Sound.{rowsRise, requestsRise, numbersApart, belowNext, nextInRange, rowsFit, requestsFit, recordsFit, objectsInRange, rightsInRange, placesInRange, fetchedInRange, sourcesRight, depthsRight, copiesMatch, recordsInRange, endsPaired, portsStand, requestersListed, itemsFew, itemsApart, itemsLent, onePerPort, copiesListed, olderFetched, systemHolds, processesPlaced, sound}
 use Rattle.rows.specs.Layout.{rowColumns, requestColumns, requestsAt, nextAt, tablesLength, processesLength, wordsOf, recordsIn, rowsIn, requestsIn, stateOf, rightLengths, soundWords}
-use Rattle.rows.specs.contracts.Represents.{laidWell, Represents}
+use Rattle.rows.specs.contracts.Represents.{laidWell, Represents, sourcesOlder}
 use Rattle.soundness.specs.contracts.Laid.{Decides, RowsLaid, RequestsLaid}
 use Rattle.rows.proofs.Bools.{false-of, clash, bool-eq, and-l, and-r, and-i, not-t, not-f}
-use Rattle.tables.proofs.Sound.{Sound, sound-open, sound-close}
+use Rattle.tables.proofs.Sound.{Numbers, RowsSound, LoansSound, Sound, sound-open, sound-close}
 use Rattle.rows.proofs.LayoutColumns.{list-same}
 use Rattle.tables.proofs.Words.{words-state, sound-represents}
 use Rattle.rows.proofs.ProcessRecords.{length-in}
@@ -26,11 +26,15 @@ ofNext st = nextInRange (st .next) && belowNext (st .next) (st .rows) (st .reque
 abbrev pub ofRows : State → Bool
 ofRows st =
     objectsInRange (st .processes) (st .rows)
-    && (rightsInRange (st .rows) && (placesInRange (st .processes) (st .rows) && (sourcesRight (st .requests) (st .rows) && (depthsRight (st .rows) && (copiesMatch (st .rows) && (endsPaired (st .rows) && copiesListed (st .requests) (st .rows)))))))
+    && (rightsInRange (st .rows) &&
+    (placesInRange (st .processes) (st .rows) &&
+    (sourcesRight (st .requests) (st .rows) && (depthsRight (st .rows) && (copiesMatch (st .rows) && (endsPaired (st .rows) && copiesListed (st .requests) (st .rows)))))))
 
 abbrev pub ofRequests : State → Bool
 ofRequests st =
-    numbersApart (st .rows) (st .requests) && (fetchedInRange (st .requests) && (portsStand (st .rows) (st .requests) && (requestersListed (st .processes) (st .requests) && (itemsApart (st .requests) && (itemsLent (st .rows) (st .requests) && onePerPort (st .requests))))))
+    numbersApart (st .rows) (st .requests) &&
+    (fetchedInRange (st .requests) &&
+    (portsStand (st .rows) (st .requests) && (requestersListed (st .processes) (st .requests) && (itemsApart (st .requests) && (itemsLent (st .rows) (st .requests) && onePerPort (st .requests))))))
 
 abbrev pub ofHolders : State → Bool
 ofHolders st = olderFetched (st .requests) && systemHolds (st .requests) (st .rows)
@@ -53,62 +57,70 @@ module _ (st : State) (e : sound st ≡ true) where
   sound-holders : ofHolders st ≡ true
   sound-holders = let s = sound-open st e in rw (s .holders .older-fetched, s .holders .system-holds) refl
 
--- and soundness from all of them
-module _ (st : State) {t : List ℕ} (rep : Represents t st) (fit : recordsFit (st .processes) ≡ true) (next : ofNext st ≡ true) (records : recordsInRange (st .processes) ≡ true)
-    (rows : ofRows st ≡ true) (requests : ofRequests st ≡ true) (holders : ofHolders st ≡ true) where
-  all-clauses : processesPlaced (st .rows) (st .processes) ≡ true → Sound st
+-- and soundness from all of them, part by part
+module _ (st : State) {t : List ℕ} (rep : Represents t st) (rows : ofRows st ≡ true) (requests : ofRequests st ≡ true) where
+  abbrev Laid : Type 0
+  Laid = rowsRise (st .rows) && (requestsRise (st .requests) && (rowsFit (st .rows) && (requestsFit (st .requests) && (itemsFew (st .requests) && sourcesOlder (st .rows))))) ≡ true
+
+  laid : Laid
   unfolding laidWell
-  all-clauses placed =
-      let well : rowsRise (st .rows) && (requestsRise (st .requests) && (rowsFit (st .rows) && (requestsFit (st .requests) && (itemsFew (st .requests) && _)))) ≡ true = rep .well in
+  laid = rep .well
+
+  all-numbers : ofNext st ≡ true → Numbers (st .next) (st .rows) (st .requests)
+  all-numbers next =
+      let well : Laid = laid in
+      record {
+        rows-rise = search and-l;
+        requests-rise = search (and-l, and-r);
+        numbers-apart = search and-l;
+        below-next = search (and-l, and-r);
+        next-in-range = search and-l;
+        rows-fit = search (and-l, and-r);
+        requests-fit = search (and-l, and-r);
+      }
+
+  all-rows : RowsSound (st .rows) (st .requests) (st .processes)
+  all-rows =
       let later : depthsRight (st .rows) && (copiesMatch (st .rows) && (endsPaired (st .rows) && copiesListed (st .requests) (st .rows))) ≡ true = search and-r in
       record {
-        numbers =
-            record {
-              rows-rise = search and-l;
-              requests-rise = search (and-l, and-r);
-              numbers-apart = search and-l;
-              below-next = search (and-l, and-r);
-              next-in-range = search and-l;
-              rows-fit = search (and-l, and-r);
-              requests-fit = search (and-l, and-r);
-            };
-        rows =
-            record {
-              objects-in-range = search and-l;
-              rights-in-range = search (and-l, and-r);
-              places-in-range = search (and-l, and-r);
-              sources-right = search (and-l, and-r);
-              depths-right = search and-l;
-              copies-match = search (and-l, and-r);
-              ends-paired = search (and-l, and-r);
-            };
-        loans =
-            record {
-              fetched-in-range = search (and-l, and-r);
-              ports-stand = search (and-l, and-r);
-              requesters-listed = search (and-l, and-r);
-              items-few = search (and-l, and-r);
-              items-apart = search (and-l, and-r);
-              items-lent = search (and-l, and-r);
-              one-per-port = search (and-l, and-r);
-              copies-listed = search (and-l, and-r);
-            };
-        holders =
-            record {
-              older-fetched = search and-l;
-              system-holds = search (and-l, and-r);
-            };
-        placed =
-            record {
-              records-fit = fit;
-              records-in-range = records;
-              processes-placed = placed;
-            };
+        objects-in-range = search and-l;
+        rights-in-range = search (and-l, and-r);
+        places-in-range = search (and-l, and-r);
+        sources-right = search (and-l, and-r);
+        depths-right = search and-l;
+        copies-match = search (and-l, and-r);
+        ends-paired = search (and-l, and-r);
+      }
+
+  all-loans : LoansSound (st .rows) (st .requests) (st .processes)
+  all-loans =
+      let well : Laid = laid in
+      let later : depthsRight (st .rows) && (copiesMatch (st .rows) && (endsPaired (st .rows) && copiesListed (st .requests) (st .rows))) ≡ true = search and-r in
+      record {
+        fetched-in-range = search (and-l, and-r);
+        ports-stand = search (and-l, and-r);
+        requesters-listed = search (and-l, and-r);
+        items-few = search (and-l, and-r);
+        items-apart = search (and-l, and-r);
+        items-lent = search (and-l, and-r);
+        one-per-port = search (and-l, and-r);
+        copies-listed = search (and-l, and-r);
+      }
+
+  all-parts : recordsFit (st .processes) ≡ true → ofNext st ≡ true → recordsInRange (st .processes) ≡ true → ofHolders st ≡ true → processesPlaced (st .rows) (st .processes) ≡ true → Sound st
+  all-parts fit next records holders placed =
+      record {
+        numbers = all-numbers next;
+        rows = all-rows;
+        loans = all-loans;
+        holders = record { older-fetched = search and-l; system-holds = search and-r };
+        placed = record { records-fit = fit; records-in-range = records; processes-placed = placed };
       }
 
 -- the tests of the groups, each of which may take those before it as given
 module _ (st : State) {t : List ℕ} (rep : Represents t st) (fit : recordsFit (st .processes) ≡ true) where
-  pub groups-sound : (rows requests holders placed : Bool) → rows ≡ ofRows st → requests ≡ ofRequests st → (itemsLent (st .rows) (st .requests) ≡ true → holders ≡ ofHolders st) → placed ≡ processesPlaced (st .rows) (st .processes)
+  pub groups-sound : (rows requests holders placed : Bool) → rows ≡ ofRows st → requests ≡ ofRequests st
+      → (itemsLent (st .rows) (st .requests) ≡ true → holders ≡ ofHolders st) → placed ≡ processesPlaced (st .rows) (st .processes)
       → ofNext st ≡ true → recordsInRange (st .processes) ≡ true → rows && (requests && (holders && placed)) ≡ sound st
   groups-sound rows requests holders placed er eq eh ep next records = bool-eq (rows && (requests && (holders && placed))) (sound st) forth back
     where
@@ -117,7 +129,7 @@ module _ (st : State) {t : List ℕ} (rep : Represents t st) (fit : recordsFit (
           let q : ofRequests st ≡ true = sym eq ∙ and-l requests (holders && placed) (and-r rows (requests && (holders && placed)) e) in
           let rest : holders && placed ≡ true = and-r requests (holders && placed) (and-r rows (requests && (holders && placed)) e) in
           sound-close st
-          (all-clauses st rep fit next records (sym er ∙ and-l rows (requests && (holders && placed)) e) q (sym (eh (search (and-l, and-r))) ∙ and-l holders placed rest)
+          (all-parts st rep (sym er ∙ and-l rows (requests && (holders && placed)) e) q fit next records (sym (eh (search (and-l, and-r))) ∙ and-l holders placed rest)
           (sym ep ∙ and-r holders placed rest))
 
       back : sound st ≡ true → rows && (requests && (holders && placed)) ≡ true
@@ -125,7 +137,8 @@ module _ (st : State) {t : List ℕ} (rep : Represents t st) (fit : recordsFit (
           rw (er ∙ sound-rows st e, eq ∙ sound-requests st e, eh (sound-open st e .loans .items-lent) ∙ sound-holders st e, ep ∙ sound-open st e .placed .processes-placed) refl
 
 -- the plain clauses come first
-pub clauses-sound : (st : State) (next records tables : Bool) → next ≡ ofNext st → records ≡ recordsInRange (st .processes) → (ofNext st ≡ true → recordsInRange (st .processes) ≡ true → tables ≡ sound st) → next && (records && tables) ≡ sound st
+pub clauses-sound : (st : State) (next records tables : Bool) → next ≡ ofNext st → records ≡ recordsInRange (st .processes)
+    → (ofNext st ≡ true → recordsInRange (st .processes) ≡ true → tables ≡ sound st) → next && (records && tables) ≡ sound st
 clauses-sound st next records tables en er et =
     bool-eq (next && (records && tables)) (sound st)
     (λ e.

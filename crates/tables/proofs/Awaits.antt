@@ -25,7 +25,9 @@ older-listers e v vs l o =
 pub awaits-none : (e : ℕ) (vs : List Request) → all (λ w. isFetched w || not (lists e w)) vs ≡ true → awaitsFetch vs e ≡ false
 unfolding awaitsFetch all
 awaits-none e [] a = refl
-awaits-none e (v ∷ vs) a = pick (awaits-none e vs (and-r (isFetched v || not (lists e v)) (all (λ w. isFetched w || not (lists e w)) vs) a)) (lists e v) (isFetched v) (and-l (isFetched v || not (lists e v)) (all (λ w. isFetched w || not (lists e w)) vs) a)
+awaits-none e (v ∷ vs) a =
+    pick (awaits-none e vs (and-r (isFetched v || not (lists e v)) (all (λ w. isFetched w || not (lists e w)) vs) a)) (lists e v) (isFetched v)
+    (and-l (isFetched v || not (lists e v)) (all (λ w. isFetched w || not (lists e w)) vs) a)
   where
     pick : awaitsFetch vs e ≡ false → (b c : Bool) → c || not b ≡ true → cond b (not c) (awaitsFetch vs e) ≡ false
     pick ih true true t = refl

@@ -107,7 +107,8 @@ module _ (f : Row → Bool) where
       → member n (marked f rs) ≡ f (rowOf rs n) || any (λ s. member s (marked f rs)) (sources (rowOf rs n))
   unfolding rowOf numbers falls member sourcesOlder each
   marked-closed [] up old n t = clash t refl
-  marked-closed (r ∷ rs) up old n t = pick (marked-closed rs (rises-rest (λ r. r .number) r rs up) (and-r (all (λ s. member s (map (λ r. r .number) rs)) (sources r)) (sourcesOlder rs) old) n) (eqb n (r .number)) refl t
+  marked-closed (r ∷ rs) up old n t =
+      pick (marked-closed rs (rises-rest (λ r. r .number) r rs up) (and-r (all (λ s. member s (map (λ r. r .number) rs)) (sources r)) (sourcesOlder rs) old) n) (eqb n (r .number)) refl t
     where
       keys : List ℕ
       keys = map (λ r. r .number) rs
@@ -122,7 +123,8 @@ module _ (f : Row → Bool) where
           let lt = rises-older (λ r. r .number) r rs up s u in
           sym (marked-other r rs s (ne-eqb s (r .number) (λ e. omega arith)))) (sources x) a)
 
-      pick : (member n keys ≡ true → member n (marked f rs) ≡ f (rowOf rs n) || any (λ s. member s (marked f rs)) (sources (rowOf rs n))) → (b : Bool) → eqb n (r .number) ≡ b → b || member n keys ≡ true
+      pick : (member n keys ≡ true → member n (marked f rs) ≡ f (rowOf rs n) || any (λ s. member s (marked f rs)) (sources (rowOf rs n))) → (b : Bool)
+          → eqb n (r .number) ≡ b → b || member n keys ≡ true
           → member n (marked f (r ∷ rs)) ≡ f (rowOf (r ∷ rs) n) || any (λ s. member s (marked f (r ∷ rs))) (sources (rowOf (r ∷ rs) n))
       pick ih true q t =
           rw (eqb-true n (r .number) q, first-here (λ r. r .number) noRow r rs)

@@ -147,4 +147,11 @@ sound-close st s =
     let rows = st .rows in
     let requests = st .requests in
     let ps = st .processes in
-    rw (numbers-close rows requests ps (st .next) (s .numbers), rows-close rows requests ps (s .rows), loans-close rows requests ps (s .loans), holders-close rows requests ps (s .holders), processes-close rows requests ps (s .placed)) refl
+    rw (
+      numbers-close rows requests ps (st .next) (s .numbers),
+      rows-close rows requests ps (s .rows),
+      loans-close rows requests ps
+          (s .loans),
+      holders-close rows requests ps (s .holders),
+      processes-close rows requests ps (s .placed),
+    ) refl

@@ -20,7 +20,7 @@ use Rattle.rows.specs.Sound.{rowsRise, requestsRise, belowNext, recordsFit, obj
 use Rattle.rows.proofs.Bools.{clash, and-l, and-r, and-i, or-cases, or-l, or-r, or-fl, or-fr, or-false, not-t, zero-none, eqb-sym-f, all-mono, or-map}
 use Rattle.rows.proofs.Keyed.{first-key, all-first, rises-rest, rises-first, rises-range}
 use Rattle.rows.proofs.Lists.{all-getD}
-use Rattle.tables.proofs.Sound.{Sound}
+use Rattle.tables.proofs.Sound.{Numbers, RowsSound, ProcessesSound}
 use Rattle.rows.proofs.RowSources.{Shape, opening, registered, held, port-end, lent-copy, row-there, client-there}
 use Rattle.rows.proofs.Places.{range-between, clist-no-system, clist-no-row, client-is-end}
 
@@ -51,18 +51,18 @@ rises-between key b (x ∷ xs) e h =
     and-i (ltb 0 (key x) && ltb (key x) b) (all (λ x. ltb 0 (key x) && ltb (key x) b) xs) (and-i (ltb 0 (key x)) (ltb (key x) b) (lt-ltb 0 (key x) (omega arith)) (lt-ltb (key x) b h))
     (rises-between key b xs (rises-rest key x xs e) (omega arith))
 
-module _ (st : State) (s : Sound st) where
+module _ (st : State) (s : Numbers (st .next) (st .rows) (st .requests)) where
   pub rows-top : topOf (λ r. r .number) (st .rows) < st .next
   unfolding belowNext
   rows-top =
       ltb-true (topOf (λ r. r .number) (st .rows)) (st .next)
-      (and-l (ltb (topOf (λ r. r .number) (st .rows)) (st .next)) (ltb (topOf (λ v. v .number) (st .requests)) (st .next)) (s .numbers .below-next))
+      (and-l (ltb (topOf (λ r. r .number) (st .rows)) (st .next)) (ltb (topOf (λ v. v .number) (st .requests)) (st .next)) (s .below-next))
 
   pub requests-top : topOf (λ v. v .number) (st .requests) < st .next
   unfolding belowNext
   requests-top =
       ltb-true (topOf (λ v. v .number) (st .requests)) (st .next)
-      (and-r (ltb (topOf (λ r. r .number) (st .rows)) (st .next)) (ltb (topOf (λ v. v .number) (st .requests)) (st .next)) (s .numbers .below-next))
+      (and-r (ltb (topOf (λ r. r .number) (st .rows)) (st .next)) (ltb (topOf (λ v. v .number) (st .requests)) (st .next)) (s .below-next))
 
   pub next-some : 0 < st .next
   next-some = let h = rows-top in omega arith
@@ -71,40 +71,42 @@ module _ (st : State) (s : Sound st) where
   pub row-below : (n : ℕ) → member n (numbers (st .rows)) ≡ true → (0 < n) × (n < st .next)
   unfolding rowsRise numbers
   row-below n t =
-      let (lo, hi) = rises-range (λ r. r .number) (st .rows) (s .numbers .rows-rise) n t in
+      let (lo, hi) = rises-range (λ r. r .number) (st .rows) (s .rows-rise) n t in
       let h = rows-top in (lo, omega arith)
 
   pub requests-between : all (λ v. some (v .number) && ltb (v .number) (st .next)) (st .requests) ≡ true
   unfolding requestsRise
-  requests-between = rises-between (λ v. v .number) (st .next) (st .requests) (s .numbers .requests-rise) requests-top
+  requests-between = rises-between (λ v. v .number) (st .next) (st .requests) (s .requests-rise) requests-top
 
   pub requests-below : all (λ v. ltb (v .number) (st .next)) (st .requests) ≡ true
-  requests-below = all-mono (λ v. some (v .number) && ltb (v .number) (st .next)) (λ v. ltb (v .number) (st .next)) (λ v e. and-r (some (v .number)) (ltb (v .number) (st .next)) e) (st .requests) requests-between
+  requests-below =
+      all-mono (λ v. some (v .number) && ltb (v .number) (st .next)) (λ v. ltb (v .number) (st .next)) (λ v e. and-r (some (v .number)) (ltb (v .number) (st .next)) e) (st .requests) requests-between
 
 -- ---- a row that is found
 pub clist-there : (rs : List Row) (p e : ℕ) → eqb (rowOf rs e .place) (inClist p) ≡ true → member e (numbers rs) ≡ true
 clist-there rs p e t = row-there (λ r. eqb (r .place) (inClist p)) (clist-no-row p) rs e t
 
-module _ (st : State) (s : Sound st) (e : ℕ) (t : member e (numbers (st .rows)) ≡ true) where
+module _ (st : State) (s : RowsSound (st .rows) (st .requests) (st .processes)) (e : ℕ) (t : member e (numbers (st .rows)) ≡ true) where
   pub row-object : objectInRange (st .processes) (rowOf (st .rows) e) ≡ true
   unfolding objectsInRange rowOf numbers
-  row-object = all-first (λ r. r .number) noRow (objectInRange (st .processes)) (st .rows) e (s .rows .objects-in-range) t
+  row-object = all-first (λ r. r .number) noRow (objectInRange (st .processes)) (st .rows) e (s .objects-in-range) t
 
   pub row-right : rightInRange (rowOf (st .rows) e) ≡ true
   unfolding rightsInRange rowOf numbers
-  row-right = all-first (λ r. r .number) noRow rightInRange (st .rows) e (s .rows .rights-in-range) t
+  row-right = all-first (λ r. r .number) noRow rightInRange (st .rows) e (s .rights-in-range) t
 
   -- the other end of an end
   pub paired-at : isEnd (rowOf (st .rows) e .kind) ≡ true → isPairedWith (rowOf (st .rows) e) (rowOf (st .rows) (otherEnd (rowOf (st .rows) e))) ≡ true
   unfolding endsPaired rowOf endPaired numbers
-  paired-at k = pick (all-first (λ r. r .number) noRow (endPaired (st .rows)) (st .rows) e (s .rows .ends-paired) t)
+  paired-at k = pick (all-first (λ r. r .number) noRow (endPaired (st .rows)) (st .rows) e (s .ends-paired) t)
     where
       pick : not (isEnd (rowOf (st .rows) e .kind)) || isPairedWith (rowOf (st .rows) e) (rowOf (st .rows) (otherEnd (rowOf (st .rows) e))) ≡ true
           → isPairedWith (rowOf (st .rows) e) (rowOf (st .rows) (otherEnd (rowOf (st .rows) e))) ≡ true
       pick h = rw k at h
 
 -- a client end and its server end, which has the next number
-pub client-paired : (st : State) → Sound st → (c : ℕ) → isClient (rowOf (st .rows) c .kind) ≡ true → isPairedWith (rowOf (st .rows) c) (rowOf (st .rows) (suc c)) ≡ true
+pub client-paired : (st : State) → RowsSound (st .rows) (st .requests) (st .processes) → (c : ℕ) → isClient (rowOf (st .rows) c .kind) ≡ true
+    → isPairedWith (rowOf (st .rows) c) (rowOf (st .rows) (suc c)) ≡ true
 unfolding otherEnd
 client-paired st s c k =
     let r : Row = rowOf (st .rows) c in
@@ -150,7 +152,8 @@ in-node-copied vs rs r (held u) n = search (and-l, and-r)
 in-node-copied vs rs r (port-end u) n = let w : not (isNode (r .place)) ≡ true = search (and-l, and-r) in clash n (not-t (isNode (r .place)) w)
 in-node-copied vs rs r (lent-copy u) n = search (and-l, and-r)
 
-pub not-lent-held : (vs : List Request) (rs : List Row) (r : Row) → Shape vs r (sourceOf rs r) (viaOf rs r) → isNode (r .place) ≡ false → isEnd (r .kind) ≡ false → some (r .request) ≡ false → isHeld r (sourceOf rs r) (viaOf rs r) ≡ true
+pub not-lent-held : (vs : List Request) (rs : List Row) (r : Row) → Shape vs r (sourceOf rs r) (viaOf rs r) → isNode (r .place) ≡ false
+    → isEnd (r .kind) ≡ false → some (r .request) ≡ false → isHeld r (sourceOf rs r) (viaOf rs r) ≡ true
 unfolding isOpening isRegistered isPortEnd isLentCopy
 not-lent-held vs rs r (opening u) n k q = clash (and-l (isNode (r .place)) _ u) n
 not-lent-held vs rs r (registered u) n k q = clash (and-l (isNode (r .place)) _ u) n
@@ -171,7 +174,8 @@ reached-itself f (r ∷ rs) e t q = pick (reached-itself f rs e) (eqb (r .number
 
 pub unlent-unborne : (st : State) (e : ℕ) → member e (numbers (st .rows)) ≡ true → isLent st e ≡ false → some (rowOf (st .rows) e .request) ≡ false
 unfolding isLent lentItself
-unlent-unborne st e t q = or-fr (isEnd (rowOf (st .rows) e .kind) && onLoan (st .requests) (rowOf (st .rows) e .number)) (some (rowOf (st .rows) e .request)) (reached-itself (lentItself (st .requests)) (st .rows) e t q)
+unlent-unborne st e t q =
+    or-fr (isEnd (rowOf (st .rows) e .kind) && onLoan (st .requests) (rowOf (st .rows) e .number)) (some (rowOf (st .rows) e .request)) (reached-itself (lentItself (st .requests)) (st .rows) e t q)
 
 -- ---- the records, one by one
 -- a listed process is 1 or more, and has a record
@@ -195,42 +199,49 @@ placed-from rs (x ∷ xs) k t zero q e =
     let z : q ≡ k = omega arith in ap (λ n. processPlaced rs n x) z ∙ and-l (processPlaced rs k x) (placedFrom rs (suc k) xs) t
 placed-from rs (x ∷ xs) k t (suc i) q e = placed-from rs xs (suc k) (and-r (processPlaced rs k x) (placedFrom rs (suc k) xs) t) i q (omega arith)
 
-placed-stays : (rs rs′ : List Row) → ((e p : ℕ) → p ≤ 64 → isSubdirectory (rowOf rs e .kind) ≡ true → rowOf rs e .place ≡ inClist p → rowOf rs′ e ≡ rowOf rs e)
-    → (p : ℕ) (ps : List Process) → p + length ps ≤ 65 → placedFrom rs p ps ≡ true → placedFrom rs′ p ps ≡ true
-unfolding placedFrom
-placed-stays rs rs′ h p [] b e = refl
-placed-stays rs rs′ h p (x ∷ xs) b e =
-    and-i (processPlaced rs′ p x) (placedFrom rs′ (suc p) xs) (placed (and-l (processPlaced rs p x) (placedFrom rs (suc p) xs) e))
-    (placed-stays rs rs′ h (suc p) xs (omega arith) (and-r (processPlaced rs p x) (placedFrom rs (suc p) xs) e))
-  where
-    rest : Row → Bool
-    rest r = some (x .through) && (isSubdirectory (r .kind) && (eqb (r .place) (inClist p) && eqb (r .object) (x .active)))
+-- a row in the same place that is of the same kind and names the same: all that a process which went through it asks
+pub record SamePlace (r r′ : Row) : Type 0 where
+  pub kind : r′ .kind ≡ r .kind
+  pub place : r′ .place ≡ r .place
+  pub object : r′ .object ≡ r .object
 
-    stays : rest (rowOf rs (x .through)) ≡ true → rest (rowOf rs′ (x .through)) ≡ true
-    stays q =
-        let k : isSubdirectory (rowOf rs (x .through) .kind) ≡ true = search (and-l, and-r) in
-        let l : eqb (rowOf rs (x .through) .place) (inClist p) ≡ true = search (and-l, and-r) in
-        rw (h (x .through) p (omega arith) k (eqb-true (rowOf rs (x .through) .place) (inClist p) l)) q
-
-    placed : processPlaced rs p x ≡ true → processPlaced rs′ p x ≡ true
-    placed q =
-        unfold processPlaced in
-        or-map (eqb (x .through) 0 && eqb (x .active) (x .prime)) (rest (rowOf rs (x .through))) (rest (rowOf rs′ (x .through))) stays q
+pub same-place : (r r′ : Row) → r′ ≡ r → SamePlace r r′
+same-place r r′ e = record { kind = ap (λ r. r .kind) e; place = ap (λ r. r .place) e; object = ap (λ r. r .object) e }
 
 -- every process stays placed, if the subdirectory rows in c-lists stay
-pub placed-still : (st : State) → Sound st → (rs : List Row) → ((e p : ℕ) → p ≤ 64 → isSubdirectory (rowOf (st .rows) e .kind) ≡ true → rowOf (st .rows) e .place ≡ inClist p → rowOf rs e ≡ rowOf (st .rows) e)
-    → placedFrom rs 1 (st .processes) ≡ true
-unfolding recordsFit processes processesPlaced
-placed-still st s rs h =
-    let l : length (st .processes) ≡ 64 = eqb-true (length (st .processes)) 64 (s .placed .records-fit) in
-    placed-stays (st .rows) rs h 1 (st .processes) (omega arith) (s .placed .processes-placed)
+module _ (rs rs′ : List Row) (h : (e p : ℕ) → p ≤ 64 → isSubdirectory (rowOf rs e .kind) ≡ true → rowOf rs e .place ≡ inClist p → SamePlace (rowOf rs e) (rowOf rs′ e)) where
+  placed-stays : (p : ℕ) (ps : List Process) → p + length ps ≤ 65 → placedFrom rs p ps ≡ true → placedFrom rs′ p ps ≡ true
+  unfolding placedFrom
+  placed-stays p [] b e = refl
+  placed-stays p (x ∷ xs) b e =
+      and-i (processPlaced rs′ p x) (placedFrom rs′ (suc p) xs) (placed (and-l (processPlaced rs p x) (placedFrom rs (suc p) xs) e))
+      (placed-stays (suc p) xs (omega arith) (and-r (processPlaced rs p x) (placedFrom rs (suc p) xs) e))
+    where
+      rest : Row → Bool
+      rest r = some (x .through) && (isSubdirectory (r .kind) && (eqb (r .place) (inClist p) && eqb (r .object) (x .active)))
+
+      stays : rest (rowOf rs (x .through)) ≡ true → rest (rowOf rs′ (x .through)) ≡ true
+      stays q =
+          let k : isSubdirectory (rowOf rs (x .through) .kind) ≡ true = search (and-l, and-r) in
+          let l : eqb (rowOf rs (x .through) .place) (inClist p) ≡ true = search (and-l, and-r) in
+          let same = h (x .through) p (omega arith) k (eqb-true (rowOf rs (x .through) .place) (inClist p) l) in
+          rw (same .kind, same .place, same .object) q
+
+      placed : processPlaced rs p x ≡ true → processPlaced rs′ p x ≡ true
+      placed q =
+          unfold processPlaced in
+          or-map (eqb (x .through) 0 && eqb (x .active) (x .prime)) (rest (rowOf rs (x .through))) (rest (rowOf rs′ (x .through))) stays q
+
+  pub placed-still : (ps : List Process) → ProcessesSound rs ps → processesPlaced rs′ ps ≡ true
+  unfolding recordsFit processes processesPlaced
+  placed-still ps s = let l : length ps ≡ 64 = eqb-true (length ps) 64 (s .records-fit) in placed-stays 1 ps (omega arith) (s .processes-placed)
 
 -- ---- a listed process
-module _ (st : State) (s : Sound st) (p : ℕ) (l : isListed (st .processes) p ≡ true) where
+module _ (st : State) (s : ProcessesSound (st .rows) (st .processes)) (p : ℕ) (l : isListed (st .processes) p ≡ true) where
   pub listed-range : (0 < p) × (p ≤ 64)
   unfolding recordsFit processes
   listed-range =
-      let fits : length (st .processes) ≡ 64 = eqb-true (length (st .processes)) 64 (s .placed .records-fit) in
+      let fits : length (st .processes) ≡ 64 = eqb-true (length (st .processes)) 64 (s .records-fit) in
       let (lo, hi) = listed-has-record (st .processes) p l in (lo, omega arith)
 
   pub clist-is : isClist (inClist p) ≡ true
@@ -255,7 +266,7 @@ module _ (st : State) (s : Sound st) (p : ℕ) (l : isListed (st .processes) p �
   record-at : (q : ℕ) → recordInRange (processAt (st .processes) q) ≡ true
   unfolding recordsInRange recordInRange recordUnused processAt noProcess
   record-at zero = refl
-  record-at (suc i) = all-getD recordInRange (st .processes) (s .placed .records-in-range) i noProcess refl
+  record-at (suc i) = all-getD recordInRange (st .processes) (s .records-in-range) i noProcess refl
 
   nodes-right : (x : Process) → some (x .prime) ≡ true → recordInRange x ≡ true → between 1 nodes (x .prime) && between 1 nodes (x .active) ≡ true
   unfolding recordInRange recordUnused
@@ -275,4 +286,4 @@ module _ (st : State) (s : Sound st) (p : ℕ) (l : isListed (st .processes) p �
     where
       go : (q : ℕ) → (0 < q) × (q ≤ 64) → processPlaced (st .rows) q (processAt (st .processes) q) ≡ true
       go zero (h, h′) = absurd (omega arith)
-      go (suc i) h = placed-from (st .rows) (st .processes) 1 (s .placed .processes-placed) i (suc i) (omega arith)
+      go (suc i) h = placed-from (st .rows) (st .processes) 1 (s .processes-placed) i (suc i) (omega arith)

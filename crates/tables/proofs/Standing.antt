@@ -16,12 +16,12 @@ use Rattle.rows.specs.Tables.{State, noRow, rowOf, numbers, sources, marked}
 use Rattle.rows.specs.Sound.{rowsRise, isOpening, isRegistered, isHeld, isPortEnd, isLentCopy, sourceRight, sourcesRight, copyMatches, copiesMatch, hasRightSources, matchesSource, sourced, sourceOf, viaOf}
 use Rattle.rows.proofs.Bools.{false-of, clash, not-t, and-l, and-r, and-i, some-pos, member-here, member-there}
 use Rattle.rows.proofs.Keyed.{olderOf, each-first, older-first, older-key, rises-range}
-use Rattle.tables.proofs.Sound.{Sound}
+use Rattle.tables.proofs.Sound.{Numbers, RowsSound}
 use Rattle.rows.proofs.RowSources.{Among, Shape, opening, registered, held, port-end, lent-copy, shape, shape-sources}
 use Rattle.rows.specs.contracts.Represents.{sourcesOlder}
 use Rattle.tables.proofs.Marking.{marked-least}
 
-module _ (st : State) (s : Sound st) (n : ℕ) (t : member n (numbers (st .rows)) ≡ true) where
+module _ (st : State) (up : Numbers (st .next) (st .rows) (st .requests)) (s : RowsSound (st .rows) (st .requests) (st .processes)) (n : ℕ) (t : member n (numbers (st .rows)) ≡ true) where
   older : List Row
   older = olderOf (λ r. r .number) (st .rows) n
 
@@ -35,17 +35,17 @@ module _ (st : State) (s : Sound st) (n : ℕ) (t : member n (numbers (st .rows)
   among-older : Among older (row .source) × Among older (row .via)
   unfolding sourcesRight
   among-older =
-      shape-sources (st .requests) row older (shape (st .requests) row (sourceOf older row) (viaOf older row) (sourced-older (hasRightSources (st .requests)) (s .rows .sources-right)))
+      shape-sources (st .requests) row older (shape (st .requests) row (sourceOf older row) (viaOf older row) (sourced-older (hasRightSources (st .requests)) (s .sources-right)))
 
   -- what is among the older rows has a lower number
   lower : (m : ℕ) → Among older m → m < n
   unfolding rowsRise numbers older
-  lower m (inl z) = let (lo, hi) = rises-range (λ r. r .number) (st .rows) (s .numbers .rows-rise) n t in omega arith
-  lower m (inr u) = older-key (λ r. r .number) (st .rows) (s .numbers .rows-rise) n m t u .0
+  lower m (inl z) = let (lo, hi) = rises-range (λ r. r .number) (st .rows) (up .rows-rise) n t in omega arith
+  lower m (inr u) = older-key (λ r. r .number) (st .rows) (up .rows-rise) n m t u .0
 
   look-older : (m : ℕ) → m < n → rowOf older m ≡ rowOf (st .rows) m
   unfolding rowsRise rowOf numbers older
-  look-older m h = older-first (λ r. r .number) noRow (st .rows) (s .numbers .rows-rise) n t m h
+  look-older m h = older-first (λ r. r .number) noRow (st .rows) (up .rows-rise) n t m h
 
   -- the sources are 0 or older
   pub source-lower : row .source < n
@@ -62,11 +62,11 @@ module _ (st : State) (s : Sound st) (n : ℕ) (t : member n (numbers (st .rows)
 
   pub standing-shape : Shape (st .requests) row (sourceOf (st .rows) row) (viaOf (st .rows) row)
   unfolding sourcesRight
-  standing-shape = shape (st .requests) row (sourceOf (st .rows) row) (viaOf (st .rows) row) (sourced-at (hasRightSources (st .requests)) (s .rows .sources-right))
+  standing-shape = shape (st .requests) row (sourceOf (st .rows) row) (viaOf (st .rows) row) (sourced-at (hasRightSources (st .requests)) (s .sources-right))
 
   pub standing-copy : copyMatches row (st .rows) ≡ true
   unfolding copiesMatch
-  standing-copy = sourced-at matchesSource (s .rows .copies-match)
+  standing-copy = sourced-at matchesSource (s .copies-match)
 
 -- ---- sources
 -- 0, or what passes
@@ -84,14 +84,14 @@ unfolding each
 each-mono F G h [] e = refl
 each-mono F G h (x ∷ xs) e = and-i (G x xs) (each G xs) (h x xs (and-l (F x xs) (each F xs) e)) (each-mono F G h xs (and-r (F x xs) (each F xs) e))
 
-pub sources-older : (st : State) → Sound st → sourcesOlder (st .rows) ≡ true
+pub sources-older : (st : State) → Numbers (st .next) (st .rows) (st .requests) → RowsSound (st .rows) (st .requests) (st .processes) → sourcesOlder (st .rows) ≡ true
 unfolding sourcesOlder sourcesRight sources nonzero filter all each sourced
-sources-older st s =
+sources-older st up s =
     each-mono (sourceRight (st .requests)) (λ r rs. all (λ s. member s (numbers rs)) (sources r))
     (λ r rs e.
     let (a, b) = shape-sources (st .requests) r rs (shape (st .requests) r (sourceOf rs r) (viaOf rs r) e) in
     kept-one (λ s. member s (numbers rs)) (r .source) (r .via ∷ []) a (kept-one (λ s. member s (numbers rs)) (r .via) [] b refl))
-    (st .rows) (s .rows .sources-right)
+    (st .rows) (s .sources-right)
 
 pub via-listed : (r : Row) → some (r .via) ≡ true → member (r .via) (sources r) ≡ true
 unfolding sources nonzero filter
@@ -103,19 +103,19 @@ via-listed r e = pick (some (r .source))
 
 -- ---- rights
 -- "a copy has .. rights within it": the source of a row that is no end stands, and has all its rights
-pub rights-within : (st : State) → Sound st → (n : ℕ) → member n (numbers (st .rows)) ≡ true
+pub rights-within : (st : State) → Numbers (st .next) (st .rows) (st .requests) → RowsSound (st .rows) (st .requests) (st .processes) → (n : ℕ) → member n (numbers (st .rows)) ≡ true
     → isEnd (rowOf (st .rows) n .kind) ≡ false → some (rowOf (st .rows) n .source) ≡ true
     → (member (rowOf (st .rows) n .source) (numbers (st .rows)) ≡ true)
     × (within (rowOf (st .rows) n .rights) (rowOf (st .rows) (rowOf (st .rows) n .source) .rights) ≡ true)
 unfolding matchesSource
-rights-within st s n t no-end some-source =
+rights-within st up s n t no-end some-source =
     let r = rowOf (st .rows) n in
     let o = rowOf (st .rows) (r .source) in
     let pos = some-pos (r .source) some-source in
     let none : eqb (r .source) 0 ≡ false = ne-eqb (r .source) 0 (λ e. omega arith) in
     let copy : eqb (r .kind) (o .kind) && (eqb (r .object) (o .object) && (eqb (r .operation) (o .operation) && within (r .rights) (o .rights))) ≡ true
-    = rw (none, no-end) at (standing-copy st s n t) in (
-      ⊎-elim (λ z. absurd (omega arith)) (λ u. u) (shape-sources (st .requests) r (st .rows) (standing-shape st s n t) .0),
+    = rw (none, no-end) at (standing-copy st up s n t) in (
+      ⊎-elim (λ z. absurd (omega arith)) (λ u. u) (shape-sources (st .requests) r (st .rows) (standing-shape st up s n t) .0),
       (search (and-l, and-r)),
     )
 
@@ -158,12 +158,12 @@ node-sources vs rs r h e = none-one P (r .source) (r .via ∷ []) (both h .0) (n
     both (lent-copy d) = let a : not (isNode (r .place)) ≡ true = search (and-l, and-r) in clash e (not-t (isNode (r .place)) a)
 
 -- where no row in a node passes the test, none is marked: "rows of nodes never vanish"
-pub nodes-stay : (st : State) → Sound st → (f : Row → Bool)
+pub nodes-stay : (st : State) → Numbers (st .next) (st .rows) (st .requests) → RowsSound (st .rows) (st .requests) (st .processes) → (f : Row → Bool)
     → ((n : ℕ) → member n (numbers (st .rows)) ≡ true → isNode (rowOf (st .rows) n .place) ≡ true → f (rowOf (st .rows) n) ≡ false)
     → (n : ℕ) → isNode (rowOf (st .rows) n .place) ≡ true → member n (marked f (st .rows)) ≡ false
 unfolding rowsRise
-nodes-stay st s f seed n e =
-    false-of _ (λ m. clash e (not-t (isNode (rowOf (st .rows) n .place)) (marked-least f (λ n. not (isNode (rowOf (st .rows) n .place))) (st .rows) (s .numbers .rows-rise) closed n m)))
+nodes-stay st up s f seed n e =
+    false-of _ (λ m. clash e (not-t (isNode (rowOf (st .rows) n .place)) (marked-least f (λ n. not (isNode (rowOf (st .rows) n .place))) (st .rows) (up .rows-rise) closed n m)))
   where
     closed : (n : ℕ) → member n (numbers (st .rows)) ≡ true
         → f (rowOf (st .rows) n) || any (λ m. not (isNode (rowOf (st .rows) m .place))) (sources (rowOf (st .rows) n)) ≡ true
@@ -171,5 +171,5 @@ nodes-stay st s f seed n e =
     closed n t h = pick (isNode (rowOf (st .rows) n .place)) refl
       where
         pick : (b : Bool) → isNode (rowOf (st .rows) n .place) ≡ b → not b ≡ true
-        pick true q = clash h (rw (seed n t q, node-sources (st .requests) (st .rows) (rowOf (st .rows) n) (standing-shape st s n t) q) refl)
+        pick true q = clash h (rw (seed n t q, node-sources (st .requests) (st .rows) (rowOf (st .rows) n) (standing-shape st up s n t) q) refl)
         pick false q = refl

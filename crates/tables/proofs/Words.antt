@@ -24,7 +24,7 @@ use Rattle.rows.proofs.RepresentedWords.{long-words, row-at, request-at, next-a
 pub sound-represents : (st : State) → Sound st → Represents (wordsOf st) st
 unfolding laidWell
 sound-represents st s =
-    record { well = rw (s .numbers .rows-rise, s .numbers .requests-rise, s .numbers .rows-fit, s .numbers .requests-fit, s .loans .items-few) (sources-older st s); words = refl }
+    record { well = rw (s .numbers .rows-rise, s .numbers .requests-rise, s .numbers .rows-fit, s .numbers .requests-fit, s .loans .items-few) (sources-older st (s .numbers) (s .rows)); words = refl }
 
 module _ (st : State) (s : Sound st) where
   few-rows : length (st .rows) ≤ rowSlots
@@ -42,11 +42,14 @@ module _ (st : State) (s : Sound st) where
   -- ---- read back
   rows-read : rowsTo (wordsOf st) (rowsIn (wordsOf st)) (rowsIn (wordsOf st)) ≡ st .rows
   unfolding rowsRise sourcesRight each sourced
-  rows-read = rw (rows-in st few-rows few-requests (s .numbers .rows-rise)) (rows-back (wordsOf st) (st .rows) few-rows (row-at st few-rows few-requests) (st .requests) (s .numbers .rows-rise) (s .rows .sources-right))
+  rows-read =
+      rw (rows-in st few-rows few-requests (s .numbers .rows-rise))
+      (rows-back (wordsOf st) (st .rows) few-rows (row-at st few-rows few-requests) (st .requests) (s .numbers .rows-rise) (s .rows .sources-right))
 
   requests-read : requestsTo (wordsOf st) (requestsIn (wordsOf st)) ≡ st .requests
   unfolding requestsRise itemsFew
-  requests-read = rw (requests-in st few-rows few-requests (s .numbers .requests-rise)) (requests-back (wordsOf st) (st .requests) few-requests (request-at st few-rows few-requests) (s .loans .items-few))
+  requests-read =
+      rw (requests-in st few-rows few-requests (s .numbers .requests-rise)) (requests-back (wordsOf st) (st .requests) few-requests (request-at st few-rows few-requests) (s .loans .items-few))
 
   pub state-words : stateOf (wordsOf st) (recordsOf (st .processes)) ≡ st
   unfolding stateOf

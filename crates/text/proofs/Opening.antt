@@ -38,7 +38,8 @@ row-object : (fs : List Form) → Good fs → (n m : ℕ) (e : Entry) → betwee
 unfolding objectInRange entryRow
 row-object fs g n m e b f =
     elim (fit-cases fs e f) [
-      | inl o ↦ or-l (isOperation (e .kind) && (isListed (openedFrom empty fs .processes) (e .object) && leb (e .operation) greatestOperation)) _ (rw (o .kind, opened-listed fs (g .passed) (e .object) (o .listed), o .ranged) refl)
+      | inl o ↦ or-l (isOperation (e .kind) && (isListed (openedFrom empty fs .processes) (e .object) && leb (e .operation) greatestOperation)) _
+          (rw (o .kind, opened-listed fs (g .passed) (e .object) (o .listed), o .ranged) refl)
       | inr s ↦ or-r (isOperation (e .kind) && (isListed (openedFrom empty fs .processes) (e .object) && leb (e .operation) greatestOperation)) _ (rw (s .kind, s .node, s .none) refl)
     ]
 

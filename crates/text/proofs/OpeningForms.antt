@@ -38,7 +38,10 @@ entries-shaped (suc n) s i =
     pick (o .good) (d .good) (entries-shaped n s (o .next)) (entries-shaped n s (d .next))
   where
     pick : (a b : Bool) → all entryShaped (entriesFrom n s (form s i " (op # # #)" .next) .entries) ≡ true → all entryShaped (entriesFrom n s (form s i " (dir # #)" .next) .entries) ≡ true
-        → all entryShaped (cond (a || b) (addEntry (cond a (operationEntry (form s i " (op # # #)")) (subdirectoryEntry (form s i " (dir # #)"))) (entriesFrom n s (cond a (form s i " (op # # #)" .next) (form s i " (dir # #)" .next)))) (record { entries = []; next = i }) .entries) ≡ true
+        → all entryShaped
+        (cond (a || b)
+        (addEntry (cond a (operationEntry (form s i " (op # # #)")) (subdirectoryEntry (form s i " (dir # #)")))
+        (entriesFrom n s (cond a (form s i " (op # # #)" .next) (form s i " (dir # #)" .next)))) (record { entries = []; next = i }) .entries) ≡ true
     pick true b p q = p
     pick false true p q = q
     pick false false p q = refl

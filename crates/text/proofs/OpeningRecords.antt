@@ -74,7 +74,8 @@ opened-listed (processForm r n ∷ fs) e p g =
     let (pos, top) = between-range 1 nodes n (k .node) in
     pick (opened-listed fs (and-r (formPassed (processForm r n) fs) (each formPassed fs) e) p) (pos-some n pos) lo hi (eqb r p) refl g
   where
-    pick : (any (givesProcess p) fs ≡ true → isListed (openedFrom empty fs .processes) p ≡ true) → some n ≡ true → 1 ≤ r → r ≤ processes → (b : Bool) → eqb r p ≡ b → b || any (givesProcess p) fs ≡ true
+    pick : (any (givesProcess p) fs ≡ true → isListed (openedFrom empty fs .processes) p ≡ true) → some n ≡ true → 1 ≤ r → r ≤ processes → (b : Bool)
+        → eqb r p ≡ b → b || any (givesProcess p) fs ≡ true
         → isListed (set (openedFrom empty fs .processes) (r - 1) (record { prime = n; active = n; through = 0 })) p ≡ true
     pick ih s lo hi true q g =
         let l = opened-length fs in

@@ -120,7 +120,9 @@ unfolding entryFit entryShaped entryRanged entryListed
 fit-cases fs e h = pick (isOperation (e .kind)) refl h
   where
     pick : (b : Bool) → isOperation (e .kind) ≡ b
-        → (b || (isSubdirectory (e .kind) && eqb (e .operation) 0)) && ((leb (e .rights) allRights && cond b (between 1 processes (e .object) && leb (e .operation) greatestOperation) (between 1 nodes (e .object))) && cond b (any (givesProcess (e .object)) fs) (any (givesNode (e .object)) fs)) ≡ true
+        → (b || (isSubdirectory (e .kind) && eqb (e .operation) 0)) &&
+        ((leb (e .rights) allRights && cond b (between 1 processes (e .object) && leb (e .operation) greatestOperation)
+        (between 1 nodes (e .object))) && cond b (any (givesProcess (e .object)) fs) (any (givesNode (e .object)) fs)) ≡ true
         → OfOperation fs e ⊎ OfSubdirectory e
     pick true q h =
         let r = leb (e .rights) allRights in
