@@ -13,7 +13,7 @@ use Rattle.rows.proofs.Bools.{and-r, and-i}
 use Rattle.rows.proofs.Keyed.{keys-filter}
 use Rattle.rows.proofs.Lists.{filter-filter}
 use Rattle.closing.specs.Closing.{closes, returned, remaining, homed, settled, closing}
-use Rattle.rows.specs.Setters.{withPlace, withItems}
+use Rattle.rows.specs.Setters.{withPlace}
 use Rattle.closing.proofs.Lookups.{remaining-keys, returned-keeps}
 use Rattle.closing.proofs.Processes.{homed-at, homed-prime}
 use Rattle.history.specs.History.{Noted, Loan, History}

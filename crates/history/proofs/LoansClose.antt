@@ -71,7 +71,8 @@ module _ (h : History) (st : State) (g : List ℕ) (f : Request → Bool) (stand
       each-item : (e : ℕ) → not (leaves f g vs e) && isEnd (rowOf (settled g f st .rows) e .kind) ≡ isEnd (rowOf (st .rows) e .kind) && staysLent h (loansIn (st .rows) vs) e
       each-item e = pick (isEnd (rowOf (st .rows) e .kind)) refl (member e g) refl
         where
-          pick : (b : Bool) → isEnd (rowOf (st .rows) e .kind) ≡ b → (m : Bool) → member e g ≡ m → not (leaves f g vs e) && isEnd (rowOf (settled g f st .rows) e .kind) ≡ b && staysLent h (loansIn (st .rows) vs) e
+          pick : (b : Bool) → isEnd (rowOf (st .rows) e .kind) ≡ b → (m : Bool) → member e g ≡ m
+              → not (leaves f g vs e) && isEnd (rowOf (settled g f st .rows) e .kind) ≡ b && staysLent h (loansIn (st .rows) vs) e
           pick true z true u = unfold leaves staysLent in rw (stand e z, u) refl
           pick true z false u = unfold leaves staysLent in rw (stand e z, u, kind-left g f st e u, z, shut-lists e z vs c) (and-true (not (listedIn f vs e)))
           pick false z true u = unfold leaves in rw u refl
@@ -83,19 +84,22 @@ module _ (h : History) (st : State) (g : List ℕ) (f : Request → Bool) (stand
   loans-left (v ∷ vs) c = pick (loans-left vs (and-r (asClosed v) (all asClosed vs) c)) (f v) (eq-same (closedNumber h (v .number)) (f v) (and-l (asClosed v) (all asClosed vs) c))
     where
       pick : loansIn (settled g f st .rows) (remaining f g vs) ≡ loansLeft h (loansIn (st .rows) vs) → (b : Bool) → closedNumber h (v .number) ≡ b
-          → loansIn (settled g f st .rows) (cond b (remaining f g vs) (trimmed f g vs v ∷ remaining f g vs)) ≡ loansLeft h (map (λ e. record { request = v .number; lent = e }) (endsListed (st .rows) v) ++ loansIn (st .rows) vs)
+          → loansIn (settled g f st .rows) (cond b (remaining f g vs) (trimmed f g vs v ∷ remaining f g vs))
+          ≡ loansLeft h (map (λ e. record { request = v .number; lent = e }) (endsListed (st .rows) v) ++ loansIn (st .rows) vs)
       pick ih true u = ih ∙ sym (left-closed h (v .number) (endsListed (st .rows) v) (loansIn (st .rows) vs) u)
       pick ih false u = rw (ends-left v vs (and-r (asClosed v) (all asClosed vs) c), ih) (sym (left-open h (v .number) (endsListed (st .rows) v) (loansIn (st .rows) vs) u))
 
 -- ---- the requests that stay open
-remaining-numbers : (f : Request → Bool) (g : List ℕ) (vs : List Request) → rises (λ v. v .number) vs ≡ true → (n : ℕ) → member n (map (λ v. v .number) vs) ≡ true → member n (map (λ v. v .number) (remaining f g vs)) ≡ not (f (requestOf vs n))
+remaining-numbers : (f : Request → Bool) (g : List ℕ) (vs : List Request) → rises (λ v. v .number) vs ≡ true → (n : ℕ)
+    → member n (map (λ v. v .number) vs) ≡ true → member n (map (λ v. v .number) (remaining f g vs)) ≡ not (f (requestOf vs n))
 unfolding requestOf
 remaining-numbers f g vs u n t =
     ap (member n) (remaining-keys f g (λ v. v .number) (λ is v. refl) vs) ∙ keys-kept (λ v. v .number) noRequest (λ v. not (f v)) vs u n
     ∙ ap (λ b. b && not (f (requestOf vs n))) t
 
 -- ---- the theorem: h before a closing, h′ after it
-module _ (h h′ : History) (st : State) (g : List ℕ) (f : Request → Bool) (i : Inv h st) (up : requestsRise (st .requests) ≡ true) (i′ : Inv h′ (settled g f st)) (asked : h′ .requests ≡ h .requests) where
+module _ (h h′ : History) (st : State) (g : List ℕ) (f : Request → Bool) (i : Inv h st) (up : requestsRise (st .requests) ≡ true)
+    (i′ : Inv h′ (settled g f st)) (asked : h′ .requests ≡ h .requests) where
   pub stands-left : (e : ℕ) → stands h′ e ≡ member e (numbers (st .rows)) && not (member e g)
   stands-left e = sym (in-tables h′ (settled g f st) i′ e) ∙ left-keys g f st e
 

@@ -2,7 +2,7 @@
 use Prim.Native.Nat.{ℕ, _≤_}
 use mathlib.Core.Bool.{Bool, true, false, not, cond, _&&_, _||_}
 use mathlib.Core.List.{List, [], _∷_, map}
-use mathlib.Core.Path.{_≡_, refl, sym, ap, subst, _∙_}
+use mathlib.Core.Path.{_≡_, refl, sym, ap, _∙_}
 use mathlib.Core.Logic.{_↔_}
 use lib.Dec.{eqb}
 use native.Mathlib.Omega.{arith}
@@ -56,7 +56,8 @@ module _ (f : Request → Bool) (e : ℕ) where
       w : Request
       w = oldestListing f e vs
 
-      pick : (b : Bool) → some (w .number) ≡ b → (some (w .number) ≡ true → Oldest vs w) → (c : Bool) → takes v ≡ c → some ((cond b w (cond c v w)) .number) ≡ true → Oldest (v ∷ vs) (cond b w (cond c v w))
+      pick : (b : Bool) → some (w .number) ≡ b → (some (w .number) ≡ true → Oldest vs w) → (c : Bool) → takes v ≡ c
+          → some ((cond b w (cond c v w)) .number) ≡ true → Oldest (v ∷ vs) (cond b w (cond c v w))
       pick true p ih c q z =
           let o = ih p in
           record {
@@ -76,12 +77,14 @@ module _ (f : Request → Bool) (e : ℕ) where
       → (some (oldestListing f e vs .number) ≡ true) × (oldestListing f e vs .number ≤ n)
   unfolding oldestListing requestOf firstWith member
   oldest-least [] u n t z = clash t refl
-  oldest-least (v ∷ vs) u n t z = pick (some (oldestListing f e vs .number)) refl (oldest-least vs (rises-rest (λ v. v .number) v vs u) n) (oldest-is vs (rises-rest (λ v. v .number) v vs u)) (eqb (v .number) n) refl z
+  oldest-least (v ∷ vs) u n t z =
+      pick (some (oldestListing f e vs .number)) refl (oldest-least vs (rises-rest (λ v. v .number) v vs u) n) (oldest-is vs (rises-rest (λ v. v .number) v vs u)) (eqb (v .number) n) refl z
     where
       w : Request
       w = oldestListing f e vs
 
-      pick : (b : Bool) → some (w .number) ≡ b → (member n (map (λ v. v .number) vs) ≡ true → takes (requestOf vs n) ≡ true → (some (w .number) ≡ true) × (w .number ≤ n)) → (some (w .number) ≡ true → Oldest vs w)
+      pick : (b : Bool) → some (w .number) ≡ b
+          → (member n (map (λ v. v .number) vs) ≡ true → takes (requestOf vs n) ≡ true → (some (w .number) ≡ true) × (w .number ≤ n)) → (some (w .number) ≡ true → Oldest vs w)
           → (c : Bool) → eqb (v .number) n ≡ c → takes (cond c v (requestOf vs n)) ≡ true → (some ((cond b w (cond (takes v) v w)) .number) ≡ true) × ((cond b w (cond (takes v) v w)) .number ≤ n)
       pick true p ih is true q z =
           let lt = rises-older (λ v. v .number) v vs u (w .number) (is p .there) in
@@ -126,7 +129,8 @@ unfolding endsListed
 listed-end rs e v t = and-r (member e (nonzero (v .items))) (isEnd (rowOf rs e .kind)) (sym (member-filter (λ e. isEnd (rowOf rs e .kind)) (nonzero (v .items)) e) ∙ t)
 
 -- ---- the requests that had e on loan and close, in the history and in the tables
-module _ (h h′ : History) (st : State) (g : List ℕ) (f : Request → Bool) (i : Inv h st) (l : Lends h st) (up : requestsRise (st .requests) ≡ true) (i′ : Inv h′ (settled g f st)) (asked : h′ .requests ≡ h .requests) (e : ℕ) where
+module _ (h h′ : History) (st : State) (g : List ℕ) (f : Request → Bool) (i : Inv h st) (l : Lends h st) (up : requestsRise (st .requests) ≡ true)
+    (i′ : Inv h′ (settled g f st)) (asked : h′ .requests ≡ h .requests) (e : ℕ) where
   rise : rises (λ v. v .number) (st .requests) ≡ true
   rise = unfold requestsRise in up
 
@@ -159,7 +163,9 @@ module _ (h h′ : History) (st : State) (g : List ℕ) (f : Request → Bool) (
       record {
         there = t;
         isEnd′ = end;
-        passes = and-i (f (requestOf (st .requests) n)) (lists e (requestOf (st .requests) n)) (sym (closed-now h h′ st g f i up i′ asked n t) ∙ closed-is n t .1 (c .isClosed)) (sym (end-listed (st .rows) e end (requestOf (st .requests) n)) ∙ m);
+        passes =
+            and-i (f (requestOf (st .requests) n)) (lists e (requestOf (st .requests) n))
+            (sym (closed-now h h′ st g f i up i′ asked n t) ∙ closed-is n t .1 (c .isClosed)) (sym (end-listed (st .rows) e end (requestOf (st .requests) n)) ∙ m);
       }
 
   closed-out : (n : ℕ) → Closes n → ClosedWith h h′ e n
@@ -176,7 +182,8 @@ module _ (h h′ : History) (st : State) (g : List ℕ) (f : Request → Bool) (
   returned-place r n z = ap (λ k. (let w = oldestListing f k (st .requests) in if some (w .number) then withPlace (inClist (w .asker)) r else r) .place) n ∙ rw z refl
 
   -- the oldest of them in the tables is the oldest in the history
-  oldest : (q : ℕ) → ClosedWith h h′ e q → ((v : ℕ) → ClosedWith h h′ e v → q ≤ v) → (some (oldestListing f e (st .requests) .number) ≡ true) × (oldestListing f e (st .requests) ≡ requestOf (st .requests) q)
+  oldest : (q : ℕ) → ClosedWith h h′ e q → ((v : ℕ) → ClosedWith h h′ e v → q ≤ v)
+      → (some (oldestListing f e (st .requests) .number) ≡ true) × (oldestListing f e (st .requests) ≡ requestOf (st .requests) q)
   oldest q c least =
       let k = closed-in q c in
       let (is, le) = oldest-least f e (st .requests) rise q (k .there) (k .passes) in
@@ -199,7 +206,8 @@ module _ (h h′ : History) (st : State) (g : List ℕ) (f : Request → Bool) (
       ∙ ap inClist (ap (λ v. v .asker) same ∙ lender-is q (closed-in q c .there))
 
 -- ---- the theorem: of every closing, where h′ is the history after it
-pub closing-returned : (h h′ : History) (st : State) (g : List ℕ) (f : Request → Bool) → Inv h st → Lends h st → requestsRise (st .requests) ≡ true → Inv h′ (settled g f st) → h′ .requests ≡ h .requests
+pub closing-returned : (h h′ : History) (st : State) (g : List ℕ) (f : Request → Bool) → Inv h st → Lends h st → requestsRise (st .requests) ≡ true
+    → Inv h′ (settled g f st) → h′ .requests ≡ h .requests
     → Returned h h′ (settled g f st)
 unfolding Returned
 closing-returned h h′ st g f i l up i′ asked e q stood c least = placed h h′ st g f i l up i′ asked e q (stands-chains h′ (i′ .fit) e .1 stood) c least

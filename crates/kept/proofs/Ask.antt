@@ -3,61 +3,23 @@ use Prim.Native.Nat.{ℕ, suc}
 use mathlib.Core.List.{List, [], _∷_}
 use mathlib.Core.Path.{_≡_, sym, subst}
 use Rattle.rows.specs.Tables.{State}
-use Rattle.rows.specs.Sound.{recordsFit, recordsInRange}
 use Rattle.tables.proofs.Sound.{Sound}
 use Rattle.calls.specs.declared.Item.{Item}
 use Rattle.calls.specs.Loans.{Lending, lent, newRequest, withRequest}
 use Rattle.kept.proofs.Allowed.{AskAllowed}
 use Rattle.kept.proofs.AskItems.{lend-rows, lend-items, lend-next}
 use Rattle.kept.proofs.AskFacts.{askedState}
-use Rattle.kept.proofs.AskRows.{rows-rise, rows-fit, objects-in-range, rights-in-range, places-in-range, sources-right, depths-right, copies-match, ends-paired, copies-listed, system-holds, processes-placed}
-use Rattle.kept.proofs.AskRequests.{requests-rise, numbers-apart, below-next, next-in-range, requests-fit, fetched-in-range, ports-stand, requesters-listed, one-per-port, items-few, items-apart, items-lent, older-fetched}
+use Rattle.kept.proofs.AskRows.{rows-asked, processes-asked}
+use Rattle.kept.proofs.AskRequests.{numbers-asked, loans-asked, holders-asked}
 
 asked-sound : (st : State) (s : Sound st) (p c : ℕ) (is : List Item) → AskAllowed st p c is → Sound (askedState st p c is)
 asked-sound st s p c is a =
     record {
-      numbers =
-          record {
-            rows-rise = rows-rise st s p c is a;
-            requests-rise = requests-rise st s p c is a;
-            numbers-apart = numbers-apart st s p c is a;
-            below-next = below-next st s p c is a;
-            next-in-range = next-in-range st s p c is a;
-            rows-fit = rows-fit st s p c is a;
-            requests-fit = requests-fit st s p c is a;
-          };
-      rows =
-          record {
-            objects-in-range = objects-in-range st s p c is a;
-            rights-in-range = rights-in-range st s p c is a;
-            places-in-range = places-in-range st s p c is a;
-            sources-right = sources-right st s p c is a;
-            depths-right = depths-right st s p c is a;
-            copies-match = copies-match st s p c is a;
-            ends-paired = ends-paired st s p c is a;
-          };
-      loans =
-          record {
-            fetched-in-range = fetched-in-range st s p c is a;
-            ports-stand = ports-stand st s p c is a;
-            requesters-listed = requesters-listed st s p c is a;
-            items-few = items-few st s p c is a;
-            items-apart = items-apart st s p c is a;
-            items-lent = items-lent st s p c is a;
-            one-per-port = one-per-port st s p c is a;
-            copies-listed = copies-listed st s p c is a;
-          };
-      holders =
-          record {
-            older-fetched = older-fetched st s p c is a;
-            system-holds = system-holds st s p c is a;
-          };
-      placed =
-          record {
-            records-fit = unfold recordsFit in s .placed .records-fit;
-            records-in-range = unfold recordsInRange in s .placed .records-in-range;
-            processes-placed = processes-placed st s p c is a;
-          };
+      numbers = numbers-asked st s p c is a;
+      rows = rows-asked st s p c is a;
+      loans = loans-asked st s p c is a;
+      holders = holders-asked st s p c is a;
+      placed = processes-asked st s p c is a;
     }
 
 -- the definition's tables are those of the closed form

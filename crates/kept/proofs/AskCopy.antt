@@ -1,11 +1,10 @@
 -- A lent copy fits on top of the rows: each clause of it, where the ask is not refused.
-use Prim.Native.Nat.{ℕ, suc, _<_}
+use Prim.Native.Nat.{ℕ, _<_}
 use mathlib.Core.Bool.{Bool, true, false, not, _&&_, _||_}
 use mathlib.Core.List.{List, _∷_, map}
-use mathlib.Core.Path.{_≡_, refl, ap, _∙_}
+use mathlib.Core.Path.{_≡_, refl, _∙_}
 use lib.Dec.{leb, ltb, eqb}
 use borrow.Author.Tests.{ltb-false, lt-ltb, le-leb}
-use native.Mathlib.Omega.{arith}
 use Rattle.rows.specs.declared.Row.{Row}
 use Rattle.rows.specs.declared.Request.{Request}
 use Rattle.rows.specs.declared.Process.{Process}
@@ -16,7 +15,7 @@ use Rattle.rows.specs.Tables.{State, rowOf, requestOf, depthOver, numbers, list
 use Rattle.rows.specs.Sound.{objectInRange, rightInRange, placeInRange, isPortEnd, isLentCopy, hasRightSources, hasRightDepth, matchesSource, endPaired, copyListed, isFetched, awaitsFetch, same}
 use Rattle.rows.proofs.Bools.{clash, and-l, and-r, and-i, or-r, or-fl, or-fr, not-t, not-f, eqb-self, pos-some}
 use Rattle.tables.proofs.Sound.{Sound}
-use Rattle.tables.proofs.SoundFacts.{row-below, next-some, row-object}
+use Rattle.tables.proofs.SoundFacts.{next-some, row-object}
 use Rattle.rows.proofs.Places.{system-no-node, system-in-range}
 use Rattle.calls.specs.declared.Item.{Item}
 use Rattle.calls.specs.Rules.{notHeld, tooDeep, copyOf}

@@ -16,7 +16,7 @@ use Rattle.rows.specs.Tables.{State, noRow, noRequest, rowOf, requestOf, openOn
 use Rattle.rows.specs.Sound.{markInRange, requestsRise, numbersApart, belowNext, nextInRange, requestsFit, fetchedInRange, isPairedWith, portStands, portsStand, requestersListed, itemsFew, itemsApart, mayBeListed, itemsLent, onePerPort, isFetched, olderFetchedBy, olderFetched, awaitsFetch}
 use Rattle.rows.proofs.Bools.{false-of, clash, and-l, and-r, and-i, or-l, or-r, not-t, not-f, eqb-self, pos-some, all-mono, all-and, member-here, member-there}
 use Rattle.rows.proofs.Keyed.{all-first, first-key, rises-cons, rises-range}
-use Rattle.tables.proofs.Sound.{Sound}
+use Rattle.tables.proofs.Sound.{Numbers, LoansSound, HoldersSound, Sound}
 use Rattle.rows.proofs.RowSources.{end-there}
 use Rattle.tables.proofs.SoundFacts.{row-below, requests-top, requests-below, next-some, clist-not-system, row-number, client-paired, eq-same}
 use Rattle.tables.proofs.Picked.{all-found}
@@ -35,7 +35,7 @@ use Rattle.kept.proofs.AskList.{nonzero-pad, nonzero-all, named-end, li
 use Rattle.kept.proofs.AskStack.{bears-stacked}
 use Rattle.kept.proofs.Allowed.{AskAllowed}
 use Rattle.kept.proofs.AskFacts.{lentRows, askedRows, asked, askedState, named-held, named-old, lists-cases, old-number, old-passes}
-use Rattle.kept.proofs.AskRows.{rows-top′}
+use Rattle.kept.proofs.AskRows.{rows-top′, rows-rise, rows-fit, copies-listed, system-holds}
 use Rattle.kept.proofs.Stand.{held-there}
 
 any-members : (f : ℕ → Bool) (ns : List ℕ) → ((n : ℕ) → member n ns ≡ true → f n ≡ false) → any f ns ≡ false
@@ -52,12 +52,7 @@ module _ (st : State) (s : Sound st) (p c : ℕ) (is : List Item) (a : AskAllowe
   of-requests : (P : Request → Bool) → ((n : ℕ) → member n (map (λ v. v .number) (st .requests)) ≡ true → P (requestOf (st .requests) n) ≡ true) → all P (st .requests) ≡ true
   of-requests P h = unfold requestOf in all-found (λ v. v .number) noRequest P (st .requests) (unfold requestsRise in s .numbers .requests-rise) h
 
-  -- ---- numbers
-  pub requests-rise : requestsRise (askedState st p c is .requests) ≡ true
-  unfolding requestsRise newRequest
-  requests-rise = rises-cons (λ v. v .number) (asked st p c is) (st .requests) (requests-top st (s .numbers)) (s .numbers .requests-rise)
-
-  pub numbers-apart : numbersApart (askedState st p c is .rows) (askedState st p c is .requests) ≡ true
+  numbers-apart : numbersApart (askedState st p c is .rows) (askedState st p c is .requests) ≡ true
   unfolding numbersApart
   numbers-apart =
       requests-all (λ v. not (member (v .number) (numbers (askedRows st c is)))) (unfold newRequest in ap not fresh)
@@ -70,35 +65,13 @@ module _ (st : State) (s : Sound st) (p c : ℕ) (is : List Item) (a : AskAllowe
       older : (v : Request) → ltb (v .number) (st .next) ≡ true → not (member (v .number) (numbers (st .rows))) ≡ true → not (member (v .number) (numbers (askedRows st c is))) ≡ true
       older v t e = let lt = ltb-true (v .number) (st .next) t in ap not (old-number st s p c is a (v .number) (omega arith)) ∙ e
 
-  pub below-next : belowNext (askedState st p c is .next) (askedState st p c is .rows) (askedState st p c is .requests) ≡ true
-  unfolding belowNext topOf newRequest
-  below-next =
-      and-i (ltb (topOf (λ r. r .number) (askedRows st c is)) (suc (st .next) + length (copies st is))) (ltb (st .next) (suc (st .next) + length (copies st is)))
-      (lt-ltb (topOf (λ r. r .number) (askedRows st c is)) (suc (st .next) + length (copies st is)) (rows-top′ st s p c is a))
-      (lt-ltb (st .next) (suc (st .next) + length (copies st is)) (omega arith))
-
-  pub next-in-range : nextInRange (askedState st p c is .next) ≡ true
-  unfolding nextInRange between
-  next-in-range =
-      let room = a .numbers-room in
-      and-i (leb 1 (suc (st .next) + length (copies st is))) (leb (suc (st .next) + length (copies st is)) (suc greatestNumber))
-      (le-leb 1 (suc (st .next) + length (copies st is)) (omega arith)) (le-leb (suc (st .next) + length (copies st is)) (suc greatestNumber) (omega arith))
-
-  pub requests-fit : requestsFit (askedState st p c is .requests) ≡ true
-  unfolding requestsFit
-  requests-fit = let room = a .requests-room in le-leb (suc (length (st .requests))) requestSlots (omega arith)
-
-  pub fetched-in-range : fetchedInRange (askedState st p c is .requests) ≡ true
-  unfolding fetchedInRange
-  fetched-in-range = requests-all markInRange (unfold newRequest in refl) (s .loans .fetched-in-range)
-
   -- ---- the port and the requester
   -- the other end of port c has number c + 1
   server-older : suc c < st .next
   unfolding isPairedWith
   server-older = row-below st (s .numbers) (suc c) (end-there (st .rows) (suc c) (and-l (isEnd (rowOf (st .rows) (suc c) .kind)) _ (client-paired st (s .rows) c (a .client)))) .1
 
-  pub ports-stand : portsStand (askedState st p c is .rows) (askedState st p c is .requests) ≡ true
+  ports-stand : portsStand (askedState st p c is .rows) (askedState st p c is .requests) ≡ true
   unfolding portsStand
   ports-stand =
       requests-all (portStands (askedRows st c is))
@@ -115,11 +88,7 @@ module _ (st : State) (s : Sound st) (p c : ℕ) (is : List Item) (a : AskAllowe
           (client (v .port) (and-l (isClient (rowOf (st .rows) (v .port) .kind)) (ltb (suc (v .port)) (v .number)) e))
           (and-r (isClient (rowOf (st .rows) (v .port) .kind)) (ltb (suc (v .port)) (v .number)) e)
 
-  pub requesters-listed : requestersListed (askedState st p c is .processes) (askedState st p c is .requests) ≡ true
-  unfolding requestersListed
-  requesters-listed = requests-all (λ v. isListed (st .processes) (v .asker)) (unfold newRequest in a .caller) (s .loans .requesters-listed)
-
-  pub one-per-port : onePerPort (askedState st p c is .requests) ≡ true
+  one-per-port : onePerPort (askedState st p c is .requests) ≡ true
   unfolding onePerPort distinct newRequest
   one-per-port = and-i (not (member c (map (λ v. v .port) (st .requests)))) (distinct (map (λ v. v .port) (st .requests))) (ap not unused) (s .loans .one-per-port)
     where
@@ -142,15 +111,7 @@ module _ (st : State) (s : Sound st) (p c : ℕ) (is : List Item) (a : AskAllowe
   unfolding newRequest
   its-listed = nonzero-pad mostItems (listed st is (suc (st .next))) ∙ nonzero-all (listed st is (suc (st .next))) (listed-some st is (a .rows-some) (suc (st .next)) (omega arith))
 
-  pub items-few : itemsFew (askedState st p c is .requests) ≡ true
-  unfolding itemsFew newRequest
-  items-few =
-      let few = a .few in
-      let l = listed-length st is (suc (st .next)) in
-      requests-all (λ v. eqb (length (v .items)) mostItems)
-      (eq-eqb (length (asked st p c is .items)) mostItems (length-pad 0 mostItems (listed st is (suc (st .next))) (omega arith))) (s .loans .items-few)
-
-  pub items-apart : itemsApart (askedState st p c is .requests) ≡ true
+  items-apart : itemsApart (askedState st p c is .requests) ≡ true
   unfolding itemsApart
   items-apart = requests-all (λ v. distinct (nonzero (v .items))) (ap distinct its-listed ∙ listed-apart st is (a .rows-apart) (suc (st .next)) older) (s .loans .items-apart)
     where
@@ -159,7 +120,7 @@ module _ (st : State) (s : Sound st) (p c : ℕ) (is : List Item) (a : AskAllowe
           all-mono (λ i. not (notHeld st p (i .row))) (λ i. ltb (i .row) (suc (st .next)))
           (λ i h. let (lo, hi) = row-below st (s .numbers) (i .row) (held-there st p (i .row) (not-t (notHeld st p (i .row)) h)) in lt-ltb (i .row) (suc (st .next)) (omega arith)) is (a .held)
 
-  pub items-lent : itemsLent (askedState st p c is .rows) (askedState st p c is .requests) ≡ true
+  items-lent : itemsLent (askedState st p c is .rows) (askedState st p c is .requests) ≡ true
   unfolding itemsLent
   items-lent =
       requests-all (λ v. all (λ e. mayBeListed v (rowOf (askedRows st c is) e)) (nonzero (v .items)))
@@ -183,7 +144,7 @@ module _ (st : State) (s : Sound st) (p c : ℕ) (is : List Item) (a : AskAllowe
           (rw (bears-stacked st c (st .next) (copies st is) (suc (st .next)) (lentRows st is) e lo hi, pos-some (st .next) (next-some st (s .numbers))) (eqb-self (st .next)))
 
   -- ---- the older requests that list an end isItem are fetched
-  pub older-fetched : olderFetched (askedState st p c is .requests) ≡ true
+  older-fetched : olderFetched (askedState st p c is .requests) ≡ true
   unfolding olderFetched each
   older-fetched =
       and-i (olderFetchedBy (asked st p c is) (st .requests)) (each olderFetchedBy (st .requests))
@@ -223,3 +184,48 @@ module _ (st : State) (s : Sound st) (p c : ℕ) (is : List Item) (a : AskAllowe
         where
           too : (e : ℕ) → member e (asked st p c is .items) ≡ true → (w : Request) → lists e w ≡ true → lists e (asked st p c is) ≡ true
           too e m w l = unfold lists in and-i (some e) (member e (asked st p c is .items)) (and-l (some e) (member e (w .items)) l) m
+
+  -- ---- the parts
+  pub numbers-asked : Numbers (askedState st p c is .next) (askedRows st c is) (asked st p c is ∷ st .requests)
+  unfolding requestsRise newRequest belowNext topOf nextInRange between requestsFit
+  numbers-asked =
+      record {
+        rows-rise = rows-rise st s p c is a;
+        requests-rise = rises-cons (λ v. v .number) (asked st p c is) (st .requests) (requests-top st (s .numbers)) (s .numbers .requests-rise);
+        numbers-apart = numbers-apart;
+        below-next =
+            and-i (ltb (topOf (λ r. r .number) (askedRows st c is)) (suc (st .next) + length (copies st is))) (ltb (st .next) (suc (st .next) + length (copies st is)))
+            (lt-ltb (topOf (λ r. r .number) (askedRows st c is)) (suc (st .next) + length (copies st is)) (rows-top′ st s p c is a))
+            (lt-ltb (st .next) (suc (st .next) + length (copies st is)) (omega arith));
+        next-in-range =
+            let room = a .numbers-room in
+            and-i (leb 1 (suc (st .next) + length (copies st is))) (leb (suc (st .next) + length (copies st is)) (suc greatestNumber))
+            (le-leb 1 (suc (st .next) + length (copies st is)) (omega arith)) (le-leb (suc (st .next) + length (copies st is)) (suc greatestNumber) (omega arith));
+        rows-fit = rows-fit st s p c is a;
+        requests-fit = let room = a .requests-room in le-leb (suc (length (st .requests))) requestSlots (omega arith);
+      }
+
+  pub loans-asked : LoansSound (askedRows st c is) (asked st p c is ∷ st .requests) (st .processes)
+  unfolding fetchedInRange requestersListed itemsFew newRequest
+  loans-asked =
+      record {
+        fetched-in-range = requests-all markInRange (unfold newRequest in refl) (s .loans .fetched-in-range);
+        ports-stand = ports-stand;
+        requesters-listed = requests-all (λ v. isListed (st .processes) (v .asker)) (unfold newRequest in a .caller) (s .loans .requesters-listed);
+        items-few =
+            let few = a .few in
+            let l = listed-length st is (suc (st .next)) in
+            requests-all (λ v. eqb (length (v .items)) mostItems)
+            (eq-eqb (length (asked st p c is .items)) mostItems (length-pad 0 mostItems (listed st is (suc (st .next))) (omega arith))) (s .loans .items-few);
+        items-apart = items-apart;
+        items-lent = items-lent;
+        one-per-port = one-per-port;
+        copies-listed = copies-listed st s p c is a;
+      }
+
+  pub holders-asked : HoldersSound (askedRows st c is) (asked st p c is ∷ st .requests)
+  holders-asked =
+      record {
+        older-fetched = older-fetched;
+        system-holds = system-holds st s p c is a;
+      }

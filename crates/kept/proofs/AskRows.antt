@@ -16,7 +16,7 @@ use Rattle.rows.specs.Tables.{State, noRow, rowOf, numbers, lists}
 use Rattle.rows.specs.Sound.{rowsRise, rowsFit, objectInRange, objectsInRange, rightInRange, rightsInRange, placeInRange, placesInRange, sourcesRight, depthsRight, copiesMatch, isPairedWith, otherEnd, endPaired, endsPaired, copyListed, copiesListed, isFetched, awaitsFetch, same, systemHolds, processesPlaced, sourced, hasRightSources, hasRightDepth, matchesSource}
 use Rattle.rows.proofs.Bools.{false-of, clash, and-l, or-map, not-f, all-mono, all-eq}
 use Rattle.rows.proofs.Keyed.{rises-map}
-use Rattle.tables.proofs.Sound.{Sound}
+use Rattle.tables.proofs.Sound.{RowsSound, ProcessesSound, Sound}
 use Rattle.rows.proofs.RowSources.{subdirectory-there, end-there, client-there}
 use Rattle.tables.proofs.SoundFacts.{row-below, rows-top, row-number, same-eq, same-place, placed-still}
 use Rattle.rows.proofs.Places.{clist-not-node, system-no-node, system-in-range, subdirectory-no-end}
@@ -82,20 +82,7 @@ module _ (st : State) (s : Sound st) (p c : ℕ) (is : List Item) (a : AskAllowe
       let room = a .rows-room in
       le-leb (length (askedRows st c is)) rowSlots (omega arith)
 
-  -- ---- fields
-  pub objects-in-range : objectsInRange (st .processes) (askedRows st c is) ≡ true
-  unfolding objectsInRange
-  objects-in-range =
-      rows-all (objectInRange (st .processes)) (λ n i g _ _. copy-object st s p c (a .client) (isItem st is) none [] n i g)
-      (objects-moved (isItem st is) withSystem none (st .processes) (st .rows) ∙ s .rows .objects-in-range)
-
-  pub rights-in-range : rightsInRange (askedRows st c is) ≡ true
-  unfolding rightsInRange
-  rights-in-range =
-      rows-all rightInRange (λ n i g _ _. copy-right st s p c (a .client) (isItem st is) none [] n i g)
-      (rights-moved (isItem st is) withSystem none (st .rows) ∙ s .rows .rights-in-range)
-
-  pub places-in-range : placesInRange (st .processes) (askedRows st c is) ≡ true
+  places-in-range : placesInRange (st .processes) (askedRows st c is) ≡ true
   unfolding placesInRange
   places-in-range =
       rows-all (placeInRange (st .processes)) (λ n i g _ _. copy-place st s p c (a .client) (isItem st is) none [] n i g)
@@ -120,27 +107,8 @@ module _ (st : State) (s : Sound st) (p c : ℕ) (is : List Item) (a : AskAllowe
           rw (row-number (st .rows) n m, g, at, clist-not-node p, named-end st is n g) refl
       pick n m false g = rw (row-number (st .rows) n m, g) refl
 
-  pub sources-right : sourcesRight (asked st p c is ∷ st .requests) (askedRows st c is) ≡ true
-  unfolding sourcesRight
-  sources-right =
-      rows-sourced (hasRightSources (asked st p c is ∷ st .requests)) (copy-source st s p c (a .client) (isItem st is) none (listed st is (suc (st .next))))
-      (sources-moved (isItem st is) withSystem none system-no-node (st .requests) (asked st p c is ∷ st .requests) (st .rows) may-move
-      (λ r e. ap (λ v. v .port) (request-old st s p c is a r e)) (s .loans .copies-listed) (s .rows .sources-right))
-
-  pub depths-right : depthsRight (askedRows st c is) ≡ true
-  unfolding depthsRight
-  depths-right =
-      rows-sourced hasRightDepth (copy-depth st s p c (a .client) (isItem st is) none [])
-      (sourced-moved (isItem st is) withSystem none hasRightDepth depth-placeless (st .rows) (s .rows .depths-right))
-
-  pub copies-match : copiesMatch (askedRows st c is) ≡ true
-  unfolding copiesMatch
-  copies-match =
-      rows-sourced matchesSource (copy-matches st s p c (a .client) (isItem st is) none [])
-      (sourced-moved (isItem st is) withSystem none matchesSource copy-placeless (st .rows) (s .rows .copies-match))
-
   -- ---- ends
-  pub ends-paired : endsPaired (askedRows st c is) ≡ true
+  ends-paired : endsPaired (askedRows st c is) ≡ true
   unfolding endsPaired
   ends-paired =
       all-mono (endPaired (lentRows st is)) (endPaired (askedRows st c is)) (λ r e. step r e) (askedRows st c is)
@@ -213,7 +181,7 @@ module _ (st : State) (s : Sound st) (p c : ℕ) (is : List Item) (a : AskAllowe
           (rw (row-number (st .rows) n m, as-before n (row-below st (s .numbers) n m .1) g) (held-so (st .rows) (st .requests) (s .holders .system-holds) n m))
 
   -- ---- processes
-  pub processes-placed : processesPlaced (askedRows st c is) (st .processes) ≡ true
+  processes-placed : processesPlaced (askedRows st c is) (st .processes) ≡ true
   unfolding processesPlaced
   processes-placed =
       placed-still (st .rows) (askedRows st c is) (λ e k hi sub at. same-place (rowOf (st .rows) e) (rowOf (askedRows st c is) e) (stays e k hi sub at)) (st .processes) (s .placed)
@@ -224,3 +192,36 @@ module _ (st : State) (s : Sound st) (p c : ℕ) (is : List Item) (a : AskAllowe
           let below : e < st .next = row-below st (s .numbers) e m .1 in
           let g : isItem st is e ≡ false = false-of (isItem st is e) (λ g. clash (named-end st is e g) (subdirectory-no-end (rowOf (st .rows) e .kind) sub)) in
           old-found st s p c is a e (omega arith) ∙ moved-stays (isItem st is) withSystem (rowOf (st .rows) e) (ap (isItem st is) (row-number (st .rows) e m) ∙ g)
+
+  -- ---- the parts
+  pub rows-asked : RowsSound (askedRows st c is) (asked st p c is ∷ st .requests) (st .processes)
+  unfolding objectsInRange rightsInRange sourcesRight depthsRight copiesMatch
+  rows-asked =
+      record {
+        objects-in-range =
+            rows-all (objectInRange (st .processes)) (λ n i g _ _. copy-object st s p c (a .client) (isItem st is) none [] n i g)
+            (objects-moved (isItem st is) withSystem none (st .processes) (st .rows) ∙ s .rows .objects-in-range);
+        rights-in-range =
+            rows-all rightInRange (λ n i g _ _. copy-right st s p c (a .client) (isItem st is) none [] n i g)
+            (rights-moved (isItem st is) withSystem none (st .rows) ∙ s .rows .rights-in-range);
+        places-in-range = places-in-range;
+        sources-right =
+            rows-sourced (hasRightSources (asked st p c is ∷ st .requests)) (copy-source st s p c (a .client) (isItem st is) none (listed st is (suc (st .next))))
+            (sources-moved (isItem st is) withSystem none system-no-node (st .requests) (asked st p c is ∷ st .requests) (st .rows) may-move
+            (λ r e. ap (λ v. v .port) (request-old st s p c is a r e)) (s .loans .copies-listed) (s .rows .sources-right));
+        depths-right =
+            rows-sourced hasRightDepth (copy-depth st s p c (a .client) (isItem st is) none [])
+            (sourced-moved (isItem st is) withSystem none hasRightDepth depth-placeless (st .rows) (s .rows .depths-right));
+        copies-match =
+            rows-sourced matchesSource (copy-matches st s p c (a .client) (isItem st is) none [])
+            (sourced-moved (isItem st is) withSystem none matchesSource copy-placeless (st .rows) (s .rows .copies-match));
+        ends-paired = ends-paired;
+      }
+
+  pub processes-asked : ProcessesSound (askedRows st c is) (st .processes)
+  processes-asked =
+      record {
+        records-fit = s .placed .records-fit;
+        records-in-range = s .placed .records-in-range;
+        processes-placed = processes-placed;
+      }

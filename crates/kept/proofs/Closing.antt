@@ -14,74 +14,27 @@ use Rattle.rows.specs.Codes.{isEnd}
 use Rattle.rows.specs.Tables.{State, rowOf, marked, bears}
 use Rattle.rows.specs.Sound.{isPairedWith, otherEnd}
 use Rattle.rows.proofs.Bools.{clash, and-l, and-r, some-pos, member-cases}
-use Rattle.tables.proofs.Sound.{Numbers, RowsSound, LoansSound, HoldersSound, ProcessesSound, Sound}
+use Rattle.tables.proofs.Sound.{Sound}
 use Rattle.tables.proofs.SoundFacts.{row-number, paired-at}
 use Rattle.rows.proofs.RowSources.{end-there}
 use Rattle.closing.specs.Closing.{closes, settled, closing, closeRequest, isEndOf, closePort, isRow, dropRow}
 use Rattle.closing.specs.contracts.Marks.{Stands}
 use Rattle.closing.proofs.Facts.{end-at}
 use Rattle.closing.proofs.RemovedRows.{Closed, Closable, closable-closed}
-use Rattle.closing.proofs.Lookups.{rows-rise-kept}
-use Rattle.closing.proofs.Processes.{records-fit-kept, records-in-range-kept}
-use Rattle.kept.proofs.ClosingRequests.{requests-rise-kept, numbers-apart-kept, requests-fit-kept, fetched-in-range-kept, ports-stand-kept, requesters-listed-kept, items-few-kept, items-apart-kept, items-lent-kept, one-per-port-kept, older-fetched-kept}
-use Rattle.kept.proofs.ClosingPlaces.{places-in-range-kept, system-holds-kept, processes-placed-kept}
-use Rattle.kept.proofs.ClosingRows.{below-next-kept, rows-fit-kept, objects-in-range-kept, rights-in-range-kept, sources-right-kept, depths-right-kept, copies-match-kept, ends-paired-kept, copies-listed-kept}
+use Rattle.kept.proofs.ClosingRequests.{numbers-kept, loans-kept}
+use Rattle.kept.proofs.ClosingPlaces.{holders-kept, processes-kept}
+use Rattle.kept.proofs.ClosingRows.{rows-kept, copies-listed-kept}
 
 -- the removal of rows and the closing of requests that go together, part by part
-module _ (g : List ℕ) (f : Request → Bool) (st : State) (s : Sound st) (c : Closed g f st) where
-  abbrev after : State
-  after = settled g f st
-
-  numbers-kept : Numbers (after .next) (after .rows) (after .requests)
-  numbers-kept =
-      record {
-        rows-rise = rows-rise-kept g f st (s .numbers .rows-rise);
-        requests-rise = requests-rise-kept g f st (s .numbers .requests-rise);
-        numbers-apart = numbers-apart-kept g f st (s .numbers .numbers-apart);
-        below-next = below-next-kept g f st s;
-        next-in-range = unfold settled in s .numbers .next-in-range;
-        rows-fit = rows-fit-kept g f st s;
-        requests-fit = requests-fit-kept g f st (s .numbers .requests-fit);
-      }
-
-  rows-kept : RowsSound (after .rows) (after .requests) (after .processes)
-  rows-kept =
-      record {
-        objects-in-range = objects-in-range-kept g f st s;
-        rights-in-range = rights-in-range-kept g f st s;
-        places-in-range = places-in-range-kept g f st s c;
-        sources-right = sources-right-kept g f st s c;
-        depths-right = depths-right-kept g f st s c;
-        copies-match = copies-match-kept g f st s c;
-        ends-paired = ends-paired-kept g f st s c;
-      }
-
-  loans-kept : LoansSound (after .rows) (after .requests) (after .processes)
-  loans-kept =
-      record {
-        fetched-in-range = fetched-in-range-kept g f st (s .loans .fetched-in-range);
-        ports-stand = ports-stand-kept g f st c (s .loans .ports-stand);
-        requesters-listed = requesters-listed-kept g f st (s .loans .requesters-listed);
-        items-few = items-few-kept g f st (s .loans .items-few);
-        items-apart = items-apart-kept g f st (s .loans .items-apart);
-        items-lent = items-lent-kept g f st (s .loans .items-lent);
-        one-per-port = one-per-port-kept g f st (s .loans .one-per-port);
-        copies-listed = copies-listed-kept g f st s c;
-      }
-
-  holders-kept : HoldersSound (after .rows) (after .requests)
-  holders-kept = record { older-fetched = older-fetched-kept g f st (s .holders .older-fetched); system-holds = system-holds-kept g f st s c }
-
-  processes-kept : ProcessesSound (after .rows) (after .processes)
-  processes-kept =
-      record {
-        records-fit = records-fit-kept g f st (s .placed .records-fit);
-        records-in-range = records-in-range-kept g f st (s .placed .records-in-range);
-        processes-placed = processes-placed-kept g f st s c;
-      }
-
-  settled-kept : Sound after
-  settled-kept = record { numbers = numbers-kept; rows = rows-kept; loans = loans-kept; holders = holders-kept; placed = processes-kept }
+settled-kept : (g : List ℕ) (f : Request → Bool) (st : State) → Sound st → Closed g f st → Sound (settled g f st)
+settled-kept g f st s c =
+    record {
+      numbers = numbers-kept g f st (s .numbers);
+      rows = rows-kept g f st s c;
+      loans = loans-kept g f st c (copies-listed-kept g f st s c) (s .loans);
+      holders = holders-kept g f st s c;
+      placed = processes-kept g f st s c;
+    }
 
 closing-kept : (seed : Row → Bool) (qs : List ℕ) (st : State) → Sound st → Closable seed qs st → Sound (closing seed qs st)
 unfolding closing

@@ -16,19 +16,20 @@ use Rattle.rows.specs.Tables.{State, noRow, noRequest, rowOf, requestOf, isList
 use Rattle.rows.specs.Sound.{requestsRise, placeInRange, placesInRange, mayBeListed, isFetched, olderFetchedBy, olderFetched, awaitsFetch, same, systemHolds, processesPlaced, requestersListed}
 use Rattle.rows.proofs.Bools.{false-of, clash, and-l, and-r, or-cases, or-r, or-fl, or-fr, or-map, all-mono, true-or-false, and-rf, and-true}
 use Rattle.rows.proofs.Keyed.{first-none}
-use Rattle.tables.proofs.Sound.{Sound}
+use Rattle.tables.proofs.Sound.{HoldersSound, ProcessesSound, Sound}
 use Rattle.tables.proofs.SoundFacts.{row-number, clist-not-system, clist-owned, requests-between}
 use Rattle.rows.proofs.RowSources.{subdirectory-there}
 use Rattle.rows.proofs.Places.{clist-not-node, subdirectory-no-end}
 use Rattle.tables.proofs.Awaits.{older-listers, awaits-none}
 use Rattle.closing.specs.Closing.{oldestListing, returned, listedIn, leaves, homed, trimmed, remaining, settled}
-use Rattle.rows.specs.Setters.{withPlace, withItems}
+use Rattle.rows.specs.Setters.{withPlace}
 use Rattle.closing.proofs.TrimmedLists.{any-first}
 use Rattle.closing.specs.contracts.Marks.{Stands}
 use Rattle.closing.proofs.Facts.{IsOpen, end-at, request-number, listed-right}
 use Rattle.closing.proofs.RemovedRows.{Closed}
 use Rattle.closing.proofs.Lookups.{trimmed-lists, all-remaining, returned-keeps, returned-same, oldest-all, returned-place, nothing-returned, row-after, all-left}
-use Rattle.closing.proofs.Processes.{listed-kept, placed-kept}
+use Rattle.closing.proofs.Processes.{listed-kept, placed-kept, records-fit-kept, records-in-range-kept}
+use Rattle.kept.proofs.ClosingRequests.{older-fetched-remain}
 
 -- ---- whose newest request is not fetched
 module _ (f : Request → Bool) (g : List ℕ) (n : ℕ) where
@@ -165,7 +166,7 @@ module _ (g : List ℕ) (f : Request → Bool) (st : State) (s : Sound st) (c : 
           moved : (n : ℕ) → Clist (st .processes) (returned f (st .requests) (rowOf (st .rows) n) .place) → placeInRange (st .processes) (returned f (st .requests) (rowOf (st .rows) n)) ≡ true
           moved n x = unfold placeInRange in rw (x .no-node, x .owned) refl
 
-  pub system-holds-kept : systemHolds (settled g f st .requests) (settled g f st .rows) ≡ true
+  system-holds-kept : systemHolds (settled g f st .requests) (settled g f st .rows) ≡ true
   unfolding systemHolds olderFetched
   system-holds-kept =
       unfold settled in all-left g f st (λ r. same (isSystem (r .place)) (awaitsFetch (st .requests) (r .number)))
@@ -191,10 +192,22 @@ module _ (g : List ℕ) (f : Request → Bool) (st : State) (s : Sound st) (c : 
           ap (same (isSystem (R n .place))) b ∙ ap (λ r. same (isSystem (r .place)) (awaitsFetch (st .requests) (rowOf (st .rows) n .number))) a ∙ e)
           (true-or-false (listedIn f (st .requests) n))
 
-  pub processes-placed-kept : processesPlaced (settled g f st .rows) (settled g f st .processes) ≡ true
+  processes-placed-kept : processesPlaced (settled g f st .rows) (settled g f st .processes) ≡ true
   unfolding processesPlaced
   processes-placed-kept = unfold settled in placed-kept g (st .rows) (settled g f st .rows) unmoved 1 (st .processes) (s .placed .processes-placed)
     where
       unmoved : (n : ℕ) → member n g ≡ false → isSubdirectory (rowOf (st .rows) n .kind) ≡ true → rowOf (settled g f st .rows) n ≡ rowOf (st .rows) n
       unmoved n k e =
           row-after g f st n k ∙ no-end-same n (subdirectory-there (st .rows) n e) k (subdirectory-no-end (rowOf (st .rows) n .kind) e)
+
+  pub holders-kept : HoldersSound (settled g f st .rows) (settled g f st .requests)
+  unfolding olderFetched settled
+  holders-kept = record { older-fetched = older-fetched-remain f g (st .requests) (s .holders .older-fetched); system-holds = system-holds-kept }
+
+  pub processes-kept : ProcessesSound (settled g f st .rows) (settled g f st .processes)
+  processes-kept =
+      record {
+        records-fit = records-fit-kept g f st (s .placed .records-fit);
+        records-in-range = records-in-range-kept g f st (s .placed .records-in-range);
+        processes-placed = processes-placed-kept;
+      }

@@ -1,25 +1,30 @@
 -- The clauses of soundness on requests hold of those that stay open.
-use Prim.Native.Nat.{ℕ, suc, _≤_}
+use Prim.Native.Nat.{ℕ, suc, _<_, _≤_}
 use mathlib.Core.Bool.{Bool, true, false, not, cond, _&&_, _||_}
 use mathlib.Core.List.{List, [], _∷_, map}
 use mathlib.Core.Path.{_≡_, refl, sym, ap, _∙_}
 use lib.Dec.{leb, ltb, eqb}
 use lib.ListN.{length, length-map}
-use borrow.Author.Tests.{leb-true, le-leb}
+use mathlib.Core.Logic.{_⊎_, inl, inr}
+use borrow.Author.Tests.{leb-true, le-leb, ltb-true, lt-ltb}
 use native.Mathlib.Omega.{arith}
+use Rattle.rows.specs.declared.Row.{Row}
 use Rattle.rows.specs.declared.Request.{Request}
-use Rattle.rows.specs.Lists.{any, all, each, filter, member, distinct, some, nonzero}
-use Rattle.rows.specs.Limits.{requestSlots, mostItems}
+use Rattle.rows.specs.Lists.{any, all, each, filter, member, topOf, distinct, some, nonzero}
+use Rattle.rows.specs.Limits.{rowSlots, requestSlots, mostItems}
 use Rattle.rows.specs.Codes.{isClient}
 use Rattle.rows.specs.Tables.{State, rowOf, numbers, isListed, lists}
-use Rattle.rows.specs.Sound.{requestsRise, numbersApart, requestsFit, fetchedInRange, portStands, portsStand, requestersListed, itemsFew, itemsApart, mayBeListed, itemsLent, onePerPort, isFetched, olderFetchedBy, olderFetched}
+use Rattle.rows.specs.Sound.{rowsRise, requestsRise, numbersApart, belowNext, rowsFit, requestsFit, fetchedInRange, portStands, portsStand, requestersListed, itemsFew, itemsApart, mayBeListed, itemsLent, onePerPort, isFetched, olderFetchedBy, copiesListed}
 use Rattle.rows.proofs.Bools.{clash, and-l, and-r, and-i, not-t, or-fl, or-map, any-mono, all-at}
+use Rattle.rows.proofs.Keyed.{rises-range}
+use Rattle.tables.proofs.Sound.{Numbers, LoansSound}
 use Rattle.rows.proofs.Lists.{distinct-filter, all-of-member, member-nonzero}
-use Rattle.rows.specs.Setters.{withPlace, withItems}
-use Rattle.closing.specs.Closing.{listedIn, leaves, homed, trimmed, remaining, settled}
-use Rattle.closing.proofs.TrimmedLists.{length-filter, trim, member-trim, any-trim, distinct-trim}
+use Rattle.rows.specs.Setters.{withPlace}
+use Rattle.closing.specs.Closing.{returned, listedIn, leaves, homed, trimmed, remaining, settled}
+use Rattle.closing.proofs.TrimmedLists.{top-member, length-filter, trim, member-trim, any-trim, distinct-trim}
+use Rattle.closing.proofs.Facts.{Stands}
 use Rattle.closing.proofs.RemovedRows.{Closed}
-use Rattle.closing.proofs.Lookups.{trimmed-lists, remaining-keys, all-remaining, remaining-rises, left-keys, row-after, returned-keeps}
+use Rattle.closing.proofs.Lookups.{rows-rise-kept, trimmed-lists, remaining-known, remaining-keys, all-remaining, remaining-rises, left-stood, left-keys, row-after, returned-keeps}
 use Rattle.closing.proofs.Processes.{listed-kept}
 
 -- ---- the older ones that list an item are fetched
@@ -43,7 +48,7 @@ module _ (f : Request → Bool) (g : List ℕ) where
           let same : isFetched (trimmed f g ws w) ≡ isFetched w = unfold isFetched trimmed in refl in
           rw same (or-map (isFetched w) (not (any (λ e. lists e w) is)) (not (any (λ e. lists e (trimmed f g ws w)) js)) (contra _ _ (λ t. h w (fewer ws w t))) e)
 
-  older-fetched-remain : (vs : List Request) → each olderFetchedBy vs ≡ true → each olderFetchedBy (remaining f g vs) ≡ true
+  pub older-fetched-remain : (vs : List Request) → each olderFetchedBy vs ≡ true → each olderFetchedBy (remaining f g vs) ≡ true
   unfolding remaining each olderFetchedBy trimmed trim
   older-fetched-remain [] e = refl
   older-fetched-remain (v ∷ vs) e = pick (older-fetched-remain vs (and-r (olderFetchedBy v vs) (each olderFetchedBy vs) e)) (f v)
@@ -65,18 +70,7 @@ module _ (f : Request → Bool) (g : List ℕ) where
 
 -- ---- the clauses
 module _ (g : List ℕ) (f : Request → Bool) (st : State) where
-  pub requests-rise-kept : requestsRise (st .requests) ≡ true → requestsRise (settled g f st .requests) ≡ true
-  unfolding requestsRise settled
-  requests-rise-kept w = remaining-rises f g (st .requests) w
-
-  pub requests-fit-kept : requestsFit (st .requests) ≡ true → requestsFit (settled g f st .requests) ≡ true
-  unfolding requestsFit settled
-  requests-fit-kept w =
-      let a : length (st .requests) ≤ requestSlots = leb-true (length (st .requests)) requestSlots w in
-      let b : length (remaining f g (st .requests)) ≤ length (st .requests) = length-remaining f g (st .requests) in
-      le-leb (length (remaining f g (st .requests))) requestSlots (omega arith)
-
-  pub numbers-apart-kept : numbersApart (st .rows) (st .requests) ≡ true → numbersApart (settled g f st .rows) (settled g f st .requests) ≡ true
+  numbers-apart-kept : numbersApart (st .rows) (st .requests) ≡ true → numbersApart (settled g f st .rows) (settled g f st .requests) ≡ true
   unfolding numbersApart
   numbers-apart-kept w =
       unfold settled in all-remaining f g (λ v. not (member (v .number) (numbers (st .rows)))) (λ v. not (member (v .number) (numbers (settled g f st .rows)))) at-request (st .requests) w
@@ -88,36 +82,7 @@ module _ (g : List ℕ) (f : Request → Bool) (st : State) where
           → not (member (trimmed f g vs v .number) (numbers (settled g f st .rows))) ≡ true
       at-request vs v q e = unfold trimmed in apart (v .number) e
 
-  pub fetched-in-range-kept : fetchedInRange (st .requests) ≡ true → fetchedInRange (settled g f st .requests) ≡ true
-  unfolding fetchedInRange settled trimmed
-  fetched-in-range-kept w = all-remaining f g (λ v. leb (v .fetched) 1) (λ v. leb (v .fetched) 1) (λ vs v q e. e) (st .requests) w
-
-  pub requesters-listed-kept : requestersListed (st .processes) (st .requests) ≡ true → requestersListed (settled g f st .processes) (settled g f st .requests) ≡ true
-  unfolding requestersListed settled trimmed
-  requesters-listed-kept w =
-      all-remaining f g (λ v. isListed (st .processes) (v .asker)) (λ v. isListed (map (homed g) (st .processes)) (v .asker))
-      (λ vs v q e. listed-kept g (st .processes) (v .asker) ∙ e) (st .requests) w
-
-  pub items-few-kept : itemsFew (st .requests) ≡ true → itemsFew (settled g f st .requests) ≡ true
-  unfolding itemsFew settled trimmed
-  items-few-kept w =
-      all-remaining f g (λ v. eqb (length (v .items)) mostItems) (λ v. eqb (length (v .items)) mostItems)
-      (λ vs v q e. ap (λ n. eqb n mostItems) (length-map (v .items) (λ e. cond (leaves f g vs e) 0 e)) ∙ e) (st .requests) w
-
-  pub items-apart-kept : itemsApart (st .requests) ≡ true → itemsApart (settled g f st .requests) ≡ true
-  unfolding itemsApart settled trimmed trim
-  items-apart-kept w =
-      all-remaining f g (λ v. distinct (nonzero (v .items))) (λ v. distinct (nonzero (v .items))) (λ vs v q e. distinct-trim (leaves f g vs) (v .items) e) (st .requests) w
-
-  pub one-per-port-kept : onePerPort (st .requests) ≡ true → onePerPort (settled g f st .requests) ≡ true
-  unfolding onePerPort settled
-  one-per-port-kept w = ap distinct (remaining-keys f g (λ v. v .port) (λ is v. refl) (st .requests)) ∙ distinct-filter (λ v. v .port) (λ v. not (f v)) (st .requests) w
-
-  pub older-fetched-kept : olderFetched (st .requests) ≡ true → olderFetched (settled g f st .requests) ≡ true
-  unfolding olderFetched settled
-  older-fetched-kept w = older-fetched-remain f g (st .requests) w
-
-  pub ports-stand-kept : Closed g f st → portsStand (st .rows) (st .requests) ≡ true → portsStand (settled g f st .rows) (settled g f st .requests) ≡ true
+  ports-stand-kept : Closed g f st → portsStand (st .rows) (st .requests) ≡ true → portsStand (settled g f st .rows) (settled g f st .requests) ≡ true
   unfolding portsStand portStands settled trimmed withPlace
   ports-stand-kept c w = all-remaining f g (portStands (st .rows)) (portStands (settled g f st .rows)) at-request (st .requests) w
     where
@@ -127,7 +92,7 @@ module _ (g : List ℕ) (f : Request → Bool) (st : State) where
           ap (λ r. isClient (r .kind)) (row-after g f st (v .port) (c .port-stays v q)) ∙ returned-keeps (λ r. isClient (r .kind)) (λ p r. refl) f (st .requests) (rowOf (st .rows) (v .port)) in
           ap (λ b. b && ltb (suc (v .port)) (v .number)) k ∙ e
 
-  pub items-lent-kept : itemsLent (st .rows) (st .requests) ≡ true → itemsLent (settled g f st .rows) (settled g f st .requests) ≡ true
+  items-lent-kept : itemsLent (st .rows) (st .requests) ≡ true → itemsLent (settled g f st .rows) (settled g f st .requests) ≡ true
   unfolding itemsLent mayBeListed settled trimmed trim withPlace leaves
   items-lent-kept w =
       all-remaining f g (λ v. all (λ e. mayBeListed v (rowOf (st .rows) e)) (nonzero (v .items)))
@@ -148,3 +113,77 @@ module _ (g : List ℕ) (f : Request → Bool) (st : State) where
       at-request : (vs : List Request) (v : Request) → f v ≡ false → all (λ e. mayBeListed v (rowOf (st .rows) e)) (nonzero (v .items)) ≡ true
           → all (λ e. mayBeListed (trimmed f g vs v) (rowOf (settled g f st .rows) e)) (nonzero (trimmed f g vs v .items)) ≡ true
       at-request vs v q a = all-of-member (λ e. mayBeListed v (rowOf (settled g f st .rows) e)) (nonzero (trim (leaves f g vs) (v .items))) (at-item vs v a)
+
+  rows-fit-kept : rowsFit (st .rows) ≡ true → rowsFit (settled g f st .rows) ≡ true
+  unfolding rowsFit settled
+  rows-fit-kept w =
+      let left : List Row = filter (λ r. not (member (r .number) g)) (st .rows) in
+      let a : length (st .rows) ≤ rowSlots = leb-true (length (st .rows)) rowSlots w in
+      let b : length left ≤ length (st .rows) = length-filter (λ r. not (member (r .number) g)) (st .rows) in
+      let d : length (map (returned f (st .requests)) left) ≡ length left = length-map left (returned f (st .requests)) in
+      le-leb (length (map (returned f (st .requests)) left)) rowSlots (omega arith)
+
+  below-next-kept : Numbers (st .next) (st .rows) (st .requests) → belowNext (settled g f st .next) (settled g f st .rows) (settled g f st .requests) ≡ true
+  unfolding belowNext rowsRise requestsRise numbers
+  below-next-kept s =
+      unfold settled in and-i _ _ (lt-ltb (topOf (λ r. r .number) (settled g f st .rows)) (st .next) (rows (top-member (λ r. r .number) (settled g f st .rows))))
+      (lt-ltb (topOf (λ v. v .number) (remaining f g (st .requests))) (st .next) (requests (top-member (λ v. v .number) (remaining f g (st .requests)))))
+    where
+      rows-below : topOf (λ r. r .number) (st .rows) < st .next
+      rows-below = ltb-true _ _ (and-l (ltb (topOf (λ r. r .number) (st .rows)) (st .next)) (ltb (topOf (λ v. v .number) (st .requests)) (st .next)) (s .below-next))
+
+      requests-below : topOf (λ v. v .number) (st .requests) < st .next
+      requests-below = ltb-true _ _ (and-r (ltb (topOf (λ r. r .number) (st .rows)) (st .next)) (ltb (topOf (λ v. v .number) (st .requests)) (st .next)) (s .below-next))
+
+      below : (m n k : ℕ) → n < k → (m ≡ 0) ⊎ (m ≤ n) → m < k
+      below m n k h (inl z) = omega arith
+      below m n k h (inr l) = omega arith
+
+      rows : (topOf (λ r. r .number) (settled g f st .rows) ≡ 0) ⊎ Stands (settled g f st) (topOf (λ r. r .number) (settled g f st .rows)) → topOf (λ r. r .number) (settled g f st .rows) < st .next
+      rows (inl z) = below _ _ _ rows-below (inl z)
+      rows (inr t) = below _ _ _ rows-below (inr (rises-range (λ r. r .number) (st .rows) (s .rows-rise) _ (left-stood g f st _ t) .1))
+
+      left : List Request
+      left = remaining f g (st .requests)
+
+      requests : (topOf (λ v. v .number) left ≡ 0) ⊎ (member (topOf (λ v. v .number) left) (map (λ v. v .number) left) ≡ true) → topOf (λ v. v .number) left < st .next
+      requests (inl z) = below _ _ _ requests-below (inl z)
+      requests (inr t) = below _ _ _ requests-below (inr (rises-range (λ v. v .number) (st .requests) (s .requests-rise) _ (remaining-known f g (st .requests) _ t) .1))
+
+  -- ---- the parts
+  pub numbers-kept : Numbers (st .next) (st .rows) (st .requests) → Numbers (settled g f st .next) (settled g f st .rows) (settled g f st .requests)
+  unfolding requestsRise settled requestsFit
+  numbers-kept s =
+      record {
+        rows-rise = rows-rise-kept g f st (s .rows-rise);
+        requests-rise = remaining-rises f g (st .requests) (s .requests-rise);
+        numbers-apart = numbers-apart-kept (s .numbers-apart);
+        below-next = below-next-kept s;
+        next-in-range = s .next-in-range;
+        rows-fit = rows-fit-kept (s .rows-fit);
+        requests-fit =
+            let a : length (st .requests) ≤ requestSlots = leb-true (length (st .requests)) requestSlots (s .requests-fit) in
+            let b : length (remaining f g (st .requests)) ≤ length (st .requests) = length-remaining f g (st .requests) in
+            le-leb (length (remaining f g (st .requests))) requestSlots (omega arith);
+      }
+
+  -- that copies are listed is told with the rows
+  pub loans-kept : Closed g f st → copiesListed (settled g f st .requests) (settled g f st .rows) ≡ true → LoansSound (st .rows) (st .requests) (st .processes)
+      → LoansSound (settled g f st .rows) (settled g f st .requests) (settled g f st .processes)
+  unfolding fetchedInRange settled trimmed requestersListed itemsFew itemsApart trim onePerPort
+  loans-kept c listed s =
+      record {
+        fetched-in-range = all-remaining f g (λ v. leb (v .fetched) 1) (λ v. leb (v .fetched) 1) (λ vs v q e. e) (st .requests) (s .fetched-in-range);
+        ports-stand = ports-stand-kept c (s .ports-stand);
+        requesters-listed =
+            all-remaining f g (λ v. isListed (st .processes) (v .asker)) (λ v. isListed (map (homed g) (st .processes)) (v .asker))
+            (λ vs v q e. listed-kept g (st .processes) (v .asker) ∙ e) (st .requests) (s .requesters-listed);
+        items-few =
+            all-remaining f g (λ v. eqb (length (v .items)) mostItems) (λ v. eqb (length (v .items)) mostItems)
+            (λ vs v q e. ap (λ n. eqb n mostItems) (length-map (v .items) (λ e. cond (leaves f g vs e) 0 e)) ∙ e) (st .requests) (s .items-few);
+        items-apart =
+            all-remaining f g (λ v. distinct (nonzero (v .items))) (λ v. distinct (nonzero (v .items))) (λ vs v q e. distinct-trim (leaves f g vs) (v .items) e) (st .requests) (s .items-apart);
+        items-lent = items-lent-kept (s .items-lent);
+        one-per-port = ap distinct (remaining-keys f g (λ v. v .port) (λ is v. refl) (st .requests)) ∙ distinct-filter (λ v. v .port) (λ v. not (f v)) (st .requests) (s .one-per-port);
+        copies-listed = listed;
+      }

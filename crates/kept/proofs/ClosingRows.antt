@@ -1,40 +1,38 @@
 -- The clauses of soundness on rows hold of those that closing leaves: a row that is left has its sources, its other end and its request left.
-use Prim.Native.Nat.{ℕ, _<_, _≤_}
+use Prim.Native.Nat.{ℕ, _<_}
 use mathlib.Core.Bool.{Bool, true, false, not, cond, _&&_, _||_}
 use mathlib.Core.List.{List, map}
 use mathlib.Core.Path.{_≡_, refl, sym, ap, _∙_}
-use mathlib.Core.Logic.{_⊎_, inl, inr, ⊎-elim}
+use mathlib.Core.Logic.{_⊎_, ⊎-elim}
 use lib.Dec.{ltb, eqb}
-use lib.ListN.{length, length-map}
-use borrow.Author.Tests.{eqb-false, ltb-true, lt-ltb, leb-true, le-leb}
+use borrow.Author.Tests.{eqb-false}
 use native.Mathlib.Omega.{arith}
 use Rattle.rows.specs.declared.Row.{Row}
 use Rattle.rows.specs.declared.Request.{Request}
-use Rattle.rows.specs.Lists.{filter, member, topOf, rises, some}
-use Rattle.rows.specs.Limits.{rowSlots}
+use Rattle.rows.specs.Lists.{member, rises, some}
 use Rattle.rows.specs.Codes.{isEnd, inClist}
-use Rattle.rows.specs.Tables.{State, noRequest, rowOf, requestOf, depthOver, lists, numbers}
-use Rattle.rows.specs.Sound.{rowsRise, requestsRise, belowNext, rowsFit, objectInRange, objectsInRange, rightInRange, rightsInRange, sourcesRight, depthsRight, copiesMatch, isPairedWith, otherEnd, endPaired, endsPaired, copyListed, copiesListed, hasRightSources, hasRightDepth, matchesSource, sourceOf, viaOf, sourced, sourceOf, viaOf, hasRightSources, hasRightDepth, matchesSource}
-use Rattle.rows.proofs.Bools.{false-of, clash, and-l, and-r, and-i, or-l, or-r, pos-some, true-or-false}
+use Rattle.rows.specs.Tables.{State, noRequest, rowOf, requestOf, lists, numbers}
+use Rattle.rows.specs.Sound.{requestsRise, objectInRange, objectsInRange, rightInRange, rightsInRange, sourcesRight, depthsRight, copiesMatch, isPairedWith, otherEnd, endPaired, endsPaired, copyListed, copiesListed, hasRightSources, hasRightDepth, matchesSource, sourceOf, viaOf, sourced, sourceOf, viaOf, hasRightSources, hasRightDepth, matchesSource}
+use Rattle.rows.proofs.Bools.{false-of, clash, and-l, and-i, or-l, pos-some, true-or-false}
 use Rattle.rows.proofs.Keyed.{first-none, rises-range, olderOf}
-use Rattle.tables.proofs.Sound.{Sound}
+use Rattle.tables.proofs.Sound.{RowsSound, Sound}
 use Rattle.tables.proofs.SoundFacts.{row-number}
 use Rattle.tables.proofs.Standing.{source-lower, via-lower}
 use Rattle.rows.proofs.Places.{clist-not-node}
-use Rattle.rows.specs.Setters.{withPlace, withItems}
+use Rattle.rows.specs.Setters.{withPlace}
 use Rattle.closing.specs.Closing.{oldestListing, returned, listedIn, leaves, homed, trimmed, remaining, settled}
-use Rattle.closing.proofs.TrimmedLists.{any-older, top-member, length-filter}
+use Rattle.closing.proofs.TrimmedLists.{any-older}
 use Rattle.closing.specs.contracts.Marks.{Stands}
 use Rattle.closing.proofs.Facts.{IsOpen, end-at, copy-at, copy-listed, lists-open}
 use Rattle.closing.proofs.RemovedRows.{Closed, source-stays, via-stays}
-use Rattle.closing.proofs.Lookups.{trimmed-lists, remaining-known, remaining-rises, request-after, returned-keeps, row-after, left-stood, all-left, each-left, older-before, older-after}
+use Rattle.closing.proofs.Lookups.{trimmed-lists, remaining-rises, request-after, returned-keeps, row-after, all-left, each-left, older-before, older-after}
 use Rattle.closing.proofs.Processes.{listed-kept}
 use Rattle.kept.proofs.Sourced.{Placeless, depth-placeless, copy-placeless, rows-elsewhere, sources-alike, right-elsewhere}
-use Rattle.kept.proofs.ClosingPlaces.{listed-end, no-end-same, node-kept}
+use Rattle.kept.proofs.ClosingPlaces.{places-in-range-kept, listed-end, no-end-same, node-kept}
 
 -- ---- ranges, sizes
 module _ (g : List ℕ) (f : Request → Bool) (st : State) (s : Sound st) where
-  pub objects-in-range-kept : objectsInRange (settled g f st .processes) (settled g f st .rows) ≡ true
+  objects-in-range-kept : objectsInRange (settled g f st .processes) (settled g f st .rows) ≡ true
   unfolding objectsInRange objectInRange withPlace
   objects-in-range-kept =
       unfold settled in all-left g f st (objectInRange (st .processes)) (objectInRange (map (homed g) (st .processes))) (s .numbers .rows-rise)
@@ -43,46 +41,10 @@ module _ (g : List ℕ) (f : Request → Bool) (st : State) (s : Sound st) where
       listed : (r : Row) → objectInRange (st .processes) r ≡ true → objectInRange (map (homed g) (st .processes)) r ≡ true
       listed r e = rw (listed-kept g (st .processes) (r .object)) e
 
-  pub rights-in-range-kept : rightsInRange (settled g f st .rows) ≡ true
+  rights-in-range-kept : rightsInRange (settled g f st .rows) ≡ true
   unfolding rightsInRange rightInRange withPlace
   rights-in-range-kept =
       all-left g f st rightInRange rightInRange (s .numbers .rows-rise) (λ n t k e. returned-keeps rightInRange (λ p r. refl) f (st .requests) (rowOf (st .rows) n) ∙ e) (s .rows .rights-in-range)
-
-  pub rows-fit-kept : rowsFit (settled g f st .rows) ≡ true
-  unfolding rowsFit settled
-  rows-fit-kept =
-      let left : List Row = filter (λ r. not (member (r .number) g)) (st .rows) in
-      let a : length (st .rows) ≤ rowSlots = leb-true (length (st .rows)) rowSlots (s .numbers .rows-fit) in
-      let b : length left ≤ length (st .rows) = length-filter (λ r. not (member (r .number) g)) (st .rows) in
-      let d : length (map (returned f (st .requests)) left) ≡ length left = length-map left (returned f (st .requests)) in
-      le-leb (length (map (returned f (st .requests)) left)) rowSlots (omega arith)
-
-  pub below-next-kept : belowNext (settled g f st .next) (settled g f st .rows) (settled g f st .requests) ≡ true
-  unfolding belowNext rowsRise requestsRise numbers
-  below-next-kept =
-      unfold settled in and-i _ _ (lt-ltb (topOf (λ r. r .number) (settled g f st .rows)) (st .next) (rows (top-member (λ r. r .number) (settled g f st .rows))))
-      (lt-ltb (topOf (λ v. v .number) (remaining f g (st .requests))) (st .next) (requests (top-member (λ v. v .number) (remaining f g (st .requests)))))
-    where
-      rows-below : topOf (λ r. r .number) (st .rows) < st .next
-      rows-below = ltb-true _ _ (and-l (ltb (topOf (λ r. r .number) (st .rows)) (st .next)) (ltb (topOf (λ v. v .number) (st .requests)) (st .next)) (s .numbers .below-next))
-
-      requests-below : topOf (λ v. v .number) (st .requests) < st .next
-      requests-below = ltb-true _ _ (and-r (ltb (topOf (λ r. r .number) (st .rows)) (st .next)) (ltb (topOf (λ v. v .number) (st .requests)) (st .next)) (s .numbers .below-next))
-
-      below : (m n k : ℕ) → n < k → (m ≡ 0) ⊎ (m ≤ n) → m < k
-      below m n k h (inl z) = omega arith
-      below m n k h (inr l) = omega arith
-
-      rows : (topOf (λ r. r .number) (settled g f st .rows) ≡ 0) ⊎ Stands (settled g f st) (topOf (λ r. r .number) (settled g f st .rows)) → topOf (λ r. r .number) (settled g f st .rows) < st .next
-      rows (inl z) = below _ _ _ rows-below (inl z)
-      rows (inr t) = below _ _ _ rows-below (inr (rises-range (λ r. r .number) (st .rows) (s .numbers .rows-rise) _ (left-stood g f st _ t) .1))
-
-      left : List Request
-      left = remaining f g (st .requests)
-
-      requests : (topOf (λ v. v .number) left ≡ 0) ⊎ (member (topOf (λ v. v .number) left) (map (λ v. v .number) left) ≡ true) → topOf (λ v. v .number) left < st .next
-      requests (inl z) = below _ _ _ requests-below (inl z)
-      requests (inr t) = below _ _ _ requests-below (inr (rises-range (λ v. v .number) (st .requests) (s .numbers .requests-rise) _ (remaining-known f g (st .requests) _ t) .1))
 
 module _ (g : List ℕ) (f : Request → Bool) (st : State) (s : Sound st) (c : Closed g f st) where
   -- ---- clauses of rows and their sources, which are left with them
@@ -128,11 +90,11 @@ module _ (g : List ℕ) (f : Request → Bool) (st : State) (s : Sound st) (c : 
   placeless-kept F h =
       sourced-kept F F (λ n t k e. rows-elsewhere back (λ P q r. returned-keeps P q f (st .requests) r) F h (row n) (row (row n .source)) (row (row n .via)) ∙ e)
 
-  pub depths-right-kept : depthsRight (settled g f st .rows) ≡ true
+  depths-right-kept : depthsRight (settled g f st .rows) ≡ true
   unfolding depthsRight
   depths-right-kept = placeless-kept hasRightDepth depth-placeless (s .rows .depths-right)
 
-  pub copies-match-kept : copiesMatch (settled g f st .rows) ≡ true
+  copies-match-kept : copiesMatch (settled g f st .rows) ≡ true
   unfolding copiesMatch
   copies-match-kept = placeless-kept matchesSource copy-placeless (s .rows .copies-match)
 
@@ -162,7 +124,7 @@ module _ (g : List ℕ) (f : Request → Bool) (st : State) (s : Sound st) (c : 
       (true-or-false (some (rowOf (st .rows) n .request)))
 
   -- ---- "Sources are standing, of the kind above and older"
-  pub sources-right-kept : sourcesRight (settled g f st .requests) (settled g f st .rows) ≡ true
+  sources-right-kept : sourcesRight (settled g f st .requests) (settled g f st .rows) ≡ true
   unfolding sourcesRight returned
   sources-right-kept = unfold settled in sourced-kept (hasRightSources (st .requests)) (hasRightSources left) at-row (s .rows .sources-right)
     where
@@ -196,7 +158,7 @@ module _ (g : List ℕ) (f : Request → Bool) (st : State) (s : Sound st) (c : 
           elsewhere false h = stays
 
   -- ---- "Ends stand in pairs."
-  pub ends-paired-kept : endsPaired (settled g f st .rows) ≡ true
+  ends-paired-kept : endsPaired (settled g f st .rows) ≡ true
   unfolding endsPaired endPaired isPairedWith otherEnd withPlace
   ends-paired-kept = all-left g f st (endPaired (st .rows)) (endPaired (settled g f st .rows)) (s .numbers .rows-rise) at-row (s .rows .ends-paired)
     where
@@ -253,3 +215,15 @@ module _ (g : List ℕ) (f : Request → Bool) (st : State) (s : Sound st) (c : 
               (and-l (ltb (r .request) (r .number)) (lists (r .number) (requestOf (st .requests) (r .request))) e)
               (ap (λ m. lists m (requestOf (remaining f g (st .requests)) (r .request))) (row-number (st .rows) n t) ∙ still-listed n t k
               (pos-some (r .request) (not-zero-positive (r .request) (eqb-false (r .request) 0 h))))
+
+  pub rows-kept : RowsSound (settled g f st .rows) (settled g f st .requests) (settled g f st .processes)
+  rows-kept =
+      record {
+        objects-in-range = objects-in-range-kept g f st s;
+        rights-in-range = rights-in-range-kept g f st s;
+        places-in-range = places-in-range-kept g f st s c;
+        sources-right = sources-right-kept;
+        depths-right = depths-right-kept;
+        copies-match = copies-match-kept;
+        ends-paired = ends-paired-kept;
+      }

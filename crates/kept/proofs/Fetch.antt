@@ -186,18 +186,22 @@ module _ (st : State) (s : Sound st) (p : ℕ) (v : Request) (found : requestOf 
           ∙ fetched-now (v .number) n (st .requests) (unfold olderFetched in s .holders .older-fetched) there (rw found unfetched) (rw found g)))
       pick n m false g =
           rw (moved-stays goes (inClist p) (rowOf (st .rows) n) (ap goes (row-number (st .rows) n m) ∙ g))
-          (rw (row-number (st .rows) n m, awaits-same (v .number) n (st .requests) (unfold requestsRise in s .numbers .requests-rise) (rw found g)) (held-so (st .rows) (st .requests) (s .holders .system-holds) n m))
+          (rw (row-number (st .rows) n m, awaits-same (v .number) n (st .requests) (unfold requestsRise in s .numbers .requests-rise) (rw found g))
+          (held-so (st .rows) (st .requests) (s .holders .system-holds) n m))
 
   processes-placed : processesPlaced (after .rows) (after .processes) ≡ true
   unfolding processesPlaced
   processes-placed =
-      placed-still (st .rows) rows′ (λ e k hi sub at. same-place (rowOf (st .rows) e) (rowOf rows′ e) (row-moved goes (inClist p) none-goes (st .rows) e ∙ stays e k hi sub at)) (st .processes) (s .placed)
+      placed-still (st .rows) rows′
+      (λ e k hi sub at. same-place (rowOf (st .rows) e) (rowOf rows′ e) (row-moved goes (inClist p) none-goes (st .rows) e ∙ stays e k hi sub at)) (st .processes) (s .placed)
     where
       stays : (e k : ℕ) → k ≤ 64 → isSubdirectory (rowOf (st .rows) e .kind) ≡ true → rowOf (st .rows) e .place ≡ inClist k → moved goes (inClist p) (rowOf (st .rows) e) ≡ rowOf (st .rows) e
       stays e k hi sub at =
           let m : member e (numbers (st .rows)) ≡ true = subdirectory-there (st .rows) e sub in
           let in-clist : isSystem (rowOf (st .rows) e .place) ≡ false = ap isSystem at ∙ clist-no-system k hi in
-          let g : goes e ≡ false = false-of (goes e) (λ g. clash (eq-same (isSystem (rowOf (st .rows) e .place)) (awaitsFetch (st .requests) e) (held-so (st .rows) (st .requests) (s .holders .system-holds) e m) ∙ awaited e g) in-clist) in
+          let g : goes e ≡ false =
+          false-of (goes e)
+          (λ g. clash (eq-same (isSystem (rowOf (st .rows) e .place)) (awaitsFetch (st .requests) e) (held-so (st .rows) (st .requests) (s .holders .system-holds) e m) ∙ awaited e g) in-clist) in
           moved-stays goes (inClist p) (rowOf (st .rows) e) (ap goes (row-number (st .rows) e m) ∙ g)
 
   numbers-fetched : Numbers (after .next) (after .rows) (after .requests)

@@ -74,7 +74,8 @@ module _ (q e : ℕ) where
           clash (all-first (λ v. v .number) noRequest (λ u. isFetched u || not (lists e u)) ws q (older-listers e w ws h (and-l (olderFetchedBy w ws) (each olderFetchedBy ws) o)) m)
           (rw (f, l) refl)
 
-      pick : (member q (map (λ v. v .number) ws) ≡ true → isFetched (firstWith (λ v. v .number) noRequest ws q) ≡ false → lists e (firstWith (λ v. v .number) noRequest ws q) ≡ true → awaitsFetch (map (nowFetched q) ws) e ≡ false)
+      pick : (member q (map (λ v. v .number) ws) ≡ true → isFetched (firstWith (λ v. v .number) noRequest ws q) ≡ false
+          → lists e (firstWith (λ v. v .number) noRequest ws q) ≡ true → awaitsFetch (map (nowFetched q) ws) e ≡ false)
           → (b : Bool) → eqb (w .number) q ≡ b → eqb q (w .number) || member q (map (λ v. v .number) ws) ≡ true
           → isFetched (cond b w (firstWith (λ v. v .number) noRequest ws q)) ≡ false → lists e (cond b w (firstWith (λ v. v .number) noRequest ws q)) ≡ true
           → cond (lists e (nowFetched q w)) (not (isFetched (nowFetched q w))) (awaitsFetch (map (nowFetched q) ws) e) ≡ false

@@ -3,17 +3,16 @@ use Prim.Native.Nat.{ℕ}
 use mathlib.Core.Bool.{Bool, true, false, not, cond, _&&_, _||_}
 use mathlib.Core.List.{List, map}
 use mathlib.Core.Path.{_≡_, refl, sym, ap, _∙_}
-use lib.Dec.{eqb}
 use Rattle.rows.specs.declared.Row.{Row}
 use Rattle.rows.specs.declared.Request.{Request}
 use Rattle.rows.specs.declared.Process.{Process}
-use Rattle.rows.specs.Lists.{if_then_else_, all, each, member, some}
-use Rattle.rows.specs.Codes.{isEnd, isCopied, isNode, within}
-use Rattle.rows.specs.Tables.{noRow, rowOf, requestOf, depthOver}
+use Rattle.rows.specs.Lists.{if_then_else_, all, some}
+use Rattle.rows.specs.Codes.{isEnd, isNode}
+use Rattle.rows.specs.Tables.{noRow, rowOf, requestOf}
 use Rattle.rows.specs.Sound.{objectInRange, rightInRange, isPairedWith, otherEnd, endPaired, copyListed, copiesListed, portStands, mayBeListed, sourced, hasRightSources, sourcesRight}
 use Rattle.rows.specs.Setters.{withPlace}
-use Rattle.rows.proofs.Bools.{clash, and-l, and-r, and-i, or-r, not-t, all-mono, all-eq, all-and, or-l, zero-none}
-use Rattle.rows.proofs.Keyed.{first-map, first-none, all-first}
+use Rattle.rows.proofs.Bools.{and-l, and-r, and-i, not-t, all-eq, all-and}
+use Rattle.rows.proofs.Keyed.{first-map}
 use Rattle.rows.proofs.Lists.{all-map}
 use Rattle.kept.proofs.Lists.{all-true}
 use Rattle.kept.proofs.Sourced.{Placeless, sourced-map, rows-elsewhere, sources-alike, right-elsewhere}

@@ -1,6 +1,6 @@
 -- Clauses of each row with its source and its second source (`sourced F`): one law for each change of rows. Closing has its own in ClosingRows, copies on top in AskStack.
 use Prim.Native.Nat.{ℕ}
-use mathlib.Core.Bool.{Bool, true, false, not, _&&_, _||_}
+use mathlib.Core.Bool.{Bool, true, false, not, _||_}
 use mathlib.Core.List.{List, [], _∷_, map}
 use mathlib.Core.Path.{_≡_, refl, ap, _∙_}
 use lib.Dec.{eqb}
@@ -8,7 +8,7 @@ use Rattle.rows.specs.declared.Row.{Row}
 use Rattle.rows.specs.declared.Request.{Request}
 use Rattle.rows.specs.Lists.{all, each, member, some}
 use Rattle.rows.specs.Codes.{isEnd, isCopied, isNode}
-use Rattle.rows.specs.Tables.{noRow, rowOf, requestOf, numbers}
+use Rattle.rows.specs.Tables.{noRow, rowOf, requestOf}
 use Rattle.rows.specs.Setters.{withPlace}
 use Rattle.rows.specs.Sound.{sourceOf, viaOf, sourced, isOpening, isRegistered, isHeld, isPortEnd, isLentCopy, hasRightSources, hasRightDepth, matchesSource}
 use Rattle.rows.proofs.Bools.{clash, and-l, and-r, and-i, or-l, or-r, zero-none}

@@ -1,6 +1,6 @@
 -- Soundness as a record: a field for each part, each part a record over the lists that it reads with a field for each clause.
 use Prim.Native.Nat.{ℕ, zero, suc}
-use mathlib.Core.Bool.{Bool, true, _&&_}
+use mathlib.Core.Bool.{Bool, true}
 use mathlib.Core.List.{List, [], _∷_}
 use mathlib.Core.Path.{_≡_, refl}
 use Rattle.rows.specs.declared.Row.{Row}

@@ -13,7 +13,7 @@ use Rattle.rows.specs.declared.Process.{Process}
 use Rattle.rows.specs.Lists.{all, each, topOf, rises, member, distinct, between}
 use Rattle.rows.specs.Limits.{processes, nodes, greatestOperation, greatestNumber, rowSlots, requestSlots, greatestDepth}
 use Rattle.rows.specs.Codes.{isOperation, inNode, isNode, isSystem}
-use Rattle.rows.specs.Tables.{noRow, empty, rowOf, isListed, depthOver}
+use Rattle.rows.specs.Tables.{noRow, empty, rowOf, isListed}
 use Rattle.rows.specs.Sound.{rowsRise, requestsRise, numbersApart, belowNext, nextInRange, rowsFit, requestsFit, recordsFit, objectInRange, objectsInRange, rightInRange, rightsInRange, placeInRange, placesInRange, fetchedInRange, isOpening, sourcesRight, depthRight, depthsRight, copiesMatch, recordInRange, recordsInRange, endPaired, endsPaired, portsStand, requestersListed, itemsFew, itemsApart, itemsLent, onePerPort, copyListed, copiesListed, olderFetched, awaitsFetch, same, systemHolds, processesPlaced, hasRightSources, hasRightDepth, matchesSource, sourced, sourceOf, viaOf}
 use Rattle.rows.proofs.Bools.{false-of, and-l, and-r, and-i, or-l, or-r, all-mono}
 use Rattle.rows.proofs.Keyed.{first-none, rises-range}
