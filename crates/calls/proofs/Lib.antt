@@ -15,3 +15,5 @@ pub mod Refusing
 pub mod Effected
 -- whether a row is a source of another: the loop over all rows
 pub mod Used
+-- the ends that a request lists: busy, away; the tests of reply
+pub mod Replied

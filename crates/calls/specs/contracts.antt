@@ -3,3 +3,4 @@ pub mod Lookups
 pub mod Effects
 pub mod Loans
 pub mod Performs
+pub mod Replies

@@ -75,4 +75,5 @@ pub mod loans;
 pub mod lookups;
 pub mod new_rows;
 pub mod ports;
+pub mod reply;
 pub mod tests;

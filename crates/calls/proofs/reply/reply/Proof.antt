@@ -1,0 +1,84 @@
+-- `reply::reply`: no such row, or what the end gives.
+use borrow.Author.Needs.{needs}
+use native.Mathlib.Omega.{arith}
+use mathlib.Core.Path.{_≡_, ap, sym, _∙_}
+use Rattle.rows.specs.Codes.{inClist}
+use Rattle.rows.proofs.Slots.{at-below, represented-rows}
+use Rattle.calls.proofs.LookedUp.{found-in}
+use Rattle.calls.proofs.Refusing.{not-held, seven}
+use Rattle.calls.specs.Rules.{notHeld}
+use Rattle.calls.specs.declared.Call.the-variants.{Reply}
+use Rattle.calls.specs.Calls.{refusals, refusalsReply}
+use Rattle.calls.proofs.Judging.{not-in-clist, refused-agrees}
+use Rattle.calls.proofs.reply.reply.Statement.{statement}
+use Rattle.calls.proofs.reply.reply.Tie as tie
+
+rows-in-requires : tie.Need-rows-in-requires
+rows-in-requires c κs = search needs
+
+held-by-requires : tie.Need-held-by-requires
+held-by-requires c κs = search needs
+
+enum-known-i : tie.Need-enum-known-i
+enum-known-i c = search needs
+
+enum-told : tie.Need-enum-told
+enum-told c = search needs
+
+same-length : tie.Need-same-length
+same-length c = search needs
+
+returns : tie.Need-returns
+unfolding refusals refusalsReply
+returns c =
+    let found = c .before .before .held-by in
+    let b = c .before .before .before .before in
+    let s = b .before .before .before in
+    let a = s .args in (
+      (λ st sd rep same listed.
+          let away = not-in-clist st (a .p) (a .e) (found .result) (found .ensures .1 st (rep, b .rows-in .ensures .0 ∙ represented-rows rep) (s .pre .1 .1)) (c .enum-told .given .1) in
+          refused-agrees st (Reply (a .p) (a .e)) rep (a .ps) same 7 (seven (notHeld st (a .p) (a .e)) _ (not-held st (a .p) (a .e) away)) (λ z. absurd (omega arith))),
+      s .pre .0,
+    )
+
+reply-end-requires : tie.Need-reply-end-requires
+reply-end-requires c κs =
+    let i = c .before .before .i .given in
+    let b = c .before .before .before .before in
+    let found = b .held-by in
+    let count = b .before .before .rows-in in
+    let s = b .before .before .before .before .before in
+    (s .pre .0, count .ensures .1, omega (arith, count .ensures .1, at-below (count .result) (found .result) (i .0 .0) (found .ensures .0) (i .1)))
+
+same-length-2 : tie.Need-same-length-2
+same-length-2 c = search needs
+
+returns-2 : tie.Need-returns-2
+returns-2 c =
+    let end = c .before .before .reply-end in
+    let i = c .before .before .before .before .before .i .given in
+    let b = c .before .before .before .before .before .before .before in
+    let found = b .held-by in
+    let count = b .before .before .rows-in in
+    let s = b .before .before .before .before .before in
+    let a = s .args in (
+      (λ st sd rep same listed.
+          let counted = count .ensures .0 ∙ represented-rows rep in
+          let here = found-in st (inClist (a .p)) (a .e) (found .result) (i .0 .0) (found .ensures .1 st (rep, counted) (s .pre .1 .1)) (i .1) in
+          end .ensures .0 st (a .e) sd rep counted same here (s .pre .1 .1)),
+      end .ensures .1,
+    )
+
+pub reply-spec : {M : Type 1} → statement M
+reply-spec =
+    tie.close
+    (tie.spec
+    rows-in-requires
+    held-by-requires
+    enum-known-i
+    enum-told
+    same-length
+    returns
+    reply-end-requires
+    same-length-2
+    returns-2)
