@@ -146,19 +146,31 @@ fn reply_end(t: &mut [u32], n: usize, ps: Records, i: usize, p: u32) -> Performe
     ensures long { λ _. ⌜ IsTables (now (t .exit)) ⌝ }
 {
     if t[KIND + i] != A_SERVER_END {
-        return Performed { answer: Answer::Refused(8), records: ps };
+        return Performed {
+            answer: Answer::Refused(8),
+            records: ps,
+        };
     }
     let m = find::requests_in(t);
     let Found::At(j) = lookups::asked_at(t, m, i) else {
-        return Performed { answer: Answer::Refused(11), records: ps };
+        return Performed {
+            answer: Answer::Refused(11),
+            records: ps,
+        };
     };
     let k = reply_refusal(t, n, m, j, p);
     if k != 0 {
-        return Performed { answer: Answer::Refused(k), records: ps };
+        return Performed {
+            answer: Answer::Refused(k),
+            records: ps,
+        };
     }
     let q = t[Q_NUMBER + j];
     let left = close_request(t, ps, q);
-    Performed { answer: Answer::Done, records: left }
+    Performed {
+        answer: Answer::Done,
+        records: left,
+    }
 }
 
 // reply: 7 for a row that the caller does not hold; then the refusals at the end.
@@ -170,7 +182,10 @@ pub fn reply(t: &mut [u32], ps: Records, p: u32, e: u32) -> Performed
 {
     let n = find::rows_in(t);
     let Found::At(i) = lookups::held_by(t, n, p, e) else {
-        return Performed { answer: Answer::Refused(7), records: ps };
+        return Performed {
+            answer: Answer::Refused(7),
+            records: ps,
+        };
     };
     reply_end(t, n, ps, i, p)
 }

@@ -37,8 +37,8 @@ returns c =
     let v = s .args .v in
     let four : length (v .items) ≡ 4 = sym (length-map (v .items) (λ x. x)) ∙ s .good .1 .1 .1 .0 .1 .1 .1 .1 .1 .1 .0 .1 .0 .1 in
     λ st h few.
-        any-of-four st v four (isAway st (s .args .p) v) (c .before .before .before .end-away .ensures st v h few refl) (c .before .before .end-away2 .ensures st v h few refl)
-        (c .before .end-away3 .ensures st v h few refl) (c .end-away4 .ensures st v h few refl)
+    any-of-four st v four (isAway st (s .args .p) v) (c .before .before .before .end-away .ensures st v h few refl) (c .before .before .end-away2 .ensures st v h few refl)
+    (c .before .end-away3 .ensures st v h few refl) (c .end-away4 .ensures st v h few refl)
 
 pub any-away-spec : {M : Type 1} → statement M
 any-away-spec =

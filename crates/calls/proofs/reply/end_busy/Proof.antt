@@ -45,9 +45,9 @@ returns-2 c =
     let found = c .before .before .before .before .before .before .end-at in
     let a = c .before .before .before .before .before .before .before .before .args in
     λ st h.
-        let (at, end) = an-end st (a .e) (h .0) (found .result) (i .0 .0) (found .ensures .1 st (h .0, h .1)) (i .1) in
-        let none = found-nothing (openSlot (st .requests) (rowOf (st .rows) (a .e) .object)) (asked .ensures .1 st (a .e) (h .0, h .2) at) (c .enum-told3 .given .1) in
-        and-both end (sym (not-busy st (a .e) (asked-none st (a .e) none)))
+    let (at, end) = an-end st (a .e) (h .0) (found .result) (i .0 .0) (found .ensures .1 st (h .0, h .1)) (i .1) in
+    let none = found-nothing (openSlot (st .requests) (rowOf (st .rows) (a .e) .object)) (asked .ensures .1 st (a .e) (h .0, h .2) at) (c .enum-told3 .given .1) in
+    and-both end (sym (not-busy st (a .e) (asked-none st (a .e) none)))
 
 returns-3 : tie.Need-returns-3
 returns-3 c =
@@ -57,9 +57,9 @@ returns-3 c =
     let found = c .before .before .before .before .before .before .end-at in
     let a = c .before .before .before .before .before .before .before .before .args in
     λ st h.
-        let (at, end) = an-end st (a .e) (h .0) (found .result) (i .0 .0) (found .ensures .1 st (h .0, h .1)) (i .1) in
-        let slot = found-at (openSlot (st .requests) (rowOf (st .rows) (a .e) .object)) (j .0 .0) (asked .ensures .1 st (a .e) (h .0, h .2) at) (j .1) in
-        and-both end (sym (is-busy st (a .e) (asked-some st (a .e) (h .0) (j .0 .0) slot)))
+    let (at, end) = an-end st (a .e) (h .0) (found .result) (i .0 .0) (found .ensures .1 st (h .0, h .1)) (i .1) in
+    let slot = found-at (openSlot (st .requests) (rowOf (st .rows) (a .e) .object)) (j .0 .0) (asked .ensures .1 st (a .e) (h .0, h .2) at) (j .1) in
+    and-both end (sym (is-busy st (a .e) (asked-some st (a .e) (h .0) (j .0 .0) slot)))
 
 pub end-busy-spec : {M : Type 1} → statement M
 end-busy-spec =
