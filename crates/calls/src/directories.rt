@@ -251,7 +251,8 @@ pub fn register(t: &mut [u32], ps: Records, p: u32, e: u32) -> Performed
     }
 }
 
-// Whether a row has the row in slot i for a source. Every row is looked at, with no way out early, so that the loop runs over many words at once.
+// Whether a row has the row in slot i for a source.
+// Every row is looked at, with no way out early, so that the loop runs over many words at once.
 fn is_source(t: &[u32], n: usize, i: usize) -> bool
     requires { ⌜ IsTables (now t) × (n ≤ ROWS) × (i < ROWS) ⌝ }
     ensures { λ r. ⌜ IsSource (now (t .entry)) n i r ⌝ }

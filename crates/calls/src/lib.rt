@@ -47,7 +47,8 @@ pub struct Performed {
     pub records: Records,
 }
 
-// What a new copy has of its own; kind, object and operation are its row's. Sources as words: a slot plus 1, 0 for none.
+// What a new copy has of its own; kind, object and operation are its row's.
+// Sources as words: a slot plus 1, 0 for none.
 pub struct NewCopy {
     pub number: u32,
     pub rights: u32,

@@ -13,11 +13,8 @@ use rows::layout::Q_NUMBER;
 use rows::read;
 use rows::records::Records;
 ghost use mathlib.Core.Path.{_≡_};
-ghost use mathlib.Core.Bool.{_&&_};
 ghost use Prim.Native.Nat.{_≤_, _<_};
-ghost use lib.Dec.{ltb};
 ghost use lib.ListN.{length};
-ghost use Rattle.rows.specs.Lists.{member};
 ghost use Rattle.rows.specs.Layout.{requestAt};
 ghost use Rattle.rows.specs.contracts.Slots.{Within};
 ghost use Rattle.rows.specs.contracts.Sizes.{ROWS, REQUESTS, IsTables};
@@ -25,7 +22,7 @@ ghost use Rattle.calls.specs.declared.Call.{Call};
 ghost use Rattle.calls.specs.contracts.Performs.{Performs};
 ghost use Rattle.calls.specs.contracts.Effects.{IsProcess};
 ghost use Rattle.calls.specs.contracts.Replies.{EndBusy, ListedNewer, EndAway, AnyBusy, AnyAway, RefusesReply};
-ghost use Rattle.calls.specs.contracts.Replies.{FindsEnd, RepliesEnd};
+ghost use Rattle.calls.specs.contracts.Replies.{newerHas, FindsEnd, RepliesEnd};
 
 // The slot of the row e, where it is an end.
 fn end_at(t: &[u32], n: usize, e: u32) -> Found
@@ -72,7 +69,7 @@ fn any_busy(t: &[u32], n: usize, m: usize, v: Request) -> bool
 // Whether the request in slot k is newer than q and lists e.
 fn newer_lists(t: &[u32], k: usize, q: u32, e: u32) -> bool
     requires { ⌜ IsTables (now t) × (k < REQUESTS) ⌝ }
-    ensures { λ r. ⌜ r ≡ ltb q (requestAt (now (t .entry)) k .number) && member e (requestAt (now (t .entry)) k .items) ⌝ }
+    ensures { λ r. ⌜ r ≡ newerHas q e (requestAt (now (t .entry)) k) ⌝ }
 {
     let w = read::request_at(t, k);
     let items = w.items;
@@ -139,7 +136,8 @@ fn reply_refusal(t: &[u32], n: usize, m: usize, j: usize, p: u32) -> u32
     0
 }
 
-// reply at the end in slot i, which p holds: 8 for one that is no server end, 11 with no request; then the request's refusals.
+// reply at the end in slot i, which p holds: 8 for one that is no server end, 11 with no request;
+// then the request's refusals.
 fn reply_end(t: &mut [u32], n: usize, ps: Records, i: usize, p: u32) -> Performed
     requires { ⌜ IsTables (now t) × (n ≤ ROWS) × (i < ROWS) ⌝ }
     ensures performs { λ r. ⌜ RepliesEnd (now (t .entry)) n ps i p (now (t .exit)) r ⌝ }

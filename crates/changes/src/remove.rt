@@ -16,7 +16,8 @@ ghost use mathlib.Core.Path.{_≡_};
 ghost use Prim.Native.Nat.{_≤_, _<_, _*_};
 ghost use lib.ListN.{length, getD, take, drop};
 ghost use Rattle.rows.specs.contracts.Sizes.{ROWS, IsTables};
-ghost use Rattle.changes.specs.contracts.Marks.{NoneMarked, Ranks, unmarkedOf, cleared, compacted, compactedParts, remapped};
+ghost use Rattle.changes.specs.contracts.Marks.{NoneMarked, Ranks, unmarkedOf, cleared, compacted};
+ghost use Rattle.changes.specs.contracts.Marks.{compactedParts, remapped};
 ghost use Rattle.changes.specs.contracts.Changes.{RemovesRows, RemovesRequests};
 
 // a word for each slot plus 1, and for 0

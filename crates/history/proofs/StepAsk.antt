@@ -21,7 +21,7 @@ use Rattle.calls.specs.Loans.{itemRow, moves, copyDepth, copyLent, Lending, toS
 use Rattle.kept.proofs.Allowed.{AskAllowed}
 use Rattle.kept.proofs.Stand.{held-there}
 use Rattle.kept.proofs.Moved.{moved, moved-same}
-use Rattle.history.specs.History.{withNoted, withRequests, withLoans, Noted, Loan, OnLoan, History}
+use Rattle.history.specs.History.{withNotedRows, withNotedRequests, withLoans, Noted, Loan, OnLoan, History}
 use Rattle.history.specs.Notes.{noted, notedOf, noLoan, loanOf, spoiled, standing, stands, isClosed, openLoans, addRow, endsNamed, copiesNoted, copied, noteAsk}
 use Rattle.history.proofs.Fit.{isEmpty, bearsWell, endsWell, portNoted, Fit}
 use Rattle.history.proofs.Inv.{Inv, view, ofRequest, ofLoan, throughNow}
@@ -35,7 +35,7 @@ use Rattle.history.proofs.StepAdd.{view-copy}
 -- h with the rows rs and the request v
 abbrev noting : List Noted → Loan → List OnLoan → History → History
 noting rs v os h =
-    withNoted rs (withRequests (v ∷ h .requests) (withLoans os h))
+    withNotedRows rs (withNotedRequests (v ∷ h .requests) (withLoans os h))
 
 loan-there : (vs : List Loan) (q : ℕ) → 0 < q → eqb (loanOf vs q .number) q ≡ true → member q (map (λ v. v .number) vs) ≡ true
 unfolding loanOf noLoan

@@ -38,8 +38,8 @@ pub record History : Type 0 where
   pub loans : List OnLoan
 
 -- ---- a history with one field changed: it is changed by these alone
-abbrev pub withNoted : List Noted → History → History
-withNoted rs h =
+abbrev pub withNotedRows : List Noted → History → History
+withNotedRows rs h =
     record {
       text = h .text;
       rows = rs;
@@ -51,8 +51,8 @@ withNoted rs h =
       loans = h .loans;
     }
 
-abbrev pub withRequests : List Loan → History → History
-withRequests vs h =
+abbrev pub withNotedRequests : List Loan → History → History
+withNotedRequests vs h =
     record {
       text = h .text;
       rows = h .rows;

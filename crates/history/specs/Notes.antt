@@ -5,7 +5,7 @@ use mathlib.Core.List.{List, [], _∷_, _++_, map}
 use lib.Dec.{eqb}
 use Rattle.rows.specs.Lists.{if_then_else_, filter, any, all, firstWith, member, some}
 use Rattle.calls.specs.declared.Item.{Item}
-use Rattle.history.specs.History.{Noted, Loan, Went, OnLoan, History, withNoted, withRequests, withDropped, withClosedPorts, withClosedRequests, withWent, withLoans}
+use Rattle.history.specs.History.{Noted, Loan, Went, OnLoan, History, withNotedRows, withNotedRequests, withDropped, withClosedPorts, withClosedRequests, withWent, withLoans}
 
 -- ---- look-up
 unfoldable pub noted : List Noted → List ℕ
@@ -74,7 +74,7 @@ loansSettled h = withLoans (loansLeft h (h .loans)) h
 
 -- ---- notes
 unfoldable pub addRow : ℕ → List ℕ → ℕ → ℕ → History → History
-addRow n ss q c h = withNoted (record { number = n; sources = ss; request = q; port = c } ∷ h .rows) h
+addRow n ss q c h = withNotedRows (record { number = n; sources = ss; request = q; port = c } ∷ h .rows) h
 
 unfoldable pub wentNowhere : Went
 wentNowhere = record { process = 0; through = 0 }
@@ -121,8 +121,8 @@ copied rs is = filter (λ i. not (isEndNoted rs i)) is
 unfoldable pub noteAsk : ℕ → ℕ → List Item → ℕ → History → History
 noteAsk p c is v h =
     let es = endsNamed (h .rows) is in
-    withNoted (copiesNoted v c (suc v) (copied (h .rows) is) (h .rows))
-    (withRequests (record { number = v; lender = p; port = c; ends = es } ∷ h .requests)
+    withNotedRows (copiesNoted v c (suc v) (copied (h .rows) is) (h .rows))
+    (withNotedRequests (record { number = v; lender = p; port = c; ends = es } ∷ h .requests)
     (withLoans (map (λ e. record { request = v; lent = e }) es ++ h .loans) h))
 
 -- "`drop e`: e dropped. `close c`: port c closed. `revoke q`: q closed."

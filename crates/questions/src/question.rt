@@ -17,7 +17,8 @@ ghost use Prim.Native.Nat.{_<_};
 ghost use Rattle.rows.specs.Lists.{member};
 ghost use Rattle.rows.specs.Layout.{requestAt};
 ghost use Rattle.rows.specs.contracts.Sizes.{ROWS, REQUESTS, IsTables};
-ghost use Rattle.questions.specs.contracts.Questions.{OnLoan, Comes, Lent, sourceless, Touched, Reaches, ViaReaches, PortReaches};
+ghost use Rattle.questions.specs.contracts.Questions.{OnLoan, Comes, Lent, sourceless, Touched, Reaches};
+ghost use Rattle.questions.specs.contracts.Questions.{ViaReaches, PortReaches};
 
 // the greatest source word: the last slot plus 1
 const LAST_WORD: u32 = ROWS as u32;

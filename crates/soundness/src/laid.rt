@@ -14,7 +14,8 @@ use rows::layout::VIA;
 ghost use Prim.Native.Nat.{_≤_};
 ghost use lib.ListN.{length};
 ghost use Rattle.rows.specs.contracts.Sizes.{ROWS, REQUESTS, IsTables};
-ghost use Rattle.soundness.specs.contracts.Laid.{Decides, Rising, Older, ZeroFrom, RowsUnused, RequestsUnused, RowsLaid, RequestsLaid};
+ghost use Rattle.soundness.specs.contracts.Laid.{Decides, Rising, Older, ZeroFrom, RowsUnused, RequestsUnused};
+ghost use Rattle.soundness.specs.contracts.Laid.{RowsLaid, RequestsLaid};
 
 // Whether the words of a column from position k on are 0.
 // Ruled out: yes where the last word is not 0; no for what stands before position k.

@@ -17,7 +17,7 @@ use Rattle.rows.specs.Tables.{State, lists}
 use Rattle.rows.specs.Sound.{itemsLent, isFetched, olderFetched, awaitsFetch, same, systemHolds}
 use Rattle.rows.specs.Layout.{requestAt, requestsTo, rowSlot}
 use Rattle.rows.specs.contracts.Represents.{Represents}
-use Rattle.soundness_loans.specs.contracts.Clauses.{itemsListable, listingCode, listingOf, codeAt, listAll, itemSlots, listedOnce, listingWith, heldTo, allOfHolders}
+use Rattle.soundness_loans.specs.contracts.Clauses.{itemsListable, listingCode, listingOf, codeAt, listAll, itemSlots, listedOnce, relisted, heldTo, allOfHolders}
 use Rattle.rows.proofs.Bools.{and-l, and-r, or-r, and-true, or-false, pos-some}
 use Rattle.rows.proofs.Slots.{represented-well, row-words-at, slot-number}
 use Rattle.soundness_loans.proofs.RequestClauses.{requests-read}
@@ -83,7 +83,7 @@ code-pos true = omega arith
 code-pos false = omega arith
 
 pub listing-turn : {st : State} {t : List ℕ} → Represents t st → (whole vs : List Request) (l l′ : List ℕ) (older r : Bool) (v : Request) → Lent st v
-    → r ≡ listedOnce l (st .rows) v → l′ ≡ listingWith l (st .rows) v
+    → r ≡ listedOnce l (st .rows) v → l′ ≡ relisted l (st .rows) v
     → Listing (st .rows) whole (v ∷ vs) l older → Listing (st .rows) whole vs l′ (r && older)
 unfolding listingOf fetchedAfter
 listing-turn {st} rep whole vs l l′ older r v lent e d p =
@@ -173,7 +173,7 @@ items-lent {st} {t} rep h j lt =
 
 -- the request before j is next
 pub listing-next : {st : State} {t : List ℕ} → Represents t st → (whole : List Request) (j : ℕ) (l l′ : List ℕ) (older r : Bool) → 0 < j → Lent st (requestAt t (j - 1))
-    → r ≡ listedOnce l (st .rows) (requestAt t (j - 1)) → l′ ≡ listingWith l (st .rows) (requestAt t (j - 1))
+    → r ≡ listedOnce l (st .rows) (requestAt t (j - 1)) → l′ ≡ relisted l (st .rows) (requestAt t (j - 1))
     → Listing (st .rows) whole (requestsTo t j) l older → Listing (st .rows) whole (requestsTo t (j - 1)) l′ (r && older)
 unfolding requestsTo
 listing-next {st} {t} rep whole j l l′ older r pos lent e d p =

@@ -14,7 +14,9 @@ ghost use Rattle.rows.specs.Lists.{some};
 ghost use Rattle.rows.specs.Codes.{isSystem};
 ghost use Rattle.rows.specs.Sound.{same};
 ghost use Rattle.rows.specs.contracts.Sizes.{ROWS, REQUESTS, IsTables};
-ghost use Rattle.soundness_loans.specs.contracts.Clauses.{OfRequest, SlotsWithin, TestsHolders, listingCode, codeAt, listAt, listAll, anyListed, itemSlots, listedOnce, listingWith, heldTo};
+ghost use Rattle.soundness_loans.specs.contracts.Clauses.{OfRequest, SlotsWithin, TestsHolders, listingCode};
+ghost use Rattle.soundness_loans.specs.contracts.Clauses.{codeAt, listAt, listAll, anyListed, itemSlots};
+ghost use Rattle.soundness_loans.specs.contracts.Clauses.{listedOnce, relisted, heldTo};
 
 // The slots of the items of the request in slot j. Ruled out: three of the four; a slot past the rows in use.
 fn item_slots(t: &[u32], n: usize, j: usize) -> [usize; 4]
@@ -93,7 +95,7 @@ fn code_of(fetched: bool) -> u8
 fn listed_once(t: &[u32], n: usize, listing: &mut [u8; ROWS], j: usize) -> bool
     requires { ⌜ IsTables (now t) × (n ≤ ROWS) × (j < REQUESTS) ⌝ }
     ensures once { λ r. ⌜ OfRequest (now (t .entry)) n j r (listedOnce (now (listing .entry))) ⌝ }
-    ensures marked { λ _. ⌜ OfRequest (now (t .entry)) n j (now (listing .exit)) (listingWith (now (listing .entry))) ⌝ }
+    ensures marked { λ _. ⌜ OfRequest (now (t .entry)) n j (now (listing .exit)) (relisted (now (listing .entry))) ⌝ }
 {
     let slots = item_slots(t, n, j);
     let word = t[Q_FETCHED + j];

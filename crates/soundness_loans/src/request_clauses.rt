@@ -25,7 +25,10 @@ ghost use Rattle.rows.specs.Tables.{isListed};
 ghost use Rattle.rows.specs.Layout.{requestAt, recordsIn, rowSlot};
 ghost use Rattle.rows.specs.contracts.Sizes.{ROWS, REQUESTS, REQUEST, IsTables, IsRecords};
 ghost use Rattle.rows.specs.contracts.OfState.{OfRows, TestsTables, Tests};
-ghost use Rattle.soundness_loans.specs.contracts.Clauses.{OfRequest, TestsItem, wordAt, numberApart, itemsListable, requestRight, standingPort, requestsRight, portsRight, allOfRequests, isFree, withMark};
+ghost use Rattle.soundness_loans.specs.contracts.Clauses.{OfRequest, TestsItem, wordAt, numberApart};
+ghost use Rattle.soundness_loans.specs.contracts.Clauses.{itemsListable, requestRight, standingPort};
+ghost use Rattle.soundness_loans.specs.contracts.Clauses.{requestsRight, portsRight, allOfRequests, isFree};
+ghost use Rattle.soundness_loans.specs.contracts.Clauses.{withMark};
 
 // The slot plus 1 of the row numbered x, of n rows; 0 for none.
 // Ruled out: the slot of another row; a slot past the rows in use.

@@ -13,21 +13,21 @@ use rows::Row;
 use rows::codes::A_CLIENT_END;
 use rows::codes::A_SERVER_END;
 use rows::find::search;
-use rows::layout::Q_ITEMS;
 use rows::layout::Q_NUMBER;
 use rows::layout::Q_PORT;
-use rows::layout::REQUESTS;
+use rows::read::lists_at;
 use rows::read::row_at;
 ghost use mathlib.Core.Path.{_≡_};
 ghost use Prim.Native.Nat.{_<_, _≤_};
 ghost use Rattle.rows.specs.Tables.{requestOf, lists};
 ghost use Rattle.rows.specs.Sound.{endPaired};
-ghost use Rattle.rows.specs.Layout.{requestAt, recordsIn};
+ghost use Rattle.rows.specs.Layout.{recordsIn};
 ghost use Rattle.rows.specs.contracts.Sizes.{ROWS, REQUESTS, IsTables, IsRecords};
 ghost use Rattle.rows.specs.contracts.OfState.{OfRequests, Tests};
 ghost use Rattle.soundness_rows.specs.contracts.AtSlot.{OfRowAt, OfRowAmong, OfSources, OfSlot};
 ghost use Rattle.soundness_rows.specs.contracts.Seen.{SaysOfLoan, SourcesBefore, SourcesOlder, slotRow};
-ghost use Rattle.soundness_rows.specs.contracts.Clauses.{fieldsInRange, sourceClauses, pairedAbove, pairedBelow, allOfRows};
+ghost use Rattle.soundness_rows.specs.contracts.Clauses.{fieldsInRange, sourceClauses, pairedAbove, pairedBelow};
+ghost use Rattle.soundness_rows.specs.contracts.Clauses.{allOfRows};
 
 // What the request that a row bears says: its port, and whether it lists the row.
 pub struct Loan {
@@ -57,18 +57,6 @@ fn source_row(t: &[u32], s: u32) -> Row
     }
     let i = s as usize - 1;
     row_at(t, i)
-}
-
-// The request at slot j lists e. Ruled out: three of the four items decide; 0 is listed.
-fn lists_at(t: &[u32], j: usize, e: u32) -> bool
-    requires { ⌜ IsTables (now t) × (j < REQUESTS) ⌝ }
-    ensures { λ r. ⌜ r ≡ lists e (requestAt (now (t .entry)) j) ⌝ }
-{
-    let a = t[Q_ITEMS + j];
-    let b = t[Q_ITEMS + REQUESTS + j];
-    let c = t[Q_ITEMS + 256 + j];
-    let d = t[Q_ITEMS + 384 + j];
-    (0 < e) & ((e == a) | ((e == b) | ((e == c) | (e == d))))
 }
 
 // What request q says of the row numbered e.

@@ -15,8 +15,10 @@ ghost use mathlib.Core.Path.{_≡_};
 ghost use Prim.Native.Nat.{_<_, _≤_};
 ghost use Rattle.rows.specs.Setters.{withPlace};
 ghost use Rattle.rows.specs.contracts.Sizes.{ROWS, REQUESTS, ITEMS, IsTables};
-ghost use Rattle.changes.specs.contracts.Changes.{ChangesRow, ChangesRequest, SetsNext, RemovesRows, RemovesRequests, itemCleared, asFetched};
-ghost use Rattle.test_exports.specs.contracts.Exports.{rowOfWords, requestOfWords, Unless, ItemFits, RowFits, AddsRowOf, AddsRequestOf};
+ghost use Rattle.changes.specs.contracts.Changes.{ChangesRow, ChangesRequest, SetsNext, RemovesRows, RemovesRequests};
+ghost use Rattle.changes.specs.contracts.Changes.{itemCleared, asFetched};
+ghost use Rattle.test_exports.specs.contracts.Exports.{rowOfWords, requestOfWords, Unless, ItemFits, RowFits};
+ghost use Rattle.test_exports.specs.contracts.Exports.{AddsRowOf, AddsRequestOf};
 
 #[no_mangle]
 pub extern "C" fn kernel_set_place(t: &mut [u32], i: usize, place: u32)

@@ -15,7 +15,8 @@ ghost use lib.ListN.{getD};
 ghost use Rattle.rows.specs.Tables.{isListed};
 ghost use Rattle.rows.specs.Layout.{recordsIn};
 ghost use Rattle.rows.specs.contracts.Sizes.{ROWS, REQUESTS, NEXT, IsTables, IsRecords};
-ghost use Rattle.test_exports.specs.contracts.Exports.{Unless, ReadsRow, ReadsRequest, StoresRecords, RecordsStay};
+ghost use Rattle.test_exports.specs.contracts.Exports.{Unless, ReadsRow, ReadsRequest, StoresRecords};
+ghost use Rattle.test_exports.specs.contracts.Exports.{RecordsStay};
 
 #[no_mangle]
 pub extern "C" fn kernel_row_at(t: &[u32], i: usize, out: &mut [u32; ROW_COLUMNS])

@@ -12,8 +12,7 @@ use Rattle.rows.proofs.Bools.{clash}
 use Rattle.rows.specs.Limits.{mostBytes}
 use Rattle.rows.specs.Lists.{any}
 use Rattle.rows.specs.Sound.{same}
-use Rattle.text.specs.Opening.{Form, Line, FirstPass, lastLine, readTo, formLine, formRefusal, firstPass, stoppedBy, badLine, lineOf}
-use Rattle.text.specs.Opening.{nodeForm, processForm, linesOf, processLine, openLine, entriesFrom, nodeLine, Entries, formListed, givesNode, missingAt, secondPass}
+use Rattle.text.specs.Opening.{Form, Line, FirstPass, lastLine, readTo, formLine, formRefusal, firstPass, stoppedBy, badLine, lineOf, nodeForm, processForm, linesOf, processLine, openLine, entriesFrom, nodeLine, Entries, formListed, givesNode, missingAt, secondPass}
 use Rattle.text.specs.Patterns.{whole, form, mostGroups}
 use Rattle.text.specs.contracts.Openings.{lineRead, NodeTold, FormSteps, Steps, Gives, gone-on, stopped, firstLine, Ends, entriesAt, naming, namingOf, listedFrom, ReadTo, verdictOf}
 use Rattle.text.specs.contracts.Sizes.{GROUPS}

@@ -14,8 +14,8 @@ ghost use mathlib.Core.Path.{_≡_};
 ghost use Prim.Native.Nat.{_+_, _<_};
 ghost use lib.ListN.{length};
 ghost use Rattle.rows.specs.Lists.{member};
-ghost use Rattle.text.specs.CallLines.{isProcess, isNumber, ranged, simple, simpleForm};
-ghost use Rattle.text.specs.CallLines.{Gathered, gathered, packed, judged, askForm, readingOf};
+ghost use Rattle.text.specs.CallLines.{isProcess, isNumber, ranged, simple, simpleForm, Gathered, gathered};
+ghost use Rattle.text.specs.CallLines.{packed, judged, askForm, readingOf};
 ghost use Rattle.text.specs.contracts.Sizes.{GROUPS};
 ghost use Rattle.text.specs.contracts.Asks.{askedOf, withItem, otherCall};
 

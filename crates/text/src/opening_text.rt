@@ -23,9 +23,9 @@ ghost use lib.ListN.{getD};
 ghost use Rattle.text.specs.Opening.{linesOf, Form, nodeForm, processForm, lineOf, formRefusal, entryListed};
 ghost use Rattle.text.specs.Opening.{firstPass, openingOf};
 ghost use Rattle.text.specs.contracts.Sizes.{GROUPS, NODES, PROCESSES};
-ghost use Rattle.text.specs.contracts.Openings.{Gives, RefusesNode, StepsNode, FormSteps, Steps};
-ghost use Rattle.text.specs.contracts.Openings.{stopped, gone-on, Ends, listedFrom, nodeListed, namingOf};
-ghost use Rattle.text.specs.contracts.Openings.{naming, Misses, verdictOf};
+ghost use Rattle.text.specs.contracts.Openings.{Gives, RefusesNode, StepsNode, FormSteps, Steps, stopped};
+ghost use Rattle.text.specs.contracts.Openings.{gone-on, Ends, listedFrom, nodeListed, namingOf, naming, Misses};
+ghost use Rattle.text.specs.contracts.Openings.{verdictOf};
 
 const MOST_ENTRIES: usize = 16;
 

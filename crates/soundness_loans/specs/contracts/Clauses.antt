@@ -119,8 +119,8 @@ abbrev pub listedOnce : List ℕ → List Row → Request → Bool
 listedOnce listing rs v = isFetched v || not (anyListed listing (itemSlots rs v))
 
 -- the listing with its items listed too
-abbrev pub listingWith : List ℕ → List Row → Request → List ℕ
-listingWith listing rs v = listAll (listingCode (isFetched v)) (itemSlots rs v) listing
+abbrev pub relisted : List ℕ → List Row → Request → List ℕ
+relisted listing rs v = listAll (listingCode (isFetched v)) (itemSlots rs v) listing
 
 -- ---- who holds
 -- where the column of rows' places starts

@@ -18,8 +18,7 @@ use Rattle.text.specs.declared.Naming.{Naming}
 use Rattle.text.specs.declared.Naming.the-variants.{Listed, Missing, Ended}
 use Rattle.text.specs.declared.Verdict.{Verdict}
 use Rattle.text.specs.Patterns.{form}
-use Rattle.text.specs.Opening.{operationEntry, subdirectoryEntry, Entries, entryRanged, Form, nodeForm, processForm, Line, lastLine, formLine, badLine}
-use Rattle.text.specs.Opening.{linesOf, entriesFrom, givesNode, givesProcess, formRefusal, entryListed, formListed, missingAt, firstPass, FirstPass, readTo, stoppedBy, Opening, opens, refusedAt}
+use Rattle.text.specs.Opening.{operationEntry, subdirectoryEntry, Entries, entryRanged, Form, nodeForm, processForm, Line, lastLine, formLine, badLine, linesOf, entriesFrom, givesNode, givesProcess, formRefusal, entryListed, formListed, missingAt, firstPass, FirstPass, readTo, stoppedBy, Opening, opens, refusedAt}
 use Rattle.text.specs.contracts.Sizes.{GROUPS, NODES, PROCESSES}
 
 -- ---- lines

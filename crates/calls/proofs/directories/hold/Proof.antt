@@ -3,13 +3,12 @@ use borrow.Author.Needs.{needs}
 use Prim.Native.Nat.{ℕ}
 use native.Mathlib.Omega.{arith}
 use mathlib.Core.Path.{_≡_, ap, sym, _∙_}
-use Rattle.rows.specs.Codes.{inClist}
+use Rattle.rows.specs.Codes.{inClist, inNode, isNode}
 use Rattle.rows.proofs.Bools.{pos-some}
 use Rattle.rows.proofs.Slots.{at-below, represented-rows}
 use Rattle.calls.specs.Calls.{refusals, callerOf}
 use Rattle.calls.proofs.LookedUp.{found-in}
 use Rattle.rows.specs.declared.Process.{Process}
-use Rattle.rows.specs.Codes.{inNode, isNode}
 use Rattle.rows.specs.Layout.{rowSlot}
 use Rattle.rows.specs.Tables.{State, noProcess, processAt, isListed}
 use Rattle.rows.specs.Sound.{sound}

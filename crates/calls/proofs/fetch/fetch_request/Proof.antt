@@ -7,13 +7,12 @@ use lib.Dec.{eqb}
 use Rattle.rows.specs.Codes.{isServer}
 use Rattle.rows.specs.Tables.{rowOf}
 use Rattle.rows.specs.contracts.Slots.{openSlot}
-use Rattle.rows.proofs.Slots.{at-below, found-at, found-nothing, represented-requests, row-words, open-words}
+use Rattle.rows.proofs.Slots.{at-below, found-at, found-nothing, represented-requests, row-words, open-words, raw-open}
 use Rattle.calls.specs.Rules.{askedOf}
 use Rattle.rows.specs.declared.Request.{Request}
 use Rattle.rows.specs.Sound.{isFetched}
 use borrow.Author.Tests.{eq-eqb, ne-eqb}
 use Rattle.rows.proofs.Bools.{or-r}
-use Rattle.rows.proofs.Slots.{raw-open}
 use Rattle.calls.specs.declared.Call.the-variants.{Fetch}
 use Rattle.calls.specs.Calls.{refusals}
 use Rattle.calls.proofs.Judging.{test-holds, test-fails, refused-answers, accepted-answers}
