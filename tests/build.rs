@@ -8,8 +8,14 @@ fn main() {
     let package = env::var("CARGO_MANIFEST_DIR").expect("cargo names the package");
     let root = Path::new(&package).parent().expect("a repository above");
     let mut rt = Command::new("rt");
-    let status = rt.args(["staticlib", "test_exports"]).current_dir(root).status();
-    assert!(status.expect("rt starts").success(), "rt staticlib test_exports");
+    let status = rt
+        .args(["staticlib", "test_exports"])
+        .current_dir(root)
+        .status();
+    assert!(
+        status.expect("rt starts").success(),
+        "rt staticlib test_exports"
+    );
     // a copy: `rt ci` removes target/, and cargo does not see that
     let out = PathBuf::from(env::var("OUT_DIR").expect("cargo names a folder"));
     let built = root.join("target/staticlib/libtest_exports.a");

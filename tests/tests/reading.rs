@@ -98,22 +98,27 @@ fn records_come_back() {
 }
 
 /// A row with these rights, for what the model says of rights.
-fn with_rights(tables: &Tables, rights: u8) -> Row {
+fn with_rights(tables: &Tables, rights: u32) -> Row {
     Row {
-        rights: u32::from(rights),
+        rights,
         ..tables.rows[0]
     }
 }
 
 /// Rights are compared by the three low bits, and are none if no bit is set.
 #[test]
-fn rights_of_all_bytes() {
+fn rights_of_words() {
     let tables = &full()[0];
-    for a in 0..=u8::MAX {
+    let high = [1 << 8, 1 << 16, 1 << 31, u32::MAX - ALL_RIGHTS];
+    let words = (0..=255).chain(
+        high.into_iter()
+            .flat_map(|h| (0..=ALL_RIGHTS).map(move |low| h + low)),
+    );
+    let words: Vec<u32> = words.collect();
+    for &a in &words {
         assert_eq!(rights::empty(a), a == 0);
-        for b in 0..=u8::MAX {
-            let (low, other) = (a & ALL_RIGHTS as u8, b & ALL_RIGHTS as u8);
-            let permitted = with_rights(tables, other).permits(u32::from(low));
+        for &b in &words {
+            let permitted = with_rights(tables, b & ALL_RIGHTS).permits(a & ALL_RIGHTS);
             assert_eq!(rights::within(a, b), permitted, "{a} within {b}");
             assert_eq!(rights::contain(b, a), permitted, "{b} contain {a}");
         }
