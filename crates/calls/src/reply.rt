@@ -13,11 +13,8 @@ use rows::layout::Q_NUMBER;
 use rows::read;
 use rows::records::Records;
 ghost use mathlib.Core.Path.{_≡_};
-ghost use mathlib.Core.Bool.{_&&_};
 ghost use Prim.Native.Nat.{_≤_, _<_};
-ghost use lib.Dec.{ltb};
 ghost use lib.ListN.{length};
-ghost use Rattle.rows.specs.Lists.{member};
 ghost use Rattle.rows.specs.Layout.{requestAt};
 ghost use Rattle.rows.specs.contracts.Slots.{Within};
 ghost use Rattle.rows.specs.contracts.Sizes.{ROWS, REQUESTS, IsTables};
@@ -25,7 +22,7 @@ ghost use Rattle.calls.specs.declared.Call.{Call};
 ghost use Rattle.calls.specs.contracts.Performs.{Performs};
 ghost use Rattle.calls.specs.contracts.Effects.{IsProcess};
 ghost use Rattle.calls.specs.contracts.Replies.{EndBusy, ListedNewer, EndAway, AnyBusy, AnyAway, RefusesReply};
-ghost use Rattle.calls.specs.contracts.Replies.{FindsEnd, RepliesEnd};
+ghost use Rattle.calls.specs.contracts.Replies.{FindsEnd, RepliesEnd, newerListing};
 
 // The slot of the row e, where it is an end.
 fn end_at(t: &[u32], n: usize, e: u32) -> Found
@@ -72,7 +69,7 @@ fn any_busy(t: &[u32], n: usize, m: usize, v: Request) -> bool
 // Whether the request in slot k is newer than q and lists e.
 fn newer_lists(t: &[u32], k: usize, q: u32, e: u32) -> bool
     requires { ⌜ IsTables (now t) × (k < REQUESTS) ⌝ }
-    ensures { λ r. ⌜ r ≡ ltb q (requestAt (now (t .entry)) k .number) && member e (requestAt (now (t .entry)) k .items) ⌝ }
+    ensures { λ r. ⌜ r ≡ newerListing q e (requestAt (now (t .entry)) k) ⌝ }
 {
     let w = read::request_at(t, k);
     let items = w.items;
@@ -146,19 +143,31 @@ fn reply_end(t: &mut [u32], n: usize, ps: Records, i: usize, p: u32) -> Performe
     ensures long { λ _. ⌜ IsTables (now (t .exit)) ⌝ }
 {
     if t[KIND + i] != A_SERVER_END {
-        return Performed { answer: Answer::Refused(8), records: ps };
+        return Performed {
+            answer: Answer::Refused(8),
+            records: ps,
+        };
     }
     let m = find::requests_in(t);
     let Found::At(j) = lookups::asked_at(t, m, i) else {
-        return Performed { answer: Answer::Refused(11), records: ps };
+        return Performed {
+            answer: Answer::Refused(11),
+            records: ps,
+        };
     };
     let k = reply_refusal(t, n, m, j, p);
     if k != 0 {
-        return Performed { answer: Answer::Refused(k), records: ps };
+        return Performed {
+            answer: Answer::Refused(k),
+            records: ps,
+        };
     }
     let q = t[Q_NUMBER + j];
     let left = close_request(t, ps, q);
-    Performed { answer: Answer::Done, records: left }
+    Performed {
+        answer: Answer::Done,
+        records: left,
+    }
 }
 
 // reply: 7 for a row that the caller does not hold; then the refusals at the end.
@@ -170,7 +179,10 @@ pub fn reply(t: &mut [u32], ps: Records, p: u32, e: u32) -> Performed
 {
     let n = find::rows_in(t);
     let Found::At(i) = lookups::held_by(t, n, p, e) else {
-        return Performed { answer: Answer::Refused(7), records: ps };
+        return Performed {
+            answer: Answer::Refused(7),
+            records: ps,
+        };
     };
     reply_end(t, n, ps, i, p)
 }

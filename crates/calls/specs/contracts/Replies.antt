@@ -9,7 +9,7 @@ use Rattle.rows.specs.declared.Request.{Request}
 use Rattle.rows.specs.declared.Process.{Process}
 use Rattle.rows.specs.declared.Found.{Found}
 use Rattle.rows.specs.declared.Found.the-variants.{Nothing}
-use Rattle.rows.specs.Lists.{if_then_else_, any, some}
+use Rattle.rows.specs.Lists.{if_then_else_, any, member, some}
 use Rattle.rows.specs.Codes.{isEnd, isServer, inClist}
 use Rattle.rows.specs.Tables.{State, rowOf, lists}
 use Rattle.rows.specs.Sound.{sound}
@@ -41,6 +41,10 @@ endItem st e = some e && isEnd (rowOf (st .rows) e .kind)
 
 abbrev pub EndBusy : List ℕ → ℕ → ℕ → ℕ → Bool → Type 0
 EndBusy t n m e r = (st : State) → HasBoth t n m st → r ≡ endItem st e && hasOpen st (rowOf (st .rows) e .object)
+
+-- a request is newer than q and has e among its items
+abbrev pub newerListing : ℕ → ℕ → Request → Bool
+newerListing q e w = ltb q (w .number) && member e (w .items)
 
 -- a request newer than q lists e
 abbrev pub listedNewer : State → ℕ → ℕ → Bool

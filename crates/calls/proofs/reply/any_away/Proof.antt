@@ -33,12 +33,13 @@ end-away-requires-4 c κs = search needs
 
 returns : tie.Need-returns
 returns c =
-    let s = c .before .before .before .before .before .before in
+    let c4 = c .before .before .before .before in
+    let s = c4 .before .before in
     let v = s .args .v in
     let four : length (v .items) ≡ 4 = sym (length-map (v .items) (λ x. x)) ∙ s .good .1 .1 .1 .0 .1 .1 .1 .1 .1 .1 .0 .1 .0 .1 in
     λ st h few.
-        any-of-four st v four (isAway st (s .args .p) v) (c .before .before .before .end-away .ensures st v h few refl) (c .before .before .end-away2 .ensures st v h few refl)
-        (c .before .end-away3 .ensures st v h few refl) (c .end-away4 .ensures st v h few refl)
+    any-of-four st v four (isAway st (s .args .p) v) (c .before .before .before .end-away .ensures st v h few refl) (c .before .before .end-away2 .ensures st v h few refl)
+    (c .before .end-away3 .ensures st v h few refl) (c .end-away4 .ensures st v h few refl)
 
 pub any-away-spec : {M : Type 1} → statement M
 any-away-spec =

@@ -32,11 +32,11 @@ returns c =
     let read = c .before .before .request-at in
     let a = c .before .before .before .before .args in
     λ st e h m few.
-        let v = askedOf st e in
-        let same = read .ensures ∙ raw-open (h .0) (rowOf (st .rows) e .object) (a .j) (m .2) in
-        let busy : Request → Bool = λ w. any (λ x. hasOpen st (rowOf (st .rows) x .object)) (lentEnds st w) in
-        let b = ap busy (sym same) ∙ sym (c .before .any-busy .ensures st h) ∙ c .if1 .taken in
-        test-fails (not (isServer (rowOf (st .rows) e .kind))) 8 (ap not (m .1)) (test-holds (busy v) 10 _ b) ∙ sym (reply-rest st (a .p) e (held st (a .p) e (m .0)))
+    let v = askedOf st e in
+    let same = read .ensures ∙ raw-open (h .0) (rowOf (st .rows) e .object) (a .j) (m .2) in
+    let busy : Request → Bool = λ w. any (λ x. hasOpen st (rowOf (st .rows) x .object)) (lentEnds st w) in
+    let b = ap busy (sym same) ∙ sym (c .before .any-busy .ensures st h) ∙ c .if1 .taken in
+    test-fails (not (isServer (rowOf (st .rows) e .kind))) 8 (ap not (m .1)) (test-holds (busy v) 10 _ b) ∙ sym (reply-rest st (a .p) e (held st (a .p) e (m .0)))
 
 returns-2 : tie.Need-returns-2
 unfolding askedOf isFetched
@@ -45,14 +45,14 @@ returns-2 c =
     let read = u .before .before .request-at in
     let a = u .before .before .before .before .args in
     λ st e h m few.
-        let v = askedOf st e in
-        let same = read .ensures ∙ raw-open (h .0) (rowOf (st .rows) e .object) (a .j) (m .2) in
-        let busy : Request → Bool = λ w. any (λ x. hasOpen st (rowOf (st .rows) x .object)) (lentEnds st w) in
-        let b = ap busy (sym same) ∙ sym (u .before .any-busy .ensures st h) ∙ u .if1 .left in
-        let new = ne-eqb (v .fetched) 1 (λ k. c .if2 .taken (ap (λ (w : Request). w .fetched) same ∙ k)) in
-        test-fails (not (isServer (rowOf (st .rows) e .kind))) 8 (ap not (m .1))
-        (test-fails (busy v) 10 b (test-holds (eqb (v .number) 0 || not (isFetched v)) 11 _ (or-r (eqb (v .number) 0) (not (isFetched v)) (ap not new))))
-        ∙ sym (reply-rest st (a .p) e (held st (a .p) e (m .0)))
+    let v = askedOf st e in
+    let same = read .ensures ∙ raw-open (h .0) (rowOf (st .rows) e .object) (a .j) (m .2) in
+    let busy : Request → Bool = λ w. any (λ x. hasOpen st (rowOf (st .rows) x .object)) (lentEnds st w) in
+    let b = ap busy (sym same) ∙ sym (u .before .any-busy .ensures st h) ∙ u .if1 .left in
+    let new = ne-eqb (v .fetched) 1 (λ k. c .if2 .taken (ap (λ (w : Request). w .fetched) same ∙ k)) in
+    test-fails (not (isServer (rowOf (st .rows) e .kind))) 8 (ap not (m .1))
+    (test-fails (busy v) 10 b (test-holds (eqb (v .number) 0 || not (isFetched v)) 11 _ (or-r (eqb (v .number) 0) (not (isFetched v)) (ap not new))))
+    ∙ sym (reply-rest st (a .p) e (held st (a .p) e (m .0)))
 
 any-away-requires : tie.Need-any-away-requires
 any-away-requires c κs = search needs
@@ -64,16 +64,16 @@ returns-3 c =
     let read = u .before .before .request-at in
     let a = u .before .before .before .before .args in
     λ st e h m few.
-        let v = askedOf st e in
-        let same = read .ensures ∙ raw-open (h .0) (rowOf (st .rows) e .object) (a .j) (m .2) in
-        let busy : Request → Bool = λ w. any (λ x. hasOpen st (rowOf (st .rows) x .object)) (lentEnds st w) in
-        let gone : Request → Bool = λ w. any (isAway st (a .p) w) (lentEnds st w) in
-        let b = ap busy (sym same) ∙ sym (u .before .any-busy .ensures st h) ∙ u .if1 .left in
-        let once = eq-eqb (v .fetched) 1 (ap (λ (w : Request). w .fetched) (sym same) ∙ c .before .before .if2 .left) in
-        let out = ap gone (sym same) ∙ sym (c .before .any-away .ensures st h few) ∙ c .if3 .taken in
-        test-fails (not (isServer (rowOf (st .rows) e .kind))) 8 (ap not (m .1))
-        (test-fails (busy v) 10 b (test-fails (eqb (v .number) 0 || not (isFetched v)) 11 (both-fail (asked-some st e (h .0) (a .j) (m .2)) (ap not once)) (test-holds (gone v) 14 _ out)))
-        ∙ sym (reply-rest st (a .p) e (held st (a .p) e (m .0)))
+    let v = askedOf st e in
+    let same = read .ensures ∙ raw-open (h .0) (rowOf (st .rows) e .object) (a .j) (m .2) in
+    let busy : Request → Bool = λ w. any (λ x. hasOpen st (rowOf (st .rows) x .object)) (lentEnds st w) in
+    let gone : Request → Bool = λ w. any (isAway st (a .p) w) (lentEnds st w) in
+    let b = ap busy (sym same) ∙ sym (u .before .any-busy .ensures st h) ∙ u .if1 .left in
+    let once = eq-eqb (v .fetched) 1 (ap (λ (w : Request). w .fetched) (sym same) ∙ c .before .before .if2 .left) in
+    let out = ap gone (sym same) ∙ sym (c .before .any-away .ensures st h few) ∙ c .if3 .taken in
+    test-fails (not (isServer (rowOf (st .rows) e .kind))) 8 (ap not (m .1))
+    (test-fails (busy v) 10 b (test-fails (eqb (v .number) 0 || not (isFetched v)) 11 (both-fail (asked-some st e (h .0) (a .j) (m .2)) (ap not once)) (test-holds (gone v) 14 _ out)))
+    ∙ sym (reply-rest st (a .p) e (held st (a .p) e (m .0)))
 
 returns-4 : tie.Need-returns-4
 unfolding askedOf isFetched
@@ -82,16 +82,16 @@ returns-4 c =
     let read = u .before .before .request-at in
     let a = u .before .before .before .before .args in
     λ st e h m few.
-        let v = askedOf st e in
-        let same = read .ensures ∙ raw-open (h .0) (rowOf (st .rows) e .object) (a .j) (m .2) in
-        let busy : Request → Bool = λ w. any (λ x. hasOpen st (rowOf (st .rows) x .object)) (lentEnds st w) in
-        let gone : Request → Bool = λ w. any (isAway st (a .p) w) (lentEnds st w) in
-        let b = ap busy (sym same) ∙ sym (u .before .any-busy .ensures st h) ∙ u .if1 .left in
-        let once = eq-eqb (v .fetched) 1 (ap (λ (w : Request). w .fetched) (sym same) ∙ c .before .before .if2 .left) in
-        let all = ap gone (sym same) ∙ sym (c .before .any-away .ensures st h few) ∙ c .if3 .left in
-        test-fails (not (isServer (rowOf (st .rows) e .kind))) 8 (ap not (m .1))
-        (test-fails (busy v) 10 b (test-fails (eqb (v .number) 0 || not (isFetched v)) 11 (both-fail (asked-some st e (h .0) (a .j) (m .2)) (ap not once)) (test-fails (gone v) 14 all refl)))
-        ∙ sym (reply-rest st (a .p) e (held st (a .p) e (m .0)))
+    let v = askedOf st e in
+    let same = read .ensures ∙ raw-open (h .0) (rowOf (st .rows) e .object) (a .j) (m .2) in
+    let busy : Request → Bool = λ w. any (λ x. hasOpen st (rowOf (st .rows) x .object)) (lentEnds st w) in
+    let gone : Request → Bool = λ w. any (isAway st (a .p) w) (lentEnds st w) in
+    let b = ap busy (sym same) ∙ sym (u .before .any-busy .ensures st h) ∙ u .if1 .left in
+    let once = eq-eqb (v .fetched) 1 (ap (λ (w : Request). w .fetched) (sym same) ∙ c .before .before .if2 .left) in
+    let all = ap gone (sym same) ∙ sym (c .before .any-away .ensures st h few) ∙ c .if3 .left in
+    test-fails (not (isServer (rowOf (st .rows) e .kind))) 8 (ap not (m .1))
+    (test-fails (busy v) 10 b (test-fails (eqb (v .number) 0 || not (isFetched v)) 11 (both-fail (asked-some st e (h .0) (a .j) (m .2)) (ap not once)) (test-fails (gone v) 14 all refl)))
+    ∙ sym (reply-rest st (a .p) e (held st (a .p) e (m .0)))
 
 pub reply-refusal-spec : {M : Type 1} → statement M
 reply-refusal-spec =
