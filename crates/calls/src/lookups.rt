@@ -16,8 +16,8 @@ ghost use lib.ListN.{length};
 ghost use Rattle.rows.specs.contracts.Slots.{Within};
 ghost use Rattle.rows.specs.contracts.Sizes.{ROWS, REQUESTS, IsTables};
 ghost use Rattle.calls.specs.contracts.Lookups.{FindsIn, FindsHeld, FindsRequest, FindsOpen, IsWord};
-ghost use Rattle.calls.specs.contracts.Lookups.{IsSourceWord, IsDepth, IsDepthOver};
 ghost use Rattle.calls.specs.contracts.Performs.{FindsAsked};
+ghost use Rattle.calls.specs.contracts.Lookups.{IsSourceWord, IsDepth, IsDepthOver};
 
 // The slot of the row e, where it is in the place: a c-list, or a node.
 // Ruled out: the slot of a row that is in another place; nothing for a row that is there.

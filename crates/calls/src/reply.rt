@@ -22,7 +22,7 @@ ghost use Rattle.calls.specs.declared.Call.{Call};
 ghost use Rattle.calls.specs.contracts.Performs.{Performs};
 ghost use Rattle.calls.specs.contracts.Effects.{IsProcess};
 ghost use Rattle.calls.specs.contracts.Replies.{EndBusy, ListedNewer, EndAway, AnyBusy, AnyAway, RefusesReply};
-ghost use Rattle.calls.specs.contracts.Replies.{newerHas, FindsEnd, RepliesEnd};
+ghost use Rattle.calls.specs.contracts.Replies.{FindsEnd, RepliesEnd, newerListing};
 
 // The slot of the row e, where it is an end.
 fn end_at(t: &[u32], n: usize, e: u32) -> Found
@@ -69,7 +69,7 @@ fn any_busy(t: &[u32], n: usize, m: usize, v: Request) -> bool
 // Whether the request in slot k is newer than q and lists e.
 fn newer_lists(t: &[u32], k: usize, q: u32, e: u32) -> bool
     requires { ⌜ IsTables (now t) × (k < REQUESTS) ⌝ }
-    ensures { λ r. ⌜ r ≡ newerHas q e (requestAt (now (t .entry)) k) ⌝ }
+    ensures { λ r. ⌜ r ≡ newerListing q e (requestAt (now (t .entry)) k) ⌝ }
 {
     let w = read::request_at(t, k);
     let items = w.items;
@@ -136,8 +136,7 @@ fn reply_refusal(t: &[u32], n: usize, m: usize, j: usize, p: u32) -> u32
     0
 }
 
-// reply at the end in slot i, which p holds: 8 for one that is no server end, 11 with no request;
-// then the request's refusals.
+// reply at the end in slot i, which p holds: 8 for one that is no server end, 11 with no request; then the request's refusals.
 fn reply_end(t: &mut [u32], n: usize, ps: Records, i: usize, p: u32) -> Performed
     requires { ⌜ IsTables (now t) × (n ≤ ROWS) × (i < ROWS) ⌝ }
     ensures performs { λ r. ⌜ RepliesEnd (now (t .entry)) n ps i p (now (t .exit)) r ⌝ }

@@ -18,7 +18,8 @@ use Rattle.calls.specs.declared.NewCopy.{NewCopy}
 use Rattle.calls.specs.declared.NewPort.{NewPort}
 use Rattle.rows.specs.Codes.{clientEnd, serverEnd}
 use Rattle.calls.specs.Rules.{copyOf}
-use Rattle.calls.specs.Calls.{goHome, goThrough, withHeld, heldDepth, withRegistered, registeredDepth, portEnd, withPort, portDepth}
+use Rattle.calls.specs.Calls.{goHome, goThrough, withHeld, heldDepth, withRegistered, registeredDepth}
+use Rattle.calls.specs.Calls.{portEnd, withPort, portDepth}
 use Rattle.calls.specs.contracts.Lookups.{HasRows, StandsAt}
 
 -- ---- what reading a line gives
@@ -61,7 +62,8 @@ HeldBy t n i p via d next after =
 -- ---- register: the row e stands in slot i, its first source is at the source word, the caller is in the node
 abbrev pub RegisteredBy : List ℕ → ℕ → ℕ → ℕ → ℕ → ℕ → ℕ → List ℕ → Type 0
 RegisteredBy t n i node source d next after =
-    (st : State) (p e : ℕ) → sound st ≡ true → HasRows t n st → StandsAt st e i → processAt (st .processes) p .active ≡ node
+    (st : State) (p e : ℕ) → sound st ≡ true → HasRows t n st → StandsAt st e i
+    → processAt (st .processes) p .active ≡ node
     → rowSlot (st .rows) (rowOf (st .rows) e .source) ≡ source → registeredDepth st e ≡ d → st .next ≡ next
     → Represents after (withRegistered st p e)
 

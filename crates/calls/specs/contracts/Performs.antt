@@ -42,7 +42,8 @@ CallerListed st c = some (callerOf c) ≡ true → isListed (st .processes) (cal
 -- for every sound state that the words represent with the records, the call does what its definition says
 abbrev pub Performs : List ℕ → List Process → Call → List ℕ → Performed → Type 0
 Performs t ps c after r =
-    (st : State) → sound st ≡ true → Represents t st → st .processes ≡ ps → CallerListed st c → Agrees after r (perform st c)
+    (st : State) → sound st ≡ true → Represents t st → st .processes ≡ ps → CallerListed st c
+    → Agrees after r (perform st c)
 
 -- ---- what refuses new rows
 -- k rows of depth d: 15, 16, 18, 0 for nothing
@@ -75,7 +76,8 @@ MayTake st p s i via =
 
 abbrev pub RefusesHold : List ℕ → ℕ → ℕ → ℕ → ℕ → ℕ → ℕ → Type 0
 RefusesHold t n i via d next r =
-    (st : State) (p s : ℕ) → sound st ≡ true → HasRows t n st → MayTake st p s i via → heldDepth st p s ≡ d → st .next ≡ next
+    (st : State) (p s : ℕ) → sound st ≡ true → HasRows t n st → MayTake st p s i via → heldDepth st p s ≡ d
+    → st .next ≡ next
     → r ≡ lowest (refusalsHold st p s)
 
 abbrev pub HoldsRow : List ℕ → ℕ → ℕ → ℕ → ℕ → List ℕ → Answer → Type 0
@@ -90,12 +92,14 @@ HeldAt st p e i = StandsAt st e i × (eqb (rowOf (st .rows) e .place) (inClist p
 
 abbrev pub RefusesRegister : List ℕ → ℕ → ℕ → ℕ → ℕ → ℕ → Type 0
 RefusesRegister t n i d next r =
-    (st : State) (p e : ℕ) → sound st ≡ true → HasRows t n st → HeldAt st p e i → registeredDepth st e ≡ d → st .next ≡ next
+    (st : State) (p e : ℕ) → sound st ≡ true → HasRows t n st → HeldAt st p e i → registeredDepth st e ≡ d
+    → st .next ≡ next
     → r ≡ lowest (refusalsRegister st p e)
 
 abbrev pub RegistersRow : List ℕ → ℕ → ℕ → ℕ → List ℕ → Answer → Type 0
 RegistersRow t n i node after r =
-    (st : State) (p e : ℕ) → sound st ≡ true → HasRows t n st → HeldAt st p e i → processAt (st .processes) p .active ≡ node
+    (st : State) (p e : ℕ) → sound st ≡ true → HasRows t n st → HeldAt st p e i
+    → processAt (st .processes) p .active ≡ node
     → Answers after r (perform st (Register p e))
 
 -- ---- port

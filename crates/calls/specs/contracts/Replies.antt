@@ -42,9 +42,9 @@ endItem st e = some e && isEnd (rowOf (st .rows) e .kind)
 abbrev pub EndBusy : List ℕ → ℕ → ℕ → ℕ → Bool → Type 0
 EndBusy t n m e r = (st : State) → HasBoth t n m st → r ≡ endItem st e && hasOpen st (rowOf (st .rows) e .object)
 
--- the request w is newer than q and has e among its items
-abbrev pub newerHas : ℕ → ℕ → Request → Bool
-newerHas q e w = ltb q (w .number) && member e (w .items)
+-- a request is newer than q and has e among its items
+abbrev pub newerListing : ℕ → ℕ → Request → Bool
+newerListing q e w = ltb q (w .number) && member e (w .items)
 
 -- a request newer than q lists e
 abbrev pub listedNewer : State → ℕ → ℕ → Bool

@@ -53,10 +53,12 @@ same-length c = search needs
 returns : tie.Need-returns
 returns c =
     let put = c .before .before .set-next in
-    let b = c .before .before .before .before .before .before in
+    let c4 = c .before .before .before .before in
+    let b = c4 .before .before in
     let copy = b .append-copy in
     let place = b .before .before .clist in
-    let s = b .before .before .before .before .before in
+    let b4 = b .before .before .before .before in
+    let s = b4 .before in
     let a = s .args in (
       (λ st e sd h at l via deep next.
           let so = sound-open st sd in

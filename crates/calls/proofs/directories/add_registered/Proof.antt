@@ -36,7 +36,8 @@ same-length c = search needs
 returns : tie.Need-returns
 returns c =
     let put = c .before .before .set-next in
-    let b = c .before .before .before .before .before .before in
+    let c4 = c .before .before .before .before in
+    let b = c4 .before .before in
     let copy = b .append-copy in
     let s = b .before .before .before .before in
     let a = s .args in (

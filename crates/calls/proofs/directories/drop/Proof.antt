@@ -63,7 +63,8 @@ drop-refusal-requires c κs =
     let b = c .before .before .before .before in
     let found = b .held-by in
     let count = b .before .before .rows-in in
-    let s = b .before .before .before .before .before .before in
+    let b4 = b .before .before .before .before in
+    let s = b4 .before .before in
     (s .pre .0, count .ensures .1, omega (arith, count .ensures .1, at-below (count .result) (found .result) (i .0 .0) (found .ensures .0) (i .1)))
 
 same-length-2 : tie.Need-same-length-2
@@ -74,10 +75,12 @@ unfolding refusals noProcess
 returns-2 c =
     let no = c .before .drop-refusal in
     let i = c .before .before .before .before .i .given in
-    let b = c .before .before .before .before .before .before in
+    let c4 = c .before .before .before .before in
+    let b = c4 .before .before in
     let found = b .held-by in
     let count = b .before .before .rows-in in
-    let s = b .before .before .before .before .before .before in
+    let b4 = b .before .before .before .before in
+    let s = b4 .before .before in
     let a = s .args in (
       (λ st sd rep same listed.
           let counted = count .ensures .0 ∙ represented-rows rep in
@@ -100,10 +103,12 @@ returns-3 c =
     let u = c .before .before .before .before in
     let no = u .before .drop-refusal in
     let i = u .before .before .before .before .i .given in
-    let b = u .before .before .before .before .before .before in
+    let u4 = u .before .before .before .before in
+    let b = u4 .before .before in
     let found = b .held-by in
     let count = b .before .before .rows-in in
-    let s = b .before .before .before .before .before .before in
+    let b4 = b .before .before .before .before in
+    let s = b4 .before .before in
     let a = s .args in (
       (λ st sd rep same listed.
           let counted = count .ensures .0 ∙ represented-rows rep in

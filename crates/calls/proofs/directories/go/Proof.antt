@@ -52,16 +52,30 @@ returns-2 c =
 add-if2 : tie.Need-add-if2
 add-if2 c =
     let found = c .before .before .before .held-by in
-    let s = c .before .before .before .before .before .before .before in
+    let c4 = c .before .before .before .before in
+    let s = c4 .before .before .before in
     let i = c .before .i .given in
-    record { fits = omega (arith, c .before .before .before .before .rows-in .ensures .1, at-below (c .before .before .before .before .rows-in .result) (found .result) (i .0 .0) (found .ensures .0) (i .1)) }
+    record {
+      fits = omega (
+        arith,
+        c .before .before .before .before .rows-in .ensures .1,
+        at-below (c .before .before .before .before .rows-in .result) (found .result) (i .0 .0) (found .ensures .0) (i .1),
+      );
+    }
 
 mul-if2 : tie.Need-mul-if2
 mul-if2 c =
     let found = c .before .before .before .held-by in
-    let s = c .before .before .before .before .before .before .before in
+    let c4 = c .before .before .before .before in
+    let s = c4 .before .before .before in
     let i = c .before .i .given in
-    record { fits = omega (arith, c .before .before .before .before .rows-in .ensures .1, at-below (c .before .before .before .before .rows-in .result) (found .result) (i .0 .0) (found .ensures .0) (i .1)) }
+    record {
+      fits = omega (
+        arith,
+        c .before .before .before .before .rows-in .ensures .1,
+        at-below (c .before .before .before .before .rows-in .result) (found .result) (i .0 .0) (found .ensures .0) (i .1),
+      );
+    }
 
 shared-slice-read-if2 : tie.Need-shared-slice-read-if2
 shared-slice-read-if2 c =
@@ -76,7 +90,8 @@ returns-3 : tie.Need-returns-3
 unfolding refusals
 returns-3 c =
     let i = c .before .before .before .i .given in
-    let b = c .before .before .before .before .before in
+    let c4 = c .before .before .before .before in
+    let b = c4 .before in
     let found = b .held-by in
     let count = b .before .rows-in in
     let u = b .before .before in
@@ -90,7 +105,8 @@ returns-3 c =
 go-through-requires : tie.Need-go-through-requires
 go-through-requires c κs =
     let i = c .before .before .before .i .given in
-    let b = c .before .before .before .before .before in
+    let c4 = c .before .before .before .before in
+    let b = c4 .before in
     let found = b .held-by in
     let count = b .before .rows-in in
     let s = b .before .before .before .before in
@@ -100,7 +116,8 @@ returns-4 : tie.Need-returns-4
 unfolding refusals
 returns-4 c =
     let i = c .before .before .before .before .i .given in
-    let b = c .before .before .before .before .before .before in
+    let c4 = c .before .before .before .before in
+    let b = c4 .before .before in
     let found = b .held-by in
     let count = b .before .rows-in in
     let u = b .before .before in

@@ -60,7 +60,8 @@ returns c =
           let x = at-process st (a .t2) same (a .p) (s .pre .1 .0) in
           let node = node-some _ (ap (λ (y : Process). isNode (y .active)) x ∙ active-node st (sound-open st sd .placed) (a .p) (listed (pos-some (a .p) (s .pre .1 .0)))) in
           let away = not-in st _ (a .s) node (found .result) (found .ensures .1 st (rep, b .rows-in .ensures .0 ∙ represented-rows rep)) (c .enum-told .given .1) in
-          refused-agrees st (Hold (a .p) (a .s)) rep (a .t2) same 7 (hold-seven st (a .p) (a .s) (in-active st (a .p) (a .s) _ (ap (λ (y : Process). y .active) x) _ away)) (λ z. absurd (omega arith))),
+          refused-agrees st (Hold (a .p) (a .s)) rep (a .t2) same 7 (hold-seven st (a .p) (a .s) (in-active st (a .p) (a .s) _ (ap (λ (y : Process). y .active) x) _ away))
+          (λ z. absurd (omega arith))),
       s .pre .0,
     )
 
@@ -70,10 +71,12 @@ row-word-requires c κs = search needs
 hold-row-requires : tie.Need-hold-row-requires
 hold-row-requires c κs =
     let i = c .before .before .before .before .i .given in
-    let b = c .before .before .before .before .before .before in
+    let c4 = c .before .before .before .before in
+    let b = c4 .before .before in
     let found = b .row-in in
     let count = b .before .before .rows-in in
-    let s = b .before .before .before .before .before .before in
+    let b4 = b .before .before .before .before in
+    let s = b4 .before .before in
     (s .pre .0, count .ensures .1, at-below (count .result) (found .result) (i .0 .0) (found .ensures .0) (i .1), c .before .row-word .ensures .0)
 
 same-length-2 : tie.Need-same-length-2
@@ -86,10 +89,12 @@ returns-2 c =
     let u = c .before .before .before .before in
     let via = u .row-word in
     let i = u .before .before .before .i .given in
-    let b = u .before .before .before .before .before in
+    let u4 = u .before .before .before .before in
+    let b = u4 .before in
     let found = b .row-in in
     let count = b .before .before .rows-in in
-    let s = b .before .before .before .before .before .before in
+    let b4 = b .before .before .before .before in
+    let s = b4 .before .before in
     let a = s .args in (
       (λ st sd rep same listed.
           let counted = count .ensures .0 ∙ represented-rows rep in

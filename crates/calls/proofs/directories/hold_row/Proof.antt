@@ -38,7 +38,8 @@ returns c =
     let b = c .before .before .before in
     let over = b .depth-over in
     let next = b .before .before .next-of in
-    let s = b .before .before .before .before .before in
+    let b4 = b .before .before .before .before in
+    let s = b4 .before in
     let a = s .args in (
       (λ st e sd h m l.
           let x = processAt (st .processes) (a .p) .through in
@@ -51,7 +52,8 @@ returns c =
 add-held-requires : tie.Need-add-held-requires
 add-held-requires c κs =
     let no = c .before .before .hold-refusal in
-    let b = c .before .before .before .before .before .before in
+    let c4 = c .before .before .before .before in
+    let b = c4 .before .before in
     let s = b .before .before .before in
     let room = no .ensures .1 (c .before .if1 .left) in
     (s .pre .0, omega (arith, room .0), s .pre .2, s .pre .3, omega (arith, room .1))
@@ -68,7 +70,8 @@ returns-2 c =
     let b = u .before .before .before in
     let over = b .depth-over in
     let next = b .before .before .next-of in
-    let s = b .before .before .before .before .before in
+    let b4 = b .before .before .before .before in
+    let s = b4 .before in
     let a = s .args in (
       (λ st e sd h m l.
           let x = processAt (st .processes) (a .p) .through in

@@ -37,7 +37,8 @@ returns c =
     let over = b .depth-over in
     let source = b .before .before .source-word in
     let next = b .before .before .before .before .next-of in
-    let s = b .before .before .before .before .before .before .before in
+    let b4 = b .before .before .before .before in
+    let s = b4 .before .before .before in
     let a = s .args in (
       (λ st p e sd h m node.
           let deep = over .ensures st (rowOf (st .rows) e .source) 0 sd (h .0) (sym (source .ensures .1 st e h (m .0))) (zero-word (h .0)) in
@@ -49,8 +50,10 @@ returns c =
 add-registered-requires : tie.Need-add-registered-requires
 add-registered-requires c κs =
     let no = c .before .before .register-refusal in
-    let b = c .before .before .before .before .before .before in
-    let s = b .before .before .before .before .before in
+    let c4 = c .before .before .before .before in
+    let b = c4 .before .before in
+    let b4 = b .before .before .before .before in
+    let s = b4 .before in
     let room = no .ensures .1 (c .before .if1 .left) in
     (s .pre .0, omega (arith, room .0), s .pre .2, b .source-word .ensures .0, omega (arith, room .1))
 
@@ -67,7 +70,8 @@ returns-2 c =
     let over = b .depth-over in
     let source = b .before .before .source-word in
     let next = b .before .before .before .before .next-of in
-    let s = b .before .before .before .before .before .before .before in
+    let b4 = b .before .before .before .before in
+    let s = b4 .before .before .before in
     let a = s .args in (
       (λ st p e sd h m node.
           let word = sym (source .ensures .1 st e h (m .0)) in

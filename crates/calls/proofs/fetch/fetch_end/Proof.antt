@@ -59,13 +59,15 @@ unfolding refusals
 returns-2 c =
     let found = c .before .before .asked-at in
     let b = c .before .before .before .before in
-    let s = b .before .before .before .before .before in
+    let b4 = b .before .before .before .before in
+    let s = b4 .before in
     let a = s .args in (
       (λ st e sd h m few.
           let kind = rowOf (st .rows) e .kind in
           let v = askedOf st e in
           let server = is-server kind (sym (row-words (h .0) e (a .i) (m .0) .kind) ∙ b .before .before .if1 .left) in
-          let none = found-nothing (openSlot (st .requests) (rowOf (st .rows) e .object)) (found .ensures .1 st e (h .0, b .requests-in .ensures .0 ∙ represented-requests (h .0)) (m .0)) (c .enum-told .given .1) in
+          let none = found-nothing (openSlot (st .requests) (rowOf (st .rows) e .object))
+          (found .ensures .1 st e (h .0, b .requests-in .ensures .0 ∙ represented-requests (h .0)) (m .0)) (c .enum-told .given .1) in
           refused-answers st (Fetch (a .p) e) (h .0) 11
           (test-fails (not (isServer kind)) 8 (ap not server) (test-holds (eqb (v .number) 0 || isFetched v) 11 _ (or-l (eqb (v .number) 0) (isFetched v) (asked-none st e none)))
           ∙ sym (fetch-rest st e (a .p) (held st (a .p) e (m .1)))) (λ z. absurd (omega arith))),
@@ -76,8 +78,10 @@ fetch-request-requires : tie.Need-fetch-request-requires
 fetch-request-requires c κs =
     let j = c .before .before .j .given in
     let found = c .before .before .before .before .asked-at in
-    let count = c .before .before .before .before .before .before .requests-in in
-    let s = c .before .before .before .before .before .before .before .before .before .before .before in
+    let c4 = c .before .before .before .before in
+    let c8 = c4 .before .before .before .before in
+    let count = c4 .before .before .requests-in in
+    let s = c8 .before .before .before in
     (s .pre .0, s .pre .1, omega (arith, count .ensures .1, at-below (count .result) (found .result) (j .0 .0) (found .ensures .0) (j .1)))
 
 same-length-2 : tie.Need-same-length-2
@@ -86,8 +90,9 @@ same-length-2 c = search needs
 returns-3 : tie.Need-returns-3
 returns-3 c =
     let fetched = c .before .before .fetch-request in
-    let j = c .before .before .before .before .before .j .given in
-    let b = c .before .before .before .before .before .before .before in
+    let c4 = c .before .before .before .before in
+    let j = c4 .before .j .given in
+    let b = c4 .before .before .before in
     let found = b .asked-at in
     let count = b .before .before .requests-in in
     let u = b .before .before .before .before in

@@ -31,7 +31,8 @@ returns : tie.Need-returns
 unfolding refusals askedOf isFetched
 returns c =
     let read = c .before .before .request-at in
-    let s = c .before .before .before .before .before in
+    let c4 = c .before .before .before .before in
+    let s = c4 .before in
     let a = s .args in (
       (λ st e sd h m few.
           let kind = rowOf (st .rows) e .kind in
@@ -66,9 +67,11 @@ returns-2 : tie.Need-returns-2
 unfolding refusals askedOf isFetched
 returns-2 c =
     let over = c .before .before .hand-over in
-    let u = c .before .before .before .before .before in
+    let c4 = c .before .before .before .before in
+    let u = c4 .before in
     let read = u .before .before .request-at in
-    let s = u .before .before .before .before .before in
+    let u4 = u .before .before .before .before in
+    let s = u4 .before in
     let a = s .args in (
       (λ st e sd h m few.
           let kind = rowOf (st .rows) e .kind in

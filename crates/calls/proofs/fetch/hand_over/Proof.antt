@@ -31,11 +31,13 @@ returns : tie.Need-returns
 unfolding itemsPlaced
 returns c =
     let put = c .before .before .set-fetched in
-    let b = c .before .before .before .before .before .before in
+    let c4 = c .before .before .before .before in
+    let b = c4 .before .before in
     let placed = b .place-items in
     let place = b .before .before .clist in
     let read = b .before .before .before .request-at in
-    let a = b .before .before .before .before .before .before .args in (
+    let b4 = b .before .before .before .before in
+    let a = b4 .before .before .args in (
       (λ st port h at few.
           let v = openOn (st .requests) port in
           let here = subst (λ (w : Request). Represents (placed .last .0) (itemsPlaced (w .items) (place .result) st)) (read .ensures ∙ raw-open (h .0) port (a .j) at) (placed .ensures .0 st h) in

@@ -56,7 +56,8 @@ same-length-2 c = search needs
 returns-3 : tie.Need-returns-3
 returns-3 c =
     let put = c .before .before .set-place in
-    let b = c .before .before .before .before .before in
+    let c4 = c .before .before .before .before in
+    let b = c4 .before in
     let i = b .i .given in
     let found = b .before .before .row-among in
     let u = b .before .before .before .before in

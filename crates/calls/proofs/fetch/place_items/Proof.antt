@@ -44,7 +44,8 @@ loop-less c = search needs
 
 loop-again : tie.Need-loop-again Inv-loop μ-loop
 loop-again c =
-    let b = c .before .before .before .before .before in
+    let c4 = c .before .before .before .before in
+    let b = c4 .before in
     let s = b .before .before .before in
     let v = s .args .v in
     let l = b .loop in

@@ -58,14 +58,17 @@ unfolding refusals
 returns-2 c =
     let found = c .before .before .asked-at in
     let b = c .before .before .before .before in
-    let s = b .before .before .before .before .before in
+    let b4 = b .before .before .before .before in
+    let s = b4 .before in
     let a = s .args in (
       (λ st p e sd rep same m.
           let kind = rowOf (st .rows) e .kind in
           let server = is-server kind (sym (row-words rep e (a .i) (m .0) .kind) ∙ b .before .before .if1 .left) in
-          let none = found-nothing (openSlot (st .requests) (rowOf (st .rows) e .object)) (found .ensures .1 st e (rep, b .requests-in .ensures .0 ∙ represented-requests rep) (m .0)) (c .enum-told .given .1) in
+          let none = found-nothing (openSlot (st .requests) (rowOf (st .rows) e .object))
+          (found .ensures .1 st e (rep, b .requests-in .ensures .0 ∙ represented-requests rep) (m .0)) (c .enum-told .given .1) in
           refused-agrees st (Refuse p e) rep (a .ps) same 11
-          (test-fails (not (isServer kind)) 8 (ap not server) (test-holds (eqb (askedOf st e .number) 0) 11 _ (asked-none st e none)) ∙ sym (refuse-rest st e p (held st p e (m .1)))) (λ z. absurd (omega arith))),
+          (test-fails (not (isServer kind)) 8 (ap not server) (test-holds (eqb (askedOf st e .number) 0) 11 _ (asked-none st e none))
+          ∙ sym (refuse-rest st e p (held st p e (m .1)))) (λ z. absurd (omega arith))),
       s .pre .0,
     )
 
@@ -73,22 +76,26 @@ add-q : tie.Need-add-q
 add-q c =
     let j = c .before .j .given in
     let found = c .before .before .before .asked-at in
-    let count = c .before .before .before .before .before .requests-in in
+    let c4 = c .before .before .before .before in
+    let count = c4 .before .requests-in in
     record { fits = omega (arith, count .ensures .1, at-below (count .result) (found .result) (j .0 .0) (found .ensures .0) (j .1)) }
 
 mul-q : tie.Need-mul-q
 mul-q c =
     let j = c .before .j .given in
     let found = c .before .before .before .asked-at in
-    let count = c .before .before .before .before .before .requests-in in
+    let c4 = c .before .before .before .before in
+    let count = c4 .before .requests-in in
     record { fits = omega (arith, count .ensures .1, at-below (count .result) (found .result) (j .0 .0) (found .ensures .0) (j .1)) }
 
 slice-read-q : tie.Need-slice-read-q
 slice-read-q c =
     let j = c .before .before .j .given in
     let found = c .before .before .before .before .asked-at in
-    let count = c .before .before .before .before .before .before .requests-in in
-    let s = c .before .before .before .before .before .before .before .before .before .before .before in
+    let c4 = c .before .before .before .before in
+    let c8 = c4 .before .before .before .before in
+    let count = c4 .before .before .requests-in in
+    let s = c8 .before .before .before in
     omega (arith, s .pre .0, count .ensures .1, at-below (count .result) (found .result) (j .0 .0) (found .ensures .0) (j .1))
 
 close-request-requires : tie.Need-close-request-requires
@@ -101,8 +108,9 @@ returns-3 : tie.Need-returns-3
 unfolding refusals askedOf
 returns-3 c =
     let closed = c .before .before .close-request in
-    let j = c .before .before .before .before .before .before .j .given in
-    let b = c .before .before .before .before .before .before .before .before in
+    let c4 = c .before .before .before .before in
+    let j = c4 .before .before .j .given in
+    let b = c4 .before .before .before .before in
     let found = b .asked-at in
     let count = b .before .before .requests-in in
     let u = b .before .before .before .before in
@@ -113,7 +121,8 @@ returns-3 c =
           let port = rowOf (st .rows) e .object in
           let server = is-server kind (sym (row-words rep e (a .i) (m .0) .kind) ∙ u .if1 .left) in
           let slot = found-at (openSlot (st .requests) port) (j .0 .0) (found .ensures .1 st e (rep, count .ensures .0 ∙ represented-requests rep) (m .0)) (j .1) in
-          let none = test-fails (not (isServer kind)) 8 (ap not server) (test-fails (eqb (askedOf st e .number) 0) 11 (asked-some st e rep (j .0 .0) slot) refl) ∙ sym (refuse-rest st e p (held st p e (m .1))) in
+          let none = test-fails (not (isServer kind)) 8 (ap not server)
+          (test-fails (eqb (askedOf st e .number) 0) 11 (asked-some st e rep (j .0 .0) slot) refl) ∙ sym (refuse-rest st e p (held st p e (m .1))) in
           accepted-agrees st (Refuse p e) none _
           (refused-request st p e (closed .result) _ (open-words rep port (j .0 .0) slot .number) (closed .ensures .0 st sd rep same))),
       closed .ensures .1,

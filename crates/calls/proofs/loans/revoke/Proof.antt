@@ -44,22 +44,26 @@ add-if1 : tie.Need-add-if1
 add-if1 c =
     let j = c .before .j .given in
     let found = c .before .before .before .request-among in
-    let count = c .before .before .before .before .before .requests-in in
+    let c4 = c .before .before .before .before in
+    let count = c4 .before .requests-in in
     record { fits = omega (arith, count .ensures .1, at-below (count .result) (found .result) (j .0 .0) (found .ensures .0) (j .1)) }
 
 mul-if1 : tie.Need-mul-if1
 mul-if1 c =
     let j = c .before .j .given in
     let found = c .before .before .before .request-among in
-    let count = c .before .before .before .before .before .requests-in in
+    let c4 = c .before .before .before .before in
+    let count = c4 .before .requests-in in
     record { fits = omega (arith, count .ensures .1, at-below (count .result) (found .result) (j .0 .0) (found .ensures .0) (j .1)) }
 
 slice-read-if1 : tie.Need-slice-read-if1
 slice-read-if1 c =
     let j = c .before .before .j .given in
     let found = c .before .before .before .before .request-among in
-    let count = c .before .before .before .before .before .before .requests-in in
-    let s = c .before .before .before .before .before .before .before .before .before in
+    let c4 = c .before .before .before .before in
+    let c8 = c4 .before .before .before .before in
+    let count = c4 .before .before .requests-in in
+    let s = c8 .before in
     omega (arith, s .pre .0, count .ensures .1, at-below (count .result) (found .result) (j .0 .0) (found .ensures .0) (j .1))
 
 same-length-2 : tie.Need-same-length-2
@@ -69,10 +73,12 @@ returns-2 : tie.Need-returns-2
 unfolding refusals
 returns-2 c =
     let j = c .before .before .before .j .given in
-    let b = c .before .before .before .before .before in
+    let c4 = c .before .before .before .before in
+    let b = c4 .before in
     let found = b .request-among in
     let count = b .before .before .requests-in in
-    let s = b .before .before .before .before .before in
+    let b4 = b .before .before .before .before in
+    let s = b4 .before in
     let a = s .args in (
       (λ st sd rep same listed.
           let at = found-at (requestSlot (st .requests) (a .q)) (j .0 .0) (found .ensures .1 st (rep, count .ensures .0 ∙ represented-requests rep)) (j .1) in
@@ -93,10 +99,12 @@ returns-3 c =
     let closed = c .before .before .close-request in
     let u = c .before .before .before .before in
     let j = u .before .before .before .j .given in
-    let b = u .before .before .before .before .before in
+    let u4 = u .before .before .before .before in
+    let b = u4 .before in
     let found = b .request-among in
     let count = b .before .before .requests-in in
-    let s = b .before .before .before .before .before in
+    let b4 = b .before .before .before .before in
+    let s = b4 .before in
     let a = s .args in (
       (λ st sd rep same listed.
           let at = found-at (requestSlot (st .requests) (a .q)) (j .0 .0) (found .ensures .1 st (rep, count .ensures .0 ∙ represented-requests rep)) (j .1) in

@@ -30,28 +30,32 @@ returns c =
 add-if1 : tie.Need-add-if1
 add-if1 c =
     let found = c .before .before .before .row-among in
-    let s = c .before .before .before .before .before in
+    let c4 = c .before .before .before .before in
+    let s = c4 .before in
     let i = c .before .i .given in
     record { fits = omega (arith, s .pre .1, at-below (s .args .n) (found .result) (i .0 .0) (found .ensures .0) (i .1)) }
 
 mul-if1 : tie.Need-mul-if1
 mul-if1 c =
     let found = c .before .before .before .row-among in
-    let s = c .before .before .before .before .before in
+    let c4 = c .before .before .before .before in
+    let s = c4 .before in
     let i = c .before .i .given in
     record { fits = omega (arith, s .pre .1, at-below (s .args .n) (found .result) (i .0 .0) (found .ensures .0) (i .1)) }
 
 shared-slice-read-if1 : tie.Need-shared-slice-read-if1
 shared-slice-read-if1 c =
     let found = c .before .before .before .before .row-among in
-    let s = c .before .before .before .before .before .before in
+    let c4 = c .before .before .before .before in
+    let s = c4 .before .before in
     let i = c .before .before .i .given in
     omega (arith, s .pre .0, s .pre .1, at-below (s .args .n) (found .result) (i .0 .0) (found .ensures .0) (i .1))
 
 returns-2 : tie.Need-returns-2
 returns-2 c =
-    let a = c .before .before .before .before .before .before .before .args in
-    let found = c .before .before .before .before .before .row-among in
+    let c4 = c .before .before .before .before in
+    let a = c4 .before .before .before .args in
+    let found = c4 .before .row-among in
     let i = c .before .before .before .i .given in (
       (unfold Within in at-below (a .n) (found .result) (i .0 .0) (found .ensures .0) (i .1)),
       (λ st h.
@@ -61,8 +65,9 @@ returns-2 c =
 
 returns-3 : tie.Need-returns-3
 returns-3 c =
-    let a = c .before .before .before .before .before .before .before .args in
-    let found = c .before .before .before .before .before .row-among in
+    let c4 = c .before .before .before .before in
+    let a = c4 .before .before .before .args in
+    let found = c4 .before .row-among in
     let i = c .before .before .before .i .given in (
       (unfold Within in tt),
       (λ st h.

@@ -27,21 +27,24 @@ returns c =
 add-result : tie.Need-add-result
 add-result c =
     let found = c .before .before .before .row-among in
-    let s = c .before .before .before .before .before in
+    let c4 = c .before .before .before .before in
+    let s = c4 .before in
     let i = c .before .i .given in
     record { fits = omega (arith, s .pre .1, at-below (s .args .n) (found .result) (i .0 .0) (found .ensures .0) (i .1)) }
 
 cast-result : tie.Need-cast-result
 cast-result c =
     let found = c .before .before .before .row-among in
-    let s = c .before .before .before .before .before in
+    let c4 = c .before .before .before .before in
+    let s = c4 .before in
     let i = c .before .i .given in
     record { fits = omega (arith, s .pre .1, at-below (s .args .n) (found .result) (i .0 .0) (found .ensures .0) (i .1)) }
 
 returns-2 : tie.Need-returns-2
 returns-2 c =
     let found = c .before .before .before .row-among in
-    let s = c .before .before .before .before .before in
+    let c4 = c .before .before .before .before in
+    let s = c4 .before in
     let i = c .before .i .given in (
       omega (arith, at-below (s .args .n) (found .result) (i .0 .0) (found .ensures .0) (i .1)),
       (λ st h. add-one (i .0 .0) ∙ sym (found-at (rowSlot (st .rows) (s .args .e)) (i .0 .0) (found .ensures .1 st (h .0) (h .1)) (i .1))),

@@ -38,7 +38,8 @@ add-append-row c = search needs
 append-row-requires-2 : tie.Need-append-row-requires-2
 unfolding portEnd
 append-row-requires-2 c κs =
-    let b = c .before .before .before .before .before in
+    let c4 = c .before .before .before .before in
+    let b = c4 .before in
     let s = b .before .before .before .before in
     let made = c .before .port-end2 .ensures in
     (b .append-row .ensures .1, omega (arith, s .pre .1), omega (arith, s .pre .2, ap (λ (r : Row). r .source) made), omega (arith, ap (λ (r : Row). r .via) made))
@@ -51,7 +52,8 @@ unfolding portEnd
 returns c =
     let second = c .before .before .append-row2 in
     let server = c .before .before .before .before .port-end2 in
-    let b = c .before .before .before .before .before .before .before .before in
+    let c4 = c .before .before .before .before in
+    let b = c4 .before .before .before .before in
     let first = b .append-row in
     let client = b .before .before .port-end in
     let s = b .before .before .before .before in
@@ -59,7 +61,8 @@ returns c =
       (λ st e h new at.
           let one = client-made st w e at (client .result) (client .ensures) in
           let low : w .source ≤ length (st .rows) = omega (arith, s .pre .2, h .1) in
-          let mid = subst (λ (r : Row). Represents (first .last .0) (withRows (r ∷ st .rows) st)) one (first .ensures .0 st (h .0) (h .1) (subst (λ (n : ℕ). topOf (λ r. r .number) (st .rows) < n) (sym (ap (λ (r : Row). r .number) (client .ensures))) new)) in
+          let mid = subst (λ (r : Row). Represents (first .last .0) (withRows (r ∷ st .rows) st)) one
+          (first .ensures .0 st (h .0) (h .1) (subst (λ (n : ℕ). topOf (λ r. r .number) (st .rows) < n) (sym (ap (λ (r : Row). r .number) (client .ensures))) new)) in
           let two = server-made st w e at low (server .result) (server .ensures) in
           subst (λ (r : Row). Represents (second .last .0) (withRows (r ∷ clientOf e w ∷ st .rows) st)) two
           (second .ensures .0 (withRows (clientOf e w ∷ st .rows) st) mid (add-one (s .args .n) ∙ ap suc (h .1))

@@ -52,11 +52,13 @@ same-length c = search needs
 returns : tie.Need-returns
 returns c =
     let put = c .before .before .set-next in
-    let b = c .before .before .before .before .before .before in
+    let c4 = c .before .before .before .before in
+    let b = c4 .before .before in
     let ends = b .append-ends in
     let there = b .before .before .clist2 in
     let here = b .before .before .before .clist in
-    let s = b .before .before .before .before .before .before in
+    let b4 = b .before .before .before .before in
+    let s = b4 .before .before in
     let a = s .args in
     let w : NewPort = record { number = a .next; source = a .i + 1; client = here .result; server = there .result; depth = a .d } in (
       (λ st e sd h at few deep next.

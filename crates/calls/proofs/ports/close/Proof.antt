@@ -48,7 +48,8 @@ close-refusal-requires c κs =
     let b = c .before .before .before .before in
     let found = b .held-by in
     let count = b .before .before .rows-in in
-    let s = b .before .before .before .before .before in
+    let b4 = b .before .before .before .before in
+    let s = b4 .before in
     (s .pre .0, omega (arith, count .ensures .1, at-below (count .result) (found .result) (i .0 .0) (found .ensures .0) (i .1)))
 
 same-length-2 : tie.Need-same-length-2
@@ -59,10 +60,12 @@ unfolding refusals
 returns-2 c =
     let no = c .before .close-refusal in
     let i = c .before .before .before .before .i .given in
-    let b = c .before .before .before .before .before .before in
+    let c4 = c .before .before .before .before in
+    let b = c4 .before .before in
     let found = b .held-by in
     let count = b .before .before .rows-in in
-    let s = b .before .before .before .before .before in
+    let b4 = b .before .before .before .before in
+    let s = b4 .before in
     let a = s .args in (
       (λ st sd rep same listed.
           let here = found-in st (inClist (a .p)) (a .c) (found .result) (i .0 .0) (found .ensures .1 st (rep, count .ensures .0 ∙ represented-rows rep) (s .pre .1 .1)) (i .1) in
@@ -83,10 +86,12 @@ returns-3 c =
     let u = c .before .before .before .before in
     let no = u .before .close-refusal in
     let i = u .before .before .before .before .i .given in
-    let b = u .before .before .before .before .before .before in
+    let u4 = u .before .before .before .before in
+    let b = u4 .before .before in
     let found = b .held-by in
     let count = b .before .before .rows-in in
-    let s = b .before .before .before .before .before in
+    let b4 = b .before .before .before .before in
+    let s = b4 .before in
     let a = s .args in (
       (λ st sd rep same listed.
           let here = found-in st (inClist (a .p)) (a .c) (found .result) (i .0 .0) (found .ensures .1 st (rep, count .ensures .0 ∙ represented-rows rep) (s .pre .1 .1)) (i .1) in

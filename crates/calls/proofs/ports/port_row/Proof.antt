@@ -42,7 +42,8 @@ returns c =
     let b = c .before .before .before in
     let over = b .depth-over in
     let next = b .before .before .next-of in
-    let s = b .before .before .before .before .before in
+    let b4 = b .before .before .before .before in
+    let s = b4 .before in
     let a = s .args in (
       (λ st e sd h m.
           let deep = over .ensures st e 0 sd (h .0) (m .0 ∙ sym (add-one (a .i))) (zero-word (h .0)) in
@@ -54,7 +55,8 @@ returns c =
 add-port-requires : tie.Need-add-port-requires
 add-port-requires c κs =
     let no = c .before .before .port-refusal in
-    let b = c .before .before .before .before .before .before in
+    let c4 = c .before .before .before .before in
+    let b = c4 .before .before in
     let s = b .before .before .before in
     let room = no .ensures .1 (c .before .if1 .left) in
     (s .pre .0, omega (arith, room .0), s .pre .2, omega (arith, room .1), s .pre .3)
@@ -71,7 +73,8 @@ returns-2 c =
     let b = u .before .before .before in
     let over = b .depth-over in
     let next = b .before .before .next-of in
-    let s = b .before .before .before .before .before in
+    let b4 = b .before .before .before .before in
+    let s = b4 .before in
     let a = s .args in (
       (λ st e sd h m.
           let deep = over .ensures st e 0 sd (h .0) (m .0 ∙ sym (add-one (a .i))) (zero-word (h .0)) in

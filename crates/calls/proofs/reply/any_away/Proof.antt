@@ -33,7 +33,8 @@ end-away-requires-4 c κs = search needs
 
 returns : tie.Need-returns
 returns c =
-    let s = c .before .before .before .before .before .before in
+    let c4 = c .before .before .before .before in
+    let s = c4 .before .before in
     let v = s .args .v in
     let four : length (v .items) ≡ 4 = sym (length-map (v .items) (λ x. x)) ∙ s .good .1 .1 .1 .0 .1 .1 .1 .1 .1 .1 .0 .1 .0 .1 in
     λ st h few.

@@ -34,11 +34,13 @@ end-busy-requires-4 c κs = search needs
 
 returns : tie.Need-returns
 returns c =
-    let s = c .before .before .before .before .before .before in
+    let c4 = c .before .before .before .before in
+    let s = c4 .before .before in
     let v = s .args .v in
     let four : length (v .items) ≡ 4 = sym (length-map (v .items) (λ x. x)) ∙ s .good .1 .1 .1 .0 .1 .1 .1 .1 .1 .1 .0 .1 .0 .1 in
     λ st h.
-    any-of-four st v four (λ x. hasOpen st (rowOf (st .rows) x .object)) (c .before .before .before .end-busy .ensures st h) (c .before .before .end-busy2 .ensures st h) (c .before .end-busy3 .ensures st h) (c .end-busy4 .ensures st h)
+    any-of-four st v four (λ x. hasOpen st (rowOf (st .rows) x .object)) (c .before .before .before .end-busy .ensures st h) (c .before .before .end-busy2 .ensures st h)
+    (c .before .end-busy3 .ensures st h) (c .end-busy4 .ensures st h)
 
 pub any-busy-spec : {M : Type 1} → statement M
 any-busy-spec =

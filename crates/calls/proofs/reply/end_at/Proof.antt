@@ -32,21 +32,24 @@ add-is-end : tie.Need-add-is-end
 add-is-end c =
     let i = c .before .i .given in
     let found = c .before .before .before .row-among in
-    let s = c .before .before .before .before .before in
+    let c4 = c .before .before .before .before in
+    let s = c4 .before in
     record { fits = omega (arith, s .pre .1, at-below (s .args .n) (found .result) (i .0 .0) (found .ensures .0) (i .1)) }
 
 mul-is-end : tie.Need-mul-is-end
 mul-is-end c =
     let i = c .before .i .given in
     let found = c .before .before .before .row-among in
-    let s = c .before .before .before .before .before in
+    let c4 = c .before .before .before .before in
+    let s = c4 .before in
     record { fits = omega (arith, s .pre .1, at-below (s .args .n) (found .result) (i .0 .0) (found .ensures .0) (i .1)) }
 
 shared-slice-read-is-end : tie.Need-shared-slice-read-is-end
 shared-slice-read-is-end c =
     let i = c .before .before .i .given in
     let found = c .before .before .before .before .row-among in
-    let s = c .before .before .before .before .before .before in
+    let c4 = c .before .before .before .before in
+    let s = c4 .before .before in
     omega (arith, s .pre .0, s .pre .1, at-below (s .args .n) (found .result) (i .0 .0) (found .ensures .0) (i .1))
 
 is-end-requires : tie.Need-is-end-requires
@@ -55,8 +58,9 @@ is-end-requires c κs = search needs
 returns-2 : tie.Need-returns-2
 returns-2 c =
     let i = c .before .before .before .before .i .given in
-    let found = c .before .before .before .before .before .before .row-among in
-    let a = c .before .before .before .before .before .before .before .before .args in (
+    let c4 = c .before .before .before .before in
+    let found = c4 .before .before .row-among in
+    let a = c4 .before .before .before .before .args in (
       (unfold Within in at-below (a .n) (found .result) (i .0 .0) (found .ensures .0) (i .1)),
       (λ st h.
           let slot : rowSlot (st .rows) (a .e) ≡ suc (i .0 .0) = found-at (rowSlot (st .rows) (a .e)) (i .0 .0) (found .ensures .1 st (h .0) (h .1)) (i .1) in
@@ -66,8 +70,9 @@ returns-2 c =
 returns-3 : tie.Need-returns-3
 returns-3 c =
     let i = c .before .before .before .before .i .given in
-    let found = c .before .before .before .before .before .before .row-among in
-    let a = c .before .before .before .before .before .before .before .before .args in (
+    let c4 = c .before .before .before .before in
+    let found = c4 .before .before .row-among in
+    let a = c4 .before .before .before .before .args in (
       (unfold Within in tt),
       (λ st h.
           let slot : rowSlot (st .rows) (a .e) ≡ suc (i .0 .0) = found-at (rowSlot (st .rows) (a .e)) (i .0 .0) (found .ensures .1 st (h .0) (h .1)) (i .1) in

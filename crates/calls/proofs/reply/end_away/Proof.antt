@@ -37,8 +37,9 @@ returns-2 : tie.Need-returns-2
 returns-2 c =
     let kept = c .before .before .held-by in
     let i = c .before .before .before .enum-told .given in
-    let found = c .before .before .before .before .before .end-at in
-    let a = c .before .before .before .before .before .before .before .args in
+    let c4 = c .before .before .before .before in
+    let found = c4 .before .end-at in
+    let a = c4 .before .before .before .args in
     λ st v h few same.
     let (at, end) = an-end st (a .e) (h .0) (found .result) (i .0 .0) (found .ensures .1 st (h .0, h .1)) (i .1) in
     let none = not-in-clist st (a .p) (a .e) (kept .result) (kept .ensures .1 st (h .0, h .1) few) (c .enum-told4 .given .1) in
@@ -52,8 +53,9 @@ returns-3 c =
     let k = c .before .enum-told3 .given in
     let kept = c .before .before .before .held-by in
     let i = c .before .before .before .before .enum-told .given in
-    let found = c .before .before .before .before .before .before .end-at in
-    let a = c .before .before .before .before .before .before .before .before .args in
+    let c4 = c .before .before .before .before in
+    let found = c4 .before .before .end-at in
+    let a = c4 .before .before .before .before .args in
     λ st v h few same.
     let (at, end) = an-end st (a .e) (h .0) (found .result) (i .0 .0) (found .ensures .1 st (h .0, h .1)) (i .1) in
     let (slot, here) = found-in st (inClist (a .p)) (a .e) (kept .result) (k .0 .0) (kept .ensures .1 st (h .0, h .1) few) (k .1) in

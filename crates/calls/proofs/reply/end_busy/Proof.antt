@@ -29,7 +29,8 @@ asked-at-requires : tie.Need-asked-at-requires
 asked-at-requires c κs =
     let i = c .before .i .given in
     let found = c .before .before .before .end-at in
-    let s = c .before .before .before .before .before in
+    let c4 = c .before .before .before .before in
+    let s = c4 .before in
     (s .pre .0, s .pre .2, omega (arith, s .pre .1, at-below (s .args .n) (found .result) (i .0 .0) (found .ensures .0) (i .1)))
 
 enum-told-2 : tie.Need-enum-told-2
@@ -42,8 +43,9 @@ returns-2 : tie.Need-returns-2
 returns-2 c =
     let asked = c .before .before .asked-at in
     let i = c .before .before .before .before .i .given in
-    let found = c .before .before .before .before .before .before .end-at in
-    let a = c .before .before .before .before .before .before .before .before .args in
+    let c4 = c .before .before .before .before in
+    let found = c4 .before .before .end-at in
+    let a = c4 .before .before .before .before .args in
     λ st h.
     let (at, end) = an-end st (a .e) (h .0) (found .result) (i .0 .0) (found .ensures .1 st (h .0, h .1)) (i .1) in
     let none = found-nothing (openSlot (st .requests) (rowOf (st .rows) (a .e) .object)) (asked .ensures .1 st (a .e) (h .0, h .2) at) (c .enum-told3 .given .1) in
@@ -54,8 +56,9 @@ returns-3 c =
     let j = c .enum-told2 .given in
     let asked = c .before .before .asked-at in
     let i = c .before .before .before .before .i .given in
-    let found = c .before .before .before .before .before .before .end-at in
-    let a = c .before .before .before .before .before .before .before .before .args in
+    let c4 = c .before .before .before .before in
+    let found = c4 .before .before .end-at in
+    let a = c4 .before .before .before .before .args in
     λ st h.
     let (at, end) = an-end st (a .e) (h .0) (found .result) (i .0 .0) (found .ensures .1 st (h .0, h .1)) (i .1) in
     let slot = found-at (openSlot (st .requests) (rowOf (st .rows) (a .e) .object)) (j .0 .0) (asked .ensures .1 st (a .e) (h .0, h .2) at) (j .1) in

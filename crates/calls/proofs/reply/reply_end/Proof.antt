@@ -61,13 +61,15 @@ unfolding refusals
 returns-2 c =
     let found = c .before .before .asked-at in
     let b = c .before .before .before .before in
-    let s = b .before .before .before .before .before in
+    let b4 = b .before .before .before .before in
+    let s = b4 .before in
     let a = s .args in (
       (λ st e sd rep count same m few.
           let kind = rowOf (st .rows) e .kind in
           let v = askedOf st e in
           let server = is-server kind (sym (row-words rep e (a .i) (m .0) .kind) ∙ b .before .before .if1 .left) in
-          let none = found-nothing (openSlot (st .requests) (rowOf (st .rows) e .object)) (found .ensures .1 st e (rep, b .requests-in .ensures .0 ∙ represented-requests rep) (m .0)) (c .enum-told .given .1) in
+          let none = found-nothing (openSlot (st .requests) (rowOf (st .rows) e .object))
+          (found .ensures .1 st e (rep, b .requests-in .ensures .0 ∙ represented-requests rep) (m .0)) (c .enum-told .given .1) in
           let eleven = test-holds (eqb (v .number) 0 || not (isFetched v)) 11 _ (or-l (eqb (v .number) 0) (not (isFetched v)) (asked-none st e none)) in
           refused-agrees st (Reply (a .p) e) rep (a .ps) same 11
           (test-fails (not (isServer kind)) 8 (ap not server) (test-fails _ 10 (none-lent st e none _) eleven) ∙ sym (reply-rest st (a .p) e (held st (a .p) e (m .1)))) (λ z. absurd (omega arith))),
@@ -78,8 +80,10 @@ reply-refusal-requires : tie.Need-reply-refusal-requires
 reply-refusal-requires c κs =
     let j = c .before .before .j .given in
     let found = c .before .before .before .before .asked-at in
-    let count = c .before .before .before .before .before .before .requests-in in
-    let s = c .before .before .before .before .before .before .before .before .before .before .before in
+    let c4 = c .before .before .before .before in
+    let c8 = c4 .before .before .before .before in
+    let count = c4 .before .before .requests-in in
+    let s = c8 .before .before .before in
     (s .pre .0, s .pre .1, count .ensures .1, omega (arith, count .ensures .1, at-below (count .result) (found .result) (j .0 .0) (found .ensures .0) (j .1)))
 
 same-length-2 : tie.Need-same-length-2
@@ -90,7 +94,8 @@ unfolding refusals
 returns-3 c =
     let no = c .before .reply-refusal in
     let j = c .before .before .before .before .j .given in
-    let b = c .before .before .before .before .before .before in
+    let c4 = c .before .before .before .before in
+    let b = c4 .before .before in
     let found = b .asked-at in
     let counted = b .before .before .requests-in in
     let u = b .before .before .before .before in
@@ -107,23 +112,28 @@ returns-3 c =
 add-q : tie.Need-add-q
 add-q c =
     let j = c .before .before .before .before .j .given in
-    let found = c .before .before .before .before .before .before .asked-at in
-    let count = c .before .before .before .before .before .before .before .before .requests-in in
+    let c4 = c .before .before .before .before in
+    let found = c4 .before .before .asked-at in
+    let count = c4 .before .before .before .before .requests-in in
     record { fits = omega (arith, count .ensures .1, at-below (count .result) (found .result) (j .0 .0) (found .ensures .0) (j .1)) }
 
 mul-q : tie.Need-mul-q
 mul-q c =
     let j = c .before .before .before .before .j .given in
-    let found = c .before .before .before .before .before .before .asked-at in
-    let count = c .before .before .before .before .before .before .before .before .requests-in in
+    let c4 = c .before .before .before .before in
+    let found = c4 .before .before .asked-at in
+    let count = c4 .before .before .before .before .requests-in in
     record { fits = omega (arith, count .ensures .1, at-below (count .result) (found .result) (j .0 .0) (found .ensures .0) (j .1)) }
 
 slice-read-q : tie.Need-slice-read-q
 slice-read-q c =
-    let j = c .before .before .before .before .before .j .given in
-    let found = c .before .before .before .before .before .before .before .asked-at in
-    let count = c .before .before .before .before .before .before .before .before .before .requests-in in
-    let s = c .before .before .before .before .before .before .before .before .before .before .before .before .before .before in
+    let c4 = c .before .before .before .before in
+    let c8 = c4 .before .before .before .before in
+    let c12 = c8 .before .before .before .before in
+    let j = c4 .before .j .given in
+    let found = c4 .before .before .before .asked-at in
+    let count = c8 .before .requests-in in
+    let s = c12 .before .before in
     omega (arith, s .pre .0, count .ensures .1, at-below (count .result) (found .result) (j .0 .0) (found .ensures .0) (j .1))
 
 close-request-requires : tie.Need-close-request-requires
@@ -136,10 +146,12 @@ returns-4 : tie.Need-returns-4
 unfolding refusals askedOf
 returns-4 c =
     let closed = c .before .before .close-request in
-    let w = c .before .before .before .before .before in
+    let c4 = c .before .before .before .before in
+    let w = c4 .before in
     let no = w .before .reply-refusal in
     let j = w .before .before .before .before .j .given in
-    let b = w .before .before .before .before .before .before in
+    let w4 = w .before .before .before .before in
+    let b = w4 .before .before in
     let found = b .asked-at in
     let counted = b .before .before .requests-in in
     let u = b .before .before .before .before in
