@@ -136,7 +136,8 @@ fn reply_refusal(t: &[u32], n: usize, m: usize, j: usize, p: u32) -> u32
     0
 }
 
-// reply at the end in slot i, which p holds: 8 for one that is no server end, 11 with no request; then the request's refusals.
+// reply at the end in slot i, which p holds: 8 for one that is no server end, 11 with no request;
+// then the request's refusals.
 fn reply_end(t: &mut [u32], n: usize, ps: Records, i: usize, p: u32) -> Performed
     requires { ⌜ IsTables (now t) × (n ≤ ROWS) × (i < ROWS) ⌝ }
     ensures performs { λ r. ⌜ RepliesEnd (now (t .entry)) n ps i p (now (t .exit)) r ⌝ }
