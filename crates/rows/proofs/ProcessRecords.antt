@@ -56,9 +56,6 @@ module _ (p : List ℕ) (i : ℕ) (x : Process) where
   abbrev pub written : List ℕ
   written = set (set (set p (3 * i) (x .prime)) (3 * i + 1) (x .active)) (3 * i + 2) (x .through)
 
-  pub length-written : length written ≡ length p
-  length-written = simp length-set
-
   other : (j : ℕ) → (j ≡ 3 * i → ⊥) → (j ≡ 3 * i + 1 → ⊥) → (j ≡ 3 * i + 2 → ⊥) → getD written j 0 ≡ getD p j 0
   other j a b c =
       getD-set-other (set (set p (3 * i) (x .prime)) (3 * i + 1) (x .active)) (3 * i + 2) j (x .through) 0 c

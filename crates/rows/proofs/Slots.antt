@@ -118,10 +118,6 @@ pub row-none : (rs : List Row) (n : ℕ) → rowSlot rs n ≡ 0 → member n (nu
 unfolding rowSlot numbers
 row-none rs n e = slot-none (λ r. r .number) rs n e
 
-pub none-row : (rs : List Row) (n : ℕ) → member n (numbers rs) ≡ false → rowSlot rs n ≡ 0
-unfolding rowSlot numbers
-none-row rs n e = none-slot (λ r. r .number) rs n e
-
 pub row-absent : (rs : List Row) (n : ℕ) → rowSlot rs n ≡ 0 → rowOf rs n ≡ noRow
 unfolding rowSlot rowOf
 row-absent rs n e = first-none (λ r. r .number) noRow rs n (slot-none (λ r. r .number) rs n e)

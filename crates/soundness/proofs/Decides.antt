@@ -24,9 +24,6 @@ decides-eqb a b = record { holds = eqb-true a b; says = eq-eqb a b }
 pub decides-ltb : (a b : ℕ) → Decides (ltb a b) (a < b)
 decides-ltb a b = record { holds = ltb-true a b; says = lt-ltb a b }
 
-pub decides-leb : (a b : ℕ) → Decides (leb a b) (a ≤ b)
-decides-leb a b = record { holds = leb-true a b; says = le-leb a b }
-
 pub decides-as : {a : Bool} {p q : Type 0} → (p → q) → (q → p) → Decides a p → Decides a q
 decides-as f g h = record { holds = λ e. f (h .holds e); says = λ x. h .says (g x) }
 

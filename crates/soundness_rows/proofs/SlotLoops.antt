@@ -42,10 +42,6 @@ module _ {A : Type 0} where
       false-of (each F xs)
       (λ e. clash (each-cut F (c .new) (c .here) (c .old) (ap (each F) (sym (c .split)) ∙ e)) (sym (a .told (c .new) (c .here) (c .old) (c .split) (c .long))))
 
-  -- ---- tests joined
-  pub at-and : {F G : A → List A → Bool} {xs : List A} {i : ℕ} {a b : Bool} → AtSlot F xs i a → AtSlot G xs i b → AtSlot (λ x old. F x old && G x old) xs i (a && b)
-  at-and p q = record { told = λ new x old e d. rw (p .told new x old e d, q .told new x old e d) refl }
-
   pub each-and : (F G : A → List A → Bool) (xs : List A) → each (λ x old. F x old && G x old) xs ≡ each F xs && each G xs
   unfolding each
   each-and F G [] = refl
