@@ -78,7 +78,8 @@ module _ (st : State) (s : Sound st) where
       server c =
           let z : r .object ≡ pred e = server-port e t c in
           let n : r .number ≡ e = row-number (st .rows) e t in
-          let (lo, hi) = row-below st (s .numbers) (otherEnd r) (end-there (st .rows) (otherEnd r) (unfold isPairedWith in and-l (isEnd (rowOf (st .rows) (otherEnd r) .kind)) _ (paired-at st (s .rows) e t k))) in
+          let other : isEnd (rowOf (st .rows) (otherEnd r) .kind) ≡ true = unfold isPairedWith in and-l (isEnd (rowOf (st .rows) (otherEnd r) .kind)) _ (paired-at st (s .rows) e t k) in
+          let (lo, hi) = row-below st (s .numbers) (otherEnd r) (end-there (st .rows) (otherEnd r) other) in
           let o : otherEnd r ≡ pred (r .number) = server-other r c in
           omega arith
 

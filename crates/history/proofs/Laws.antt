@@ -90,7 +90,9 @@ module _ (st : State) (s : Sound st) (n : ℕ) (e : isNode (rowOf (st .rows) n .
   unfolding closeRequest bears
   request-stays q z =
       closing-stays (bears q) (q ∷ [])
-      (λ k u f. ne-eqb (rowOf (st .rows) k .request) q (λ w. let b = node-bears-none (st .requests) (st .rows) (rowOf (st .rows) k) (standing-shape st (s .numbers) (s .rows) k u) f in let l = some-pos q z in omega arith))
+      (λ k u f.
+      let b = node-bears-none (st .requests) (st .rows) (rowOf (st .rows) k) (standing-shape st (s .numbers) (s .rows) k u) f in
+      ne-eqb (rowOf (st .rows) k .request) q (λ w. let l = some-pos q z in omega arith))
 
   port-stays : (c : ℕ) → member n (numbers (closePort c st .rows)) ≡ true
   unfolding closePort isEndOf

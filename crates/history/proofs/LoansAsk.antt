@@ -146,7 +146,8 @@ module _ (h : History) (st : State) (i : Inv h st) (l : Lends h st) (s : Sound s
   asked-loans p c xs e =
       let m = lendItems st c (st .next) xs (record { rows = st .rows; items = []; next = suc (st .next) }) in
       let j : Lent st m (map (λ x. x .row) (filter (moves st) xs)) = lent-all st s p c (st .next) xs e (record { rows = st .rows; items = []; next = suc (st .next) }) [] (begun) in
-      rw (nonzero-pad mostItems (m .items), j .ends, named-ends p xs e, kinds-same (st .rows) (m .rows) (λ k t. j .old k (row-below st (s .numbers) k t .1)) (st .requests) (s .loans .items-lent), l .lends) refl
+      let kinds = kinds-same (st .rows) (m .rows) (λ k t. j .old k (row-below st (s .numbers) k t .1)) (st .requests) (s .loans .items-lent) in
+      rw (nonzero-pad mostItems (m .items), j .ends, named-ends p xs e, kinds, l .lends) refl
     where
       begun : Lent st (record { rows = st .rows; items = []; next = suc (st .next) }) []
       begun = record { more = omega arith; old = λ k lt. refl; low = unfold all in refl; ends = unfold nonzero filter in refl }

@@ -168,8 +168,9 @@ module _ (st : State) (s : Sound st) (p c : ℕ) (is : List Item) (a : AskAllowe
           → (e : ℕ) → (isItem st is e ≡ true) ⊎ ((suc (st .next) ≤ e) × (e < suc (st .next) + length (copies st is))) → lists e (requestOf (st .requests) w) ≡ false
       unshared w t f e (inl g) =
           let all-fetched =
+          let held = held-so (st .rows) (st .requests) (s .holders .system-holds) e (held-there st p e (named-held st s p c is a e g)) in
           listers-fetched e (st .requests) (s .holders .older-fetched)
-          (sym (eq-same (isSystem (rowOf (st .rows) e .place)) (awaitsFetch (st .requests) e) (held-so (st .rows) (st .requests) (s .holders .system-holds) e (held-there st p e (named-held st s p c is a e g)))) ∙ in-clist e g) in
+          (sym (eq-same (isSystem (rowOf (st .rows) e .place)) (awaitsFetch (st .requests) e) held) ∙ in-clist e g) in
           not-t (lists e (requestOf (st .requests) w)) (rw f at (at w t (λ w. isFetched w || not (lists e w)) all-fetched))
       unshared w t f e (inr (lo, hi)) =
           let new : member e (numbers (st .rows)) ≡ false = false-of (member e (numbers (st .rows))) (λ m. let (l, h) = row-below st (s .numbers) e m in omega arith) in

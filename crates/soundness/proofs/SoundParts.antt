@@ -47,7 +47,8 @@ module _ (st : State) (e : sound st ≡ true) where
   sound-rows : ofRows st ≡ true
   sound-rows =
       let s = sound-open st e in
-      rw (s .rows .objects-in-range, s .rows .rights-in-range, s .rows .places-in-range, s .rows .sources-right, s .rows .depths-right, s .rows .copies-match, s .rows .ends-paired, s .loans .copies-listed) refl
+      let r = s .rows in
+      rw (r .objects-in-range, r .rights-in-range, r .places-in-range, r .sources-right, r .depths-right, r .copies-match, r .ends-paired, s .loans .copies-listed) refl
 
   sound-requests : ofRequests st ≡ true
   sound-requests =

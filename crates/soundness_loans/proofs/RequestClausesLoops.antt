@@ -132,7 +132,10 @@ unfolding requestsTo
 ports-next rep u j marks marks′ right r s e h free mark p = rw (add-one j, free, mark) (ports-turn rep (requestsTo u j) marks right (requestAt u j) s e h p)
 
 -- ---- the clauses joined
-each-right : (st : State) → requestsRight st ≡ numbersApart (st .rows) (st .requests) && (fetchedInRange (st .requests) && (requestersListed (st .processes) (st .requests) && (itemsApart (st .requests) && itemsLent (st .rows) (st .requests))))
+each-right : (st : State) → requestsRight st
+    ≡ numbersApart (st .rows) (st .requests)
+    && (fetchedInRange (st .requests)
+    && (requestersListed (st .processes) (st .requests) && (itemsApart (st .requests) && itemsLent (st .rows) (st .requests))))
 unfolding requestRight numbersApart fetchedInRange requestersListed itemsApart itemsLent
 each-right st =
     all-both apart (λ v. fetched v && (asked v && (once v && lent v))) vs
@@ -162,7 +165,8 @@ pub requests-joined : (st : State) → requestsRight st && portsRight (st .rows)
 unfolding portsRight portsStand onePerPort
 requests-joined st =
     ap (λ (b : Bool). b && portsRight (st .rows) (st .requests)) (each-right st)
-    ∙ join (numbersApart (st .rows) (st .requests)) (fetchedInRange (st .requests)) (portsStand (st .rows) (st .requests)) (requestersListed (st .processes) (st .requests)) (itemsApart (st .requests)) (itemsLent (st .rows) (st .requests)) (onePerPort (st .requests))
+    ∙ join (numbersApart (st .rows) (st .requests)) (fetchedInRange (st .requests)) (portsStand (st .rows) (st .requests))
+    (requestersListed (st .processes) (st .requests)) (itemsApart (st .requests)) (itemsLent (st .rows) (st .requests)) (onePerPort (st .requests))
   where
     join : (a b c d e f g : Bool) → (a && (b && (d && (e && f)))) && (c && g) ≡ a && (b && (c && (d && (e && (f && g)))))
     join false b c d e f g = refl

@@ -63,7 +63,10 @@ portsRight rs vs = all (portStands rs) vs && distinct (map (λ v. v .port) vs)
 abbrev pub allOfRequests : State → Bool
 allOfRequests st =
     numbersApart (st .rows) (st .requests)
-    && (fetchedInRange (st .requests) && (portsStand (st .rows) (st .requests) && (requestersListed (st .processes) (st .requests) && (itemsApart (st .requests) && (itemsLent (st .rows) (st .requests) && onePerPort (st .requests))))))
+    && (fetchedInRange (st .requests)
+    && (portsStand (st .rows) (st .requests)
+    && (requestersListed (st .processes) (st .requests)
+    && (itemsApart (st .requests) && (itemsLent (st .rows) (st .requests) && onePerPort (st .requests))))))
 
 -- ---- marks: a slot is free once
 -- a slot plus 1 has no mark

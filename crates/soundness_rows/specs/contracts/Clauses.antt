@@ -46,4 +46,6 @@ abbrev pub allOfRows : State → Bool
 allOfRows st =
     objectsInRange (st .processes) (st .rows)
     && (rightsInRange (st .rows)
-    && (placesInRange (st .processes) (st .rows) && (sourcesRight (st .requests) (st .rows) && (depthsRight (st .rows) && (copiesMatch (st .rows) && (endsPaired (st .rows) && copiesListed (st .requests) (st .rows)))))))
+    && (placesInRange (st .processes) (st .rows)
+    && (sourcesRight (st .requests) (st .rows)
+    && (depthsRight (st .rows) && (copiesMatch (st .rows) && (endsPaired (st .rows) && copiesListed (st .requests) (st .rows)))))))
