@@ -22,7 +22,7 @@ use Rattle.rows.proofs.Lists.{distinct-filter, all-of-member, member-nonzero}
 use Rattle.rows.specs.Setters.{withPlace}
 use Rattle.closing.specs.Closing.{returned, listedIn, leaves, homed, trimmed, remaining, settled}
 use Rattle.closing.proofs.TrimmedLists.{top-member, length-filter, trim, member-trim, any-trim, distinct-trim}
-use Rattle.closing.proofs.Facts.{Stands}
+use Rattle.closing.specs.contracts.Marks.{Stands}
 use Rattle.closing.proofs.RemovedRows.{Closed}
 use Rattle.closing.proofs.Lookups.{rows-rise-kept, trimmed-lists, remaining-known, remaining-keys, all-remaining, remaining-rises, left-stood, left-keys, row-after, returned-keeps}
 use Rattle.closing.proofs.Processes.{listed-kept}
