@@ -8,7 +8,6 @@ use rows::codes::A_SERVER_END;
 use rows::read;
 ghost use mathlib.Core.Path.{_≡_};
 ghost use Prim.Native.Nat.{_≤_, _<_, _+_};
-ghost use lib.ListN.{length};
 ghost use Rattle.rows.specs.contracts.Sizes.{ROWS, IsTables};
 ghost use Rattle.calls.specs.Calls.{portEnd};
 ghost use Rattle.calls.specs.contracts.Effects.{Copied, EndsAdded};
