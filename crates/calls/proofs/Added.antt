@@ -1,20 +1,19 @@
 -- The state after go, hold, register and port: what the changes in place make of it, as the definitions write it.
-use Prim.Native.Nat.{ℕ, zero, suc, _+_, _-_, _<_, _≤_}
+use Prim.Native.Nat.{ℕ, zero, suc, _+_, _-_, _<_}
 use mathlib.Core.Bool.{Bool, true, _&&_}
 use mathlib.Core.List.{List, _∷_}
-use mathlib.Core.Path.{_≡_, refl, ap, sym, subst, _∙_}
+use mathlib.Core.Path.{_≡_, ap, sym, _∙_}
 use mathlib.Core.Logic.{inl, inr, ⊎-elim}
 use native.Mathlib.Omega.{arith}
 use native.Mathlib.Numerals.{add-one}
 use borrow.Author.Tests.{eqb-true}
 use lib.Dec.{eqb}
 use lib.ListN.{getD, set}
-use Rattle.rows.specs.declared.Row.{Row}
 use Rattle.rows.specs.declared.Process.{Process}
-use Rattle.rows.specs.Lists.{some, member}
+use Rattle.rows.specs.Lists.{member}
 use Rattle.rows.specs.Codes.{clientEnd, serverEnd, inClist, inNode, isNode, isSubdirectory}
 use Rattle.rows.specs.Tables.{State, noProcess, rowOf, processAt, numbers, isListed}
-use Rattle.rows.specs.Setters.{withRows, withNext, withProcesses, inPrimeNode, wentThrough}
+use Rattle.rows.specs.Setters.{withRows, withNext, inPrimeNode, wentThrough}
 use Rattle.rows.specs.Sound.{processPlaced}
 use Rattle.rows.proofs.Bools.{and-l, and-r, or-cases}
 use Rattle.rows.specs.Limits.{nodes}

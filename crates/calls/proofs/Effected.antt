@@ -16,7 +16,6 @@ use Rattle.rows.proofs.Slots.{row-found}
 use Rattle.tables.proofs.Sound.{sound-open}
 use Rattle.tables.proofs.SoundFacts.{row-object, manager-listed, listed-range}
 use Rattle.rows.specs.contracts.Represents.{laidWell, Represents}
-use Rattle.calls.specs.declared.Answer.{Answer}
 use Rattle.calls.specs.declared.Answer.the-variants.{Done, Made, Fetched, Told}
 use Rattle.calls.specs.declared.Call.the-variants.{Go, Hold, Register, Drop, Port, Close, Fetch, Reply, Refuse, Revoke, Comes}
 use Rattle.closing.specs.Closing.{closeRequest, closePort, dropRow}

@@ -4,7 +4,6 @@ use mathlib.Core.Bool.{Bool, true, false, cond, _&&_, _||_}
 use mathlib.Core.List.{List, [], _∷_, _++_, map, map-map}
 use mathlib.Core.Path.{_≡_, refl, ap, sym, subst, _∙_}
 use native.Mathlib.Omega.{arith}
-use borrow.Author.Tests.{eqb-true}
 use lib.Dec.{eqb}
 use lib.ListN.{length, getD, drop, drop-of-length-le, length-map}
 use lib.Seq.{drop-cons}
@@ -14,7 +13,7 @@ use Rattle.rows.specs.Lists.{rises, member, some, slotWith}
 use Rattle.rows.specs.Codes.{inClist}
 use Rattle.rows.specs.Tables.{State, noRequest, openOn, numbers, lists}
 use Rattle.rows.specs.Layout.{rowSlot}
-use Rattle.rows.specs.Setters.{withRows, withRequests, withPlace}
+use Rattle.rows.specs.Setters.{withRows, withPlace}
 use Rattle.rows.specs.contracts.Represents.{Represents, changeRow, changeRequest}
 use Rattle.rows.specs.contracts.Slots.{requestSlot, openSlot}
 use Rattle.rows.proofs.Bools.{or-fl, or-fr, and-false, eqb-sym-f}

@@ -3,21 +3,20 @@ use Prim.Native.Nat.{ℕ, zero, suc, _+_, _-_, _≤_, max}
 use mathlib.Core.Bool.{Bool, true, false, cond, _&&_}
 use mathlib.Core.List.{List, []}
 use mathlib.Core.Path.{_≡_, refl, ap, sym, _∙_}
-use mathlib.Core.Logic.{⊎-elim}
 use native.Mathlib.Omega.{arith}
-use borrow.Author.Tests.{eq-eqb, ne-eqb, eqb-true}
+use borrow.Author.Tests.{eq-eqb, ne-eqb}
 use lib.Dec.{eqb}
 use lib.ListN.{getD}
 use Rattle.rows.specs.declared.Found.{Found}
 use Rattle.rows.specs.declared.Found.the-variants.{At, Nothing}
-use Rattle.rows.specs.Lists.{member, some}
+use Rattle.rows.specs.Lists.{some}
 use Rattle.rows.specs.Codes.{subdirectory, isSubdirectory}
-use Rattle.rows.specs.Tables.{State, noRow, rowOf, numbers, depthOver, reaches, lentItself, isLent}
+use Rattle.rows.specs.Tables.{State, noRow, rowOf, depthOver, reaches, lentItself, isLent}
 use Rattle.rows.specs.Sound.{sound}
 use Rattle.rows.specs.Layout.{rowSlot}
 use Rattle.rows.specs.contracts.Represents.{Represents}
 use Rattle.rows.specs.contracts.Slots.{foundSlot}
-use Rattle.rows.proofs.Slots.{found-at, found-nothing, row-words, row-absent, row-none, row-found, represented-well, source-of, slot-zero}
+use Rattle.rows.proofs.Slots.{found-at, row-words, row-absent, row-none, row-found, represented-well, source-of, slot-zero}
 use Rattle.rows.proofs.Bools.{and-rf, pos-some}
 use Rattle.tables.proofs.Sound.{sound-open}
 use Rattle.tables.proofs.SoundFacts.{row-below}

@@ -1,24 +1,21 @@
 -- A row more: the numbers of its sources from their words, a copy of a row, the two ends of a port.
 use Prim.Native.Nat.{ℕ, zero, suc, _+_, _<_, _≤_}
-use mathlib.Core.Bool.{true}
 use mathlib.Core.List.{List, [], _∷_}
-use mathlib.Core.Path.{_≡_, refl, ap, sym, subst, _∙_}
+use mathlib.Core.Path.{_≡_, refl, ap, sym, _∙_}
 use mathlib.Core.Logic.{inl, inr}
 use native.Mathlib.Omega.{arith}
 use native.Mathlib.Numerals.{add-one}
 use borrow.Author.Tests.{ne-eqb}
-use lib.Dec.{eqb}
 use lib.ListN.{length}
 use Rattle.rows.specs.declared.Row.{Row}
 use Rattle.rows.specs.Lists.{topOf}
 use Rattle.rows.specs.Codes.{clientEnd, serverEnd}
 use Rattle.rows.specs.Tables.{State, rowOf}
-use Rattle.rows.specs.Setters.{withRows, withSources}
+use Rattle.rows.specs.Setters.{withSources}
 use Rattle.rows.specs.Layout.{rowSlot, rawRow}
 use Rattle.rows.specs.contracts.Represents.{Represents}
 use Rattle.rows.specs.contracts.Slots.{slotted, numberOfSlot, withSourceNumbers}
 use Rattle.rows.proofs.Bools.{clash}
-use Rattle.rows.proofs.Keyed.{olderOf}
 use Rattle.rows.proofs.RowSources.{Among}
 use Rattle.rows.proofs.Slots.{row-none, number-of-row, raw-row}
 use Rattle.calls.specs.declared.NewCopy.{NewCopy}

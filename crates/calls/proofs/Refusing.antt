@@ -2,7 +2,7 @@
 use Prim.Native.Nat.{ℕ, suc, _+_, _<_, _≤_}
 use mathlib.Core.Bool.{Bool, true, false, cond, not, _&&_, _||_}
 use mathlib.Core.List.{List, [], _∷_}
-use mathlib.Core.Path.{_≡_, refl, ap, sym, _∙_}
+use mathlib.Core.Path.{_≡_, refl, ap}
 use native.Mathlib.Omega.{arith}
 use borrow.Author.Tests.{eq-eqb, ne-eqb, lt-ltb, le-ltb}
 use lib.Dec.{eqb}
@@ -22,7 +22,6 @@ use Rattle.calls.specs.Rules.{Test, _when_, lowest, notHeld, askedOf, to
 use Rattle.calls.specs.Calls.{refusalsGo, refusalsHold, heldDepth, refusalsRegister, registeredDepth, refusalsPort, portDepth}
 use Rattle.calls.specs.Calls.{inUse, refusalsDrop, refusalsClose, refusalsFetch, refusalsRefuse, refusalsRevoke, refusalsComes}
 use Rattle.calls.proofs.Handed.{open-number}
-use Rattle.calls.proofs.Judging.{test-holds, test-fails}
 
 -- ---- room for k rows of depth d
 abbrev pub roomTests : State → ℕ → ℕ → List Test

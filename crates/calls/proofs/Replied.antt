@@ -5,7 +5,6 @@ use mathlib.Core.List.{List, [], _∷_}
 use mathlib.Core.Path.{_≡_, refl, ap, sym, _∙_}
 use native.Mathlib.Omega.{arith}
 use native.Mathlib.Numerals.{add-one}
-use borrow.Author.Tests.{eqb-false}
 use lib.Dec.{ltb, eqb}
 use lib.ListN.{length, getD}
 use Rattle.rows.specs.declared.Request.{Request}
@@ -15,10 +14,10 @@ use Rattle.rows.specs.Lists.{any, filter, member, some, nonzero}
 use Rattle.rows.specs.Codes.{clientEnd, serverEnd, isClient, isServer, isEnd}
 use Rattle.rows.specs.Tables.{State, noRow, noRequest, rowOf, lists}
 use Rattle.rows.specs.Sound.{isFetched}
-use Rattle.rows.specs.Layout.{rowSlot, requestAt, requestsTo, requestsIn}
+use Rattle.rows.specs.Layout.{rowSlot, requestAt, requestsTo}
 use Rattle.rows.specs.contracts.Represents.{Represents}
 use Rattle.rows.specs.contracts.Slots.{foundSlot, openSlot}
-use Rattle.rows.proofs.Bools.{clash, and-rf, any-eq, not-zero, zero-none}
+use Rattle.rows.proofs.Bools.{and-rf, any-eq, not-zero, zero-none}
 use Rattle.rows.proofs.LayoutRequests.{four}
 use Rattle.rows.proofs.Slots.{found-at, found-nothing, row-absent, represented-requests, open-absent}
 use Rattle.questions.proofs.Listed.{requests-read}

@@ -1,6 +1,6 @@
 -- Whether a row is a source of another, asked of the words of all rows one after the other.
 use Prim.Native.Nat.{ℕ, zero, suc, _+_}
-use mathlib.Core.Bool.{Bool, true, false, _&&_, _||_}
+use mathlib.Core.Bool.{Bool, true, false, _||_}
 use mathlib.Core.List.{List, [], _∷_, _++_}
 use mathlib.Core.Path.{_≡_, refl, ap, sym, subst, _∙_}
 use native.Mathlib.Numerals.{add-one}
@@ -9,11 +9,10 @@ use lib.Dec.{eqb}
 use lib.ListN.{length, getD}
 use lib.Seq.{append-snoc}
 use Rattle.rows.specs.declared.Row.{Row}
-use Rattle.rows.specs.Lists.{any, member, rises, some}
+use Rattle.rows.specs.Lists.{any, member, rises}
 use Rattle.rows.specs.Tables.{State, sources}
-use Rattle.rows.specs.Layout.{rowSlot, sourceSlot}
+use Rattle.rows.specs.Layout.{rowSlot}
 use Rattle.rows.specs.contracts.Represents.{Represents, sourcesOlder}
-use Rattle.rows.specs.contracts.Slots.{numberOfSlot}
 use Rattle.rows.proofs.Bools.{bool-eq}
 use Rattle.rows.proofs.Lists.{member-nonzero}
 use Rattle.rows.proofs.Slots.{represented-well, row-words-at, source-kept, via-kept, number-of-row}

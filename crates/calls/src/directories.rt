@@ -22,13 +22,12 @@ use rows::layout::SOURCE;
 use rows::layout::VIA;
 use rows::read;
 use rows::records::Records;
-ghost use mathlib.Core.Path.{_≡_};
 ghost use Prim.Native.Nat.{_≤_, _<_};
-ghost use lib.ListN.{length};
 ghost use Rattle.rows.specs.contracts.Sizes.{ROWS, IsTables};
 ghost use Rattle.calls.specs.declared.Call.{Call};
 ghost use Rattle.calls.specs.contracts.Performs.{Performs, HasRoom, RefusesHold, HoldsRow, RefusesRegister};
 ghost use Rattle.calls.specs.contracts.Performs.{RegistersRow, IsSource, RefusesDrop};
+ghost use Rattle.calls.specs.contracts.Effects.{LAST-NUMBER};
 ghost use Rattle.calls.specs.contracts.Effects.{IsProcess, GoesHome, GoesThrough, HeldBy, RegisteredBy};
 
 // The record of p in its prime node.
@@ -68,7 +67,7 @@ pub fn go_through(t: &[u32], i: usize, ps: Records, p: u32, e: u32) -> Records
 // A copy of the row in slot i, in the c-list of p, from that row and the row that p went through.
 // Ruled out: the second source is left out; the copy has the place of its row.
 pub fn add_held(t: &mut [u32], n: usize, i: usize, p: u32, via: u32, d: u32, next: u32)
-    requires { ⌜ IsTables (now t) × (n < ROWS) × (i < n) × (via ≤ n) × (next ≤ 1000000) ⌝ }
+    requires { ⌜ IsTables (now t) × (n < ROWS) × (i < n) × (via ≤ n) × (next ≤ LAST-NUMBER) ⌝ }
     ensures held { λ _. ⌜ HeldBy (now (t .entry)) n i p via d next (now (t .exit)) ⌝ }
     ensures long { λ _. ⌜ IsTables (now (t .exit)) ⌝ }
 {
@@ -88,7 +87,7 @@ pub fn add_held(t: &mut [u32], n: usize, i: usize, p: u32, via: u32, d: u32, nex
 // A copy of the row in slot i, in a node, from that row's first source.
 // Ruled out: it comes from the row itself; it comes from the row's second source too.
 pub fn add_registered(t: &mut [u32], n: usize, i: usize, node: u32, source: u32, d: u32, next: u32)
-    requires { ⌜ IsTables (now t) × (n < ROWS) × (i < n) × (source ≤ n) × (next ≤ 1000000) ⌝ }
+    requires { ⌜ IsTables (now t) × (n < ROWS) × (i < n) × (source ≤ n) × (next ≤ LAST-NUMBER) ⌝ }
     ensures registered { λ _. ⌜ RegisteredBy (now (t .entry)) n i node source d next (now (t .exit)) ⌝ }
     ensures long { λ _. ⌜ IsTables (now (t .exit)) ⌝ }
 {

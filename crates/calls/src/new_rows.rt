@@ -8,10 +8,9 @@ use rows::codes::A_SERVER_END;
 use rows::read;
 ghost use mathlib.Core.Path.{_≡_};
 ghost use Prim.Native.Nat.{_≤_, _<_, _+_};
-ghost use lib.ListN.{length};
 ghost use Rattle.rows.specs.contracts.Sizes.{ROWS, IsTables};
 ghost use Rattle.calls.specs.Calls.{portEnd};
-ghost use Rattle.calls.specs.contracts.Effects.{Copied, EndsAdded};
+ghost use Rattle.calls.specs.contracts.Effects.{LAST-NUMBER, Copied, EndsAdded};
 
 // Appends a copy of the row in slot i.
 // Ruled out: a copy with another row's object; a source that is not the row at its word.
@@ -57,7 +56,7 @@ fn port_end(kind: u32, number: u32, port: u32, place: u32, source: u32, depth: u
 // Appends both ends of a port, the client end first.
 // Ruled out: the server end before the client end; two ends with one number.
 pub fn append_ends(t: &mut [u32], n: usize, w: NewPort)
-    requires { ⌜ IsTables (now t) × (n + 1 < ROWS) × (w .source ≤ n) × (w .number ≤ 1000000) ⌝ }
+    requires { ⌜ IsTables (now t) × (n + 1 < ROWS) × (w .source ≤ n) × (w .number ≤ LAST-NUMBER) ⌝ }
     ensures added { λ _. ⌜ EndsAdded (now (t .entry)) n w (now (t .exit)) ⌝ }
     ensures long { λ _. ⌜ IsTables (now (t .exit)) ⌝ }
 {

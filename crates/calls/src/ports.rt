@@ -17,18 +17,16 @@ use rows::layout::KIND;
 use rows::layout::OBJECT;
 use rows::read;
 use rows::records::Records;
-ghost use mathlib.Core.Path.{_≡_};
 ghost use Prim.Native.Nat.{_≤_, _<_, _+_};
-ghost use lib.ListN.{length};
 ghost use Rattle.rows.specs.contracts.Sizes.{ROWS, IsTables};
 ghost use Rattle.calls.specs.declared.Call.{Call};
 ghost use Rattle.calls.specs.contracts.Performs.{Performs, HasRoom, RefusesPort, MakesPort, RefusesClose};
-ghost use Rattle.calls.specs.contracts.Effects.{IsProcess, PortMade};
+ghost use Rattle.calls.specs.contracts.Effects.{LAST-NUMBER, IsProcess, PortMade};
 
 // A port from the operation row in slot i: the client end to p, the server end to the row's manager.
 // Ruled out: both ends to p; ends that come from no row.
 pub fn add_port(t: &mut [u32], n: usize, i: usize, p: u32, d: u32, next: u32)
-    requires { ⌜ IsTables (now t) × (n + 1 < ROWS) × (i < n) × (next < 1000000) × IsProcess p ⌝ }
+    requires { ⌜ IsTables (now t) × (n + 1 < ROWS) × (i < n) × (next < LAST-NUMBER) × IsProcess p ⌝ }
     ensures made { λ _. ⌜ PortMade (now (t .entry)) n i p d next (now (t .exit)) ⌝ }
     ensures long { λ _. ⌜ IsTables (now (t .exit)) ⌝ }
 {

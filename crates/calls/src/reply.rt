@@ -14,7 +14,6 @@ use rows::read;
 use rows::records::Records;
 ghost use mathlib.Core.Path.{_≡_};
 ghost use Prim.Native.Nat.{_≤_, _<_};
-ghost use lib.ListN.{length};
 ghost use Rattle.rows.specs.Layout.{requestAt};
 ghost use Rattle.rows.specs.contracts.Slots.{Within};
 ghost use Rattle.rows.specs.contracts.Sizes.{ROWS, REQUESTS, IsTables};

@@ -4,9 +4,7 @@ use rows::codes::A_SUBDIRECTORY;
 use rows::codes::GREATEST_DEPTH;
 use rows::layout::KIND;
 use rows::layout::ROWS;
-ghost use mathlib.Core.Path.{_≡_};
 ghost use Prim.Native.Nat.{_≤_, _<_};
-ghost use lib.ListN.{length};
 ghost use Rattle.rows.specs.contracts.Sizes.{ROWS, IsTables};
 ghost use Rattle.calls.specs.contracts.Performs.{RefusesRows, HasRoom, IsLentWord, TakesLent};
 

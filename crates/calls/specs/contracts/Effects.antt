@@ -3,7 +3,6 @@ use Prim.Native.Nat.{ℕ, suc, _<_, _≤_}
 use mathlib.Core.Bool.{true}
 use mathlib.Core.List.{List, _∷_}
 use mathlib.Core.Path.{_≡_}
-use lib.ListN.{length}
 use Rattle.rows.specs.declared.Row.{Row}
 use Rattle.rows.specs.declared.Process.{Process}
 use Rattle.rows.specs.Lists.{topOf}
@@ -26,6 +25,10 @@ use Rattle.calls.specs.contracts.Lookups.{HasRows, StandsAt}
 -- a process's number
 abbrev pub IsProcess : ℕ → Type 0
 IsProcess p = (0 < p) × (p ≤ PROCESSES)
+
+-- the greatest number of a row or a request
+abbrev pub LAST-NUMBER : ℕ
+LAST-NUMBER = 1000000
 
 -- ---- go
 abbrev pub GoesHome : List Process → ℕ → List Process → Type 0

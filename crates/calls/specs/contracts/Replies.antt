@@ -1,16 +1,16 @@
 -- What the tests of reply answer: of the ends that a request still lists.
-use Prim.Native.Nat.{ℕ, suc, _≤_}
+use Prim.Native.Nat.{ℕ, _≤_}
 use mathlib.Core.Bool.{Bool, true, _&&_}
 use mathlib.Core.List.{List}
 use mathlib.Core.Path.{_≡_}
-use lib.Dec.{ltb, eqb}
+use lib.Dec.{ltb}
 use lib.ListN.{length}
 use Rattle.rows.specs.declared.Request.{Request}
 use Rattle.rows.specs.declared.Process.{Process}
 use Rattle.rows.specs.declared.Found.{Found}
 use Rattle.rows.specs.declared.Found.the-variants.{Nothing}
 use Rattle.rows.specs.Lists.{if_then_else_, any, member, some}
-use Rattle.rows.specs.Codes.{isEnd, isServer, inClist}
+use Rattle.rows.specs.Codes.{isEnd}
 use Rattle.rows.specs.Tables.{State, rowOf, lists}
 use Rattle.rows.specs.Sound.{sound}
 use Rattle.rows.specs.contracts.Represents.{Represents}

@@ -1,8 +1,7 @@
 -- `comes::comes`: no such row, no such request, or the answer.
 use borrow.Author.Needs.{needs}
 use native.Mathlib.Omega.{arith}
-use mathlib.Core.Path.{_≡_, sym, _∙_}
-use Rattle.rows.specs.declared.Found.{Found}
+use mathlib.Core.Path.{_∙_}
 use Rattle.rows.specs.Layout.{rowSlot}
 use Rattle.rows.specs.contracts.Slots.{requestSlot}
 use Rattle.rows.proofs.Slots.{at-below, found-at, found-nothing, represented-rows, represented-requests}

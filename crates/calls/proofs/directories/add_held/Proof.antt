@@ -1,20 +1,14 @@
 -- `directories::add_held`: a copy more, then the next number.
 use borrow.Author.Needs.{needs}
-use Prim.Native.Nat.{suc}
 use native.Mathlib.Omega.{arith}
 use native.Mathlib.Numerals.{add-one}
 use mathlib.Core.Path.{ap, sym, subst, _∙_}
-use lib.ListN.{getD}
-use Prim.Native.Nat.{ℕ, _+_}
-use denote.Ref.{now}
-use Rattle.rows.specs.Tables.{State, rowOf, processAt}
+use Rattle.rows.specs.Tables.{State, processAt}
 use Rattle.rows.specs.contracts.Represents.{Represents}
 use Rattle.rows.specs.contracts.Slots.{numberOfSlot}
-use Rattle.rows.specs.Setters.{withRows}
 use Rattle.rows.proofs.Slots.{row-words, number-of-row}
 use Rattle.tables.proofs.Sound.{sound-open}
 use Rattle.tables.proofs.SoundFacts.{rows-top, listed-range}
-use Rattle.calls.specs.contracts.Effects.{copyAs}
 use Rattle.calls.proofs.NewRows.{number-of-word}
 use Rattle.calls.proofs.Added.{through-among, held-state}
 use Rattle.calls.proofs.directories.add_held.Statement.{statement}

@@ -1,7 +1,7 @@
 -- `directories::drop`: no such row, refused, or the row goes.
 use borrow.Author.Needs.{needs}
 use native.Mathlib.Omega.{arith}
-use mathlib.Core.Path.{_≡_, ap, sym, _∙_}
+use mathlib.Core.Path.{ap, sym, _∙_}
 use Rattle.rows.specs.declared.Process.{Process}
 use Rattle.rows.specs.Codes.{inClist}
 use Rattle.rows.specs.Tables.{noProcess}

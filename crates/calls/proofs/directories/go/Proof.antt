@@ -1,7 +1,7 @@
 -- `directories::go`: home, no such row, no subdirectory, or through the row.
 use borrow.Author.Needs.{needs}
 use native.Mathlib.Omega.{arith}
-use mathlib.Core.Path.{_≡_, sym, _∙_}
+use mathlib.Core.Path.{sym, _∙_}
 use Rattle.rows.specs.Codes.{inClist}
 use Rattle.rows.proofs.Slots.{at-below, represented-rows, row-words}
 use Rattle.calls.specs.declared.Call.the-variants.{Go}

@@ -1,17 +1,15 @@
 -- `directories::hold`: no such row in the active node, or what the row gives.
 use borrow.Author.Needs.{needs}
-use Prim.Native.Nat.{ℕ}
 use native.Mathlib.Omega.{arith}
-use mathlib.Core.Path.{_≡_, ap, sym, _∙_}
-use Rattle.rows.specs.Codes.{inClist, inNode, isNode}
+use mathlib.Core.Path.{ap, sym, _∙_}
 use Rattle.rows.proofs.Bools.{pos-some}
 use Rattle.rows.proofs.Slots.{at-below, represented-rows}
 use Rattle.calls.specs.Calls.{refusals, callerOf}
 use Rattle.calls.proofs.LookedUp.{found-in}
 use Rattle.rows.specs.declared.Process.{Process}
+use Rattle.rows.specs.Codes.{isNode}
 use Rattle.rows.specs.Layout.{rowSlot}
-use Rattle.rows.specs.Tables.{State, noProcess, processAt, isListed}
-use Rattle.rows.specs.Sound.{sound}
+use Rattle.rows.specs.Tables.{noProcess}
 use Rattle.tables.proofs.Sound.{sound-open}
 use Rattle.tables.proofs.SoundFacts.{active-node}
 use Rattle.calls.specs.declared.Call.the-variants.{Hold}

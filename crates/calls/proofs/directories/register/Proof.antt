@@ -1,12 +1,10 @@
 -- `directories::register`: no such row, or what the row gives.
 use borrow.Author.Needs.{needs}
-use Prim.Native.Nat.{ℕ}
 use native.Mathlib.Omega.{arith}
-use mathlib.Core.Path.{_≡_, ap, sym, _∙_}
+use mathlib.Core.Path.{ap, sym, _∙_}
 use Rattle.rows.specs.Codes.{inClist}
-use Rattle.rows.proofs.Bools.{pos-some}
 use Rattle.rows.proofs.Slots.{at-below, represented-rows}
-use Rattle.calls.specs.Calls.{refusals, callerOf}
+use Rattle.calls.specs.Calls.{refusals}
 use Rattle.calls.proofs.LookedUp.{found-in}
 use Rattle.rows.specs.declared.Process.{Process}
 use Rattle.rows.specs.Tables.{noProcess}

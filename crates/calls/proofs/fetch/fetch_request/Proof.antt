@@ -2,12 +2,10 @@
 use borrow.Author.Needs.{needs}
 use native.Mathlib.Omega.{arith}
 use mathlib.Core.Bool.{not, _||_}
-use mathlib.Core.Path.{_≡_, refl, ap, sym, _∙_}
+use mathlib.Core.Path.{refl, ap, sym, _∙_}
 use lib.Dec.{eqb}
 use Rattle.rows.specs.Codes.{isServer}
 use Rattle.rows.specs.Tables.{rowOf}
-use Rattle.rows.specs.contracts.Slots.{openSlot}
-use Rattle.rows.proofs.Slots.{at-below, found-at, found-nothing, represented-requests, row-words, open-words, raw-open}
 use Rattle.calls.specs.Rules.{askedOf}
 use Rattle.rows.specs.declared.Request.{Request}
 use Rattle.rows.specs.Sound.{isFetched}

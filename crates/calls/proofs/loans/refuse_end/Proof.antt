@@ -1,8 +1,8 @@
 -- `loans::refuse_end`: no server end, no request, or the request closes.
 use borrow.Author.Needs.{needs}
 use native.Mathlib.Omega.{arith}
-use mathlib.Core.Bool.{not, _||_}
-use mathlib.Core.Path.{_≡_, refl, ap, sym, _∙_}
+use mathlib.Core.Bool.{not}
+use mathlib.Core.Path.{refl, ap, sym, _∙_}
 use lib.Dec.{eqb}
 use Rattle.rows.specs.Codes.{isServer}
 use Rattle.rows.specs.Tables.{rowOf}

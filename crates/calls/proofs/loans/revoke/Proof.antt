@@ -1,7 +1,7 @@
 -- `loans::revoke`: no such request, that of another process, or it closes.
 use borrow.Author.Needs.{needs}
 use native.Mathlib.Omega.{arith}
-use mathlib.Core.Path.{_≡_, sym, _∙_}
+use mathlib.Core.Path.{sym, _∙_}
 use Rattle.rows.specs.contracts.Slots.{requestSlot}
 use Rattle.rows.proofs.Slots.{at-below, found-at, found-nothing, represented-requests, request-words}
 use Rattle.calls.specs.declared.Call.the-variants.{Revoke}

@@ -1,6 +1,5 @@
 -- `lookups::depth_over`: one source is as deep as can be, or the second is deeper, or the first is as deep.
 use borrow.Author.Needs.{needs}
-use Prim.Native.Nat.{_≤_, max}
 use native.Mathlib.Omega.{arith}
 use mathlib.Core.Logic.{⊎-elim}
 use borrow.Author.Tests.{leb-true, leb-false}

@@ -1,6 +1,6 @@
 -- `lookups::row_in`: no row, a row in the place, a row elsewhere.
 use borrow.Author.Needs.{needs}
-use Prim.Native.Nat.{ℕ, suc}
+use Prim.Native.Nat.{suc}
 use native.Mathlib.Omega.{arith}
 use mathlib.Core.Path.{_≡_, sym, _∙_}
 use Rattle.rows.specs.Layout.{rowSlot}

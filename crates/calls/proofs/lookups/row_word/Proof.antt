@@ -1,9 +1,8 @@
 -- `lookups::row_word`: the slot that is found, plus 1.
 use borrow.Author.Needs.{needs}
-use Prim.Native.Nat.{ℕ, suc}
 use native.Mathlib.Omega.{arith}
 use native.Mathlib.Numerals.{add-one}
-use mathlib.Core.Path.{_≡_, sym, _∙_}
+use mathlib.Core.Path.{sym, _∙_}
 use Rattle.rows.specs.Layout.{rowSlot}
 use Rattle.rows.proofs.Slots.{at-below, found-at, found-nothing}
 use Rattle.calls.proofs.lookups.row_word.Statement.{statement}

@@ -5,7 +5,7 @@ use native.Mathlib.Omega.{arith}
 use lib.ListN.{length}
 use native.Mathlib.Numerals.{add-one}
 use mathlib.Core.List.{_∷_}
-use mathlib.Core.Path.{_≡_, ap, sym, subst, _∙_}
+use mathlib.Core.Path.{ap, sym, subst, _∙_}
 use Rattle.rows.specs.declared.Row.{Row}
 use Rattle.rows.specs.Lists.{topOf}
 use Rattle.rows.specs.Setters.{withRows}

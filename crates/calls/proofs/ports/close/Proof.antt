@@ -1,7 +1,7 @@
 -- `ports::close`: no such row, refused, or the port closes.
 use borrow.Author.Needs.{needs}
 use native.Mathlib.Omega.{arith}
-use mathlib.Core.Path.{_≡_, ap, sym, _∙_}
+use mathlib.Core.Path.{sym, _∙_}
 use Rattle.rows.specs.Codes.{inClist}
 use Rattle.rows.proofs.Slots.{at-below, represented-rows}
 use Rattle.calls.proofs.LookedUp.{found-in}

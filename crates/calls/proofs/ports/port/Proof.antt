@@ -1,12 +1,10 @@
 -- `ports::port`: no such row, or what the row gives.
 use borrow.Author.Needs.{needs}
-use Prim.Native.Nat.{ℕ}
 use native.Mathlib.Omega.{arith}
-use mathlib.Core.Path.{_≡_, ap, sym, _∙_}
+use mathlib.Core.Path.{_∙_}
 use Rattle.rows.specs.Codes.{inClist}
-use Rattle.rows.proofs.Bools.{pos-some}
 use Rattle.rows.proofs.Slots.{at-below, represented-rows}
-use Rattle.calls.specs.Calls.{refusals, callerOf}
+use Rattle.calls.specs.Calls.{refusals}
 use Rattle.calls.proofs.LookedUp.{found-in}
 use Rattle.calls.specs.declared.Call.the-variants.{Port}
 use Rattle.calls.proofs.Judging.{not-in-clist, refused-agrees, records-stay}

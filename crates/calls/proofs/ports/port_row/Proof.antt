@@ -1,15 +1,11 @@
 -- `ports::port_row`: refused, or two rows more.
 use borrow.Author.Needs.{needs}
-use Prim.Native.Nat.{ℕ}
 use native.Mathlib.Omega.{arith}
 use native.Mathlib.Numerals.{add-one}
-use mathlib.Core.Path.{_≡_, sym, _∙_}
+use mathlib.Core.Path.{sym, _∙_}
 use Rattle.rows.proofs.Slots.{represented-next}
 use Rattle.calls.specs.Calls.{refusals}
 use Rattle.calls.proofs.Judging.{refused-answers, accepted-answers}
-use Prim.Native.Nat.{_≤_}
-use Rattle.rows.specs.Tables.{rowOf}
-use Rattle.rows.specs.Sound.{sound}
 use Rattle.calls.specs.declared.Call.the-variants.{Port}
 use Rattle.calls.proofs.LookedUp.{zero-word}
 use Rattle.calls.proofs.Refusing.{port-operation}

@@ -1,6 +1,5 @@
 -- `tests::takes_lent`: no subdirectory, or a subdirectory and the other row decides.
 use borrow.Author.Needs.{needs}
-use mathlib.Core.Bool.{Bool, _&&_}
 use mathlib.Core.Path.{sym, _∙_}
 use Rattle.rows.proofs.Slots.{row-words}
 use Rattle.calls.proofs.LookedUp.{no-directory, directory}
