@@ -11,6 +11,7 @@ use Rattle.rows.specs.declared.Request.{Request}
 use Rattle.rows.specs.Sound.{isFetched}
 use borrow.Author.Tests.{eq-eqb, ne-eqb}
 use Rattle.rows.proofs.Bools.{or-r}
+use Rattle.rows.proofs.Slots.{raw-open}
 use Rattle.calls.specs.declared.Call.the-variants.{Fetch}
 use Rattle.calls.specs.Calls.{refusals}
 use Rattle.calls.proofs.Judging.{test-holds, test-fails, refused-answers, accepted-answers}
