@@ -1,6 +1,4 @@
 // A call and its answer, as code and definitions share them.
-use rows::records::Records;
-
 // An item of an ask: a row and the rights lent. Row 0: no item.
 pub struct Item {
     pub row: u32,
@@ -41,6 +39,9 @@ pub enum Answer {
     Refused(u32),
 }
 
+// ---- functions
+use rows::records::Records;
+
 // What a call leaves: its answer, and the process records.
 pub struct Performed {
     pub answer: Answer,
@@ -68,7 +69,6 @@ pub struct NewPort {
     pub depth: u32,
 }
 
-// ---- functions
 pub mod comes;
 pub mod directories;
 pub mod fetch;
