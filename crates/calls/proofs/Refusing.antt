@@ -19,8 +19,7 @@ use Rattle.rows.proofs.Bools.{pos-some}
 use Rattle.rows.proofs.Keyed.{rises-range}
 use Rattle.rows.proofs.Slots.{represented-well, row-found, row-absent, request-found, request-absent, open-absent}
 use Rattle.calls.specs.Rules.{Test, _when_, lowest, notHeld, askedOf, tooDeep, rowsFull, numbersSpent}
-use Rattle.calls.specs.Calls.{refusalsGo, refusalsHold, heldDepth, refusalsRegister, registeredDepth, refusalsPort, portDepth}
-use Rattle.calls.specs.Calls.{inUse, refusalsDrop, refusalsClose, refusalsFetch, refusalsRefuse, refusalsRevoke, refusalsComes}
+use Rattle.calls.specs.Calls.{refusalsGo, refusalsHold, heldDepth, refusalsRegister, registeredDepth, refusalsPort, portDepth, inUse, refusalsDrop, refusalsClose, refusalsFetch, refusalsRefuse, refusalsRevoke, refusalsComes}
 use Rattle.calls.proofs.Handed.{open-number}
 
 -- ---- room for k rows of depth d

@@ -26,9 +26,9 @@ ghost use Prim.Native.Nat.{_≤_, _<_};
 ghost use Rattle.rows.specs.contracts.Sizes.{ROWS, IsTables};
 ghost use Rattle.calls.specs.declared.Call.{Call};
 ghost use Rattle.calls.specs.contracts.Performs.{Performs, HasRoom, RefusesHold, HoldsRow, RefusesRegister};
-ghost use Rattle.calls.specs.contracts.Performs.{RegistersRow, IsSource, RefusesDrop};
-ghost use Rattle.calls.specs.contracts.Effects.{LAST-NUMBER};
-ghost use Rattle.calls.specs.contracts.Effects.{IsProcess, GoesHome, GoesThrough, HeldBy, RegisteredBy};
+ghost use Rattle.calls.specs.contracts.Performs.{RegistersRow, IsSourceOfSome, RefusesDrop};
+ghost use Rattle.calls.specs.contracts.Effects.{LAST-NUMBER, IsProcess, GoesHome, GoesThrough, HeldBy};
+ghost use Rattle.calls.specs.contracts.Effects.{RegisteredBy};
 
 // The record of p in its prime node.
 // Ruled out: the record of another process changes; the row gone through stays.
@@ -254,7 +254,7 @@ pub fn register(t: &mut [u32], ps: Records, p: u32, e: u32) -> Performed
 // Every row is looked at, with no way out early, so that the loop runs over many words at once.
 fn is_source(t: &[u32], n: usize, i: usize) -> bool
     requires { ⌜ IsTables (now t) × (n ≤ ROWS) × (i < ROWS) ⌝ }
-    ensures { λ r. ⌜ IsSource (now (t .entry)) n i r ⌝ }
+    ensures { λ r. ⌜ IsSourceOfSome (now (t .entry)) n i r ⌝ }
 {
     let word = (i + 1) as u32;
     let mut found = false;

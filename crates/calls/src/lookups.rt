@@ -13,9 +13,9 @@ use rows::layout::SOURCE;
 ghost use Prim.Native.Nat.{_≤_, _<_};
 ghost use Rattle.rows.specs.contracts.Slots.{Within};
 ghost use Rattle.rows.specs.contracts.Sizes.{ROWS, REQUESTS, IsTables};
-ghost use Rattle.calls.specs.contracts.Lookups.{FindsIn, FindsHeld, FindsRequest, FindsOpen, IsWord};
-ghost use Rattle.calls.specs.contracts.Performs.{FindsAsked};
+ghost use Rattle.calls.specs.contracts.Lookups.{FindsIn, FindsHeld, FindsRequestAmong, FindsOpenAmong, IsWord};
 ghost use Rattle.calls.specs.contracts.Lookups.{IsSourceWord, IsDepth, IsDepthOver};
+ghost use Rattle.calls.specs.contracts.Performs.{FindsAsked};
 
 // The slot of the row e, where it is in the place: a c-list, or a node.
 // Ruled out: the slot of a row that is in another place; nothing for a row that is there.
@@ -49,7 +49,7 @@ pub fn held_by(t: &[u32], n: usize, p: u32, e: u32) -> Found
 pub fn request_among(t: &[u32], m: usize, q: u32) -> Found
     requires { ⌜ IsTables (now t) × (m ≤ REQUESTS) ⌝ }
     ensures within { λ r. ⌜ Within m r ⌝ }
-    ensures found { λ r. ⌜ FindsRequest (now (t .entry)) m q r ⌝ }
+    ensures found { λ r. ⌜ FindsRequestAmong (now (t .entry)) m q r ⌝ }
 {
     find::search(&t[Q_NUMBER..Q_PORT], m, q)
 }
@@ -59,7 +59,7 @@ pub fn request_among(t: &[u32], m: usize, q: u32) -> Found
 pub fn open_among(t: &[u32], m: usize, c: u32) -> Found
     requires { ⌜ IsTables (now t) × (m ≤ REQUESTS) ⌝ }
     ensures within { λ r. ⌜ Within m r ⌝ }
-    ensures found { λ r. ⌜ FindsOpen (now (t .entry)) m c r ⌝ }
+    ensures found { λ r. ⌜ FindsOpenAmong (now (t .entry)) m c r ⌝ }
 {
     find::search_back(&t[Q_PORT..Q_ASKER], m, c)
 }

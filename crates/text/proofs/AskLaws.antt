@@ -15,7 +15,7 @@ use Rattle.rows.specs.Lists.{all, member, distinct, pad}
 use Rattle.calls.specs.declared.Item.{Item}
 use Rattle.text.specs.CallLines.{itemRanged, itemOf, Gathered, packed, noItem, gathered, addItem}
 use Rattle.text.specs.Patterns.{counted, form}
-use Rattle.text.specs.contracts.Asks.{askedOf, withItem}
+use Rattle.text.specs.contracts.Asks.{askedFrom, withItem}
 use Rattle.text.specs.contracts.Sizes.{GROUPS}
 use Rattle.text.specs.declared.Asked.{Asked}
 use Rattle.text.specs.declared.Read.{Read}
@@ -87,8 +87,8 @@ column-kept of is i h =
     let lt : length (map of is) < GROUPS = omega arith in
     rw (map-append of is (i ∷ []), ← n) (set-pad-end GROUPS (map of is) (of i) lt)
 
-pub item-kept : (g : Gathered) (f : Read) → length (g .items) < GROUPS → kept (askedOf g) f ≡ askedOf (withItem g f)
-unfolding kept askedOf itemOf
+pub item-kept : (g : Gathered) (f : Read) → length (g .items) < GROUPS → kept (askedFrom g) f ≡ askedFrom (withItem g f)
+unfolding kept askedFrom itemOf
 item-kept g f h =
     let is = g .items in
     let x = itemOf f in
@@ -112,14 +112,14 @@ item-kept g f h =
 -- ---- the first four
 pub four-packed : (g : Gathered)
     → packed (g .items)
-    ≡ (let a = askedOf g in
+    ≡ (let a = askedFrom g in
     record {
       first = record { row = getD (a .rows) 0 0; rights = getD (a .rights) 0 0 };
       second = record { row = getD (a .rows) 1 0; rights = getD (a .rights) 1 0 };
       third = record { row = getD (a .rows) 2 0; rights = getD (a .rights) 2 0 };
       fourth = record { row = getD (a .rows) 3 0; rights = getD (a .rights) 3 0 };
     })
-unfolding packed askedOf noItem pad
+unfolding packed askedFrom noItem pad
 four-packed g = by (g .items)
   where
     by : (is : List Item)
@@ -142,24 +142,24 @@ joined g h = record { items = g .items ++ h .items; next = h .next }
 
 pub record Gathering (n : ℕ) (s : List ℕ) (at : ℕ) (a : Asked) : Type 0 where
   pub read : Gathered
-  pub held : a ≡ askedOf read
+  pub held : a ≡ askedFrom read
   pub whole : gathered n s at ≡ joined read (gathered (n - length (read .items)) s (read .next))
 
 module _ (n : ℕ) (s : List ℕ) (at : ℕ) where
-  pub gathering-starts : (a : Asked) → a ≡ askedOf (record { items = []; next = at }) → Gathering n s at a
+  pub gathering-starts : (a : Asked) → a ≡ askedFrom (record { items = []; next = at }) → Gathering n s at a
   gathering-starts a e = let q : n - 0 ≡ n = omega arith in record { read = record { items = []; next = at }; held = e; whole = rw q }
 
   module _ (a : Asked) (k : Gathering n s at a) where
     next-same : a .next ≡ k .read .next
-    unfolding askedOf
+    unfolding askedFrom
     next-same = ap (λ (x : Asked). x .next) (k .held)
 
     count-same : a .count ≡ length (k .read .items)
-    unfolding askedOf
+    unfolding askedFrom
     count-same = ap (λ (x : Asked). x .count) (k .held)
 
     pub gathering-room : a .count < GROUPS → length (a .rows) ≡ GROUPS
-    unfolding askedOf
+    unfolding askedFrom
     gathering-room h =
         let q = count-same in
         let m = length-map (k .read .items) (λ i. i .row) in
@@ -174,7 +174,7 @@ module _ (n : ℕ) (s : List ℕ) (at : ℕ) where
         k .whole ∙ (rw (q, e, good, append-snoc))
 
     -- one more item was read
-    pub gathering-goes-on : (f : Read) (r : Asked) → f ≡ form s (a .next) " (# #)" → f .good ≡ true → a .count < n → r ≡ askedOf (withItem (k .read) f) → Gathering n s at r
+    pub gathering-goes-on : (f : Read) (r : Asked) → f ≡ form s (a .next) " (# #)" → f .good ≡ true → a .count < n → r ≡ askedFrom (withItem (k .read) f) → Gathering n s at r
     gathering-goes-on f r e good h is =
         let q = count-same in
         let there = ap (λ (i : ℕ). form s i " (# #)") (sym next-same) ∙ sym e in
@@ -186,12 +186,12 @@ module _ (n : ℕ) (s : List ℕ) (at : ℕ) where
     none-left (suc m) e = rw e
 
     -- no item follows; no more are read
-    pub gathering-stops : (f : Read) → f ≡ form s (a .next) " (# #)" → f .good ≡ false → a ≡ askedOf (gathered n s at)
+    pub gathering-stops : (f : Read) → f ≡ form s (a .next) " (# #)" → f .good ≡ false → a ≡ askedFrom (gathered n s at)
     gathering-stops f e none =
         let there = ap (λ (i : ℕ). form s i " (# #)" .good) (sym next-same) ∙ ap (λ (x : Read). x .good) (sym e) ∙ none in
         k .held ∙ (rw (k .whole, none-left (n - length (k .read .items)) there, append-nil))
 
-    pub gathering-ends : n ≤ a .count → a ≡ askedOf (gathered n s at)
+    pub gathering-ends : n ≤ a .count → a ≡ askedFrom (gathered n s at)
     unfolding gathered
     gathering-ends h =
         let c = count-same in

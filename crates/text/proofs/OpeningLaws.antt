@@ -16,7 +16,8 @@ use Rattle.text.specs.CallLines.{ranged}
 use Rattle.text.specs.Opening.{linesOf, withByte, Entries, entriesFrom, addEntry, entryRanged, Form, entryListed, nodeForm, givesNode, givesProcess, processForm}
 use Rattle.text.specs.Patterns.{counted}
 use Rattle.text.specs.contracts.Openings.{firstLine, entriesRead, entryRead, listedFrom, Gives}
-use Rattle.text.specs.contracts.Sizes.{NODES, PROCESSES}
+use Rattle.text.specs.contracts.Sizes.{NODES}
+use Rattle.rows.specs.contracts.Sizes.{PROCESSES}
 use Rattle.text.specs.declared.EntriesRead.{EntriesRead}
 use Rattle.text.specs.declared.Entry.{Entry}
 use Rattle.text.specs.declared.EntryRead.{EntryRead}

@@ -17,7 +17,7 @@ ghost use Rattle.rows.specs.Lists.{member};
 ghost use Rattle.text.specs.CallLines.{isProcess, isNumber, ranged, simple, simpleForm, Gathered, gathered};
 ghost use Rattle.text.specs.CallLines.{packed, judged, askForm, readingOf};
 ghost use Rattle.text.specs.contracts.Sizes.{GROUPS};
-ghost use Rattle.text.specs.contracts.Asks.{askedOf, withItem, otherCall};
+ghost use Rattle.text.specs.contracts.Asks.{askedFrom, withItem, otherCall};
 
 const GREATEST_NUMBER: u32 = 1000000;
 
@@ -139,7 +139,7 @@ fn is_named(rows: &[u32], n: u32) -> bool
 // One more item after those read: every one is looked at for 3 and 4, past the fourth too.
 fn add_item(a: Asked, f: Read) -> Asked
     requires { ⌜ (a .count < GROUPS) × (length (a .rows) ≡ GROUPS) ⌝ }
-    ensures added { λ r. ⌜ ((g : Gathered) → a ≡ askedOf g → r ≡ askedOf (withItem g f)) ⌝ }
+    ensures added { λ r. ⌜ ((g : Gathered) → a ≡ askedFrom g → r ≡ askedFrom (withItem g f)) ⌝ }
     ensures counted { λ r. ⌜ r .count ≡ a .count + 1 ⌝ }
 {
     let n = a.count;
@@ -161,7 +161,7 @@ fn add_item(a: Asked, f: Read) -> Asked
 
 // The items from a position on.
 fn gather(line: &[u8], at: usize) -> Asked
-    ensures { λ r. ⌜ r ≡ askedOf (gathered GROUPS (now (line .entry)) at) ⌝ }
+    ensures { λ r. ⌜ r ≡ askedFrom (gathered GROUPS (now (line .entry)) at) ⌝ }
 {
     let rows = [0u32; GROUPS];
     let rights = [0u32; GROUPS];
@@ -186,7 +186,7 @@ fn gather(line: &[u8], at: usize) -> Asked
 
 // The first four items, no items after the last.
 fn first_four(a: Asked) -> Items
-    ensures { λ r. ⌜ ((g : Gathered) → a ≡ askedOf g → r ≡ packed (g .items)) ⌝ }
+    ensures { λ r. ⌜ ((g : Gathered) → a ≡ askedFrom g → r ≡ packed (g .items)) ⌝ }
 {
     let rows = a.rows;
     let rights = a.rights;
@@ -212,7 +212,7 @@ fn first_four(a: Asked) -> Items
 
 // An ask of its caller, its client end and its items: 3, then 4, then too many items.
 fn judge(p: u32, c: u32, a: Asked) -> Reading
-    ensures { λ r. ⌜ ((g : Gathered) → a ≡ askedOf g → r ≡ judged p c (g .items)) ⌝ }
+    ensures { λ r. ⌜ ((g : Gathered) → a ≡ askedFrom g → r ≡ judged p c (g .items)) ⌝ }
 {
     let good = is_process(p) & (is_number(c) & a.ranged);
     if !good {

@@ -17,8 +17,7 @@ use Rattle.calls.specs.declared.NewCopy.{NewCopy}
 use Rattle.calls.specs.declared.NewPort.{NewPort}
 use Rattle.rows.specs.Codes.{clientEnd, serverEnd}
 use Rattle.calls.specs.Rules.{copyOf}
-use Rattle.calls.specs.Calls.{goHome, goThrough, withHeld, heldDepth, withRegistered, registeredDepth}
-use Rattle.calls.specs.Calls.{portEnd, withPort, portDepth}
+use Rattle.calls.specs.Calls.{goHome, goThrough, withHeld, heldDepth, withRegistered, registeredDepth, portEnd, withPort, portDepth}
 use Rattle.calls.specs.contracts.Lookups.{HasRows, StandsAt}
 
 -- ---- what reading a line gives

@@ -40,11 +40,11 @@ abbrev pub FindsHeld : List ℕ → ℕ → ℕ → ℕ → Found → Type 0
 FindsHeld t n p e r = (st : State) → HasRows t n st → p ≤ PROCESSES → r ≡ slotIn st (inClist p) e
 
 -- r is the slot of the request q; of the newest request on port c
-abbrev pub FindsRequest : List ℕ → ℕ → ℕ → Found → Type 0
-FindsRequest t m q r = (st : State) → HasRequests t m st → r ≡ foundSlot (requestSlot (st .requests) q)
+abbrev pub FindsRequestAmong : List ℕ → ℕ → ℕ → Found → Type 0
+FindsRequestAmong t m q r = (st : State) → HasRequests t m st → r ≡ foundSlot (requestSlot (st .requests) q)
 
-abbrev pub FindsOpen : List ℕ → ℕ → ℕ → Found → Type 0
-FindsOpen t m c r = (st : State) → HasRequests t m st → r ≡ foundSlot (openSlot (st .requests) c)
+abbrev pub FindsOpenAmong : List ℕ → ℕ → ℕ → Found → Type 0
+FindsOpenAmong t m c r = (st : State) → HasRequests t m st → r ≡ foundSlot (openSlot (st .requests) c)
 
 -- r is the source word of row e: its slot plus 1, 0 where there is none
 abbrev pub IsWord : List ℕ → ℕ → ℕ → ℕ → Type 0

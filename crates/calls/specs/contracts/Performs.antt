@@ -20,8 +20,7 @@ use Rattle.calls.specs.declared.Performed.{Performed}
 use Rattle.calls.specs.declared.Call.{Call}
 use Rattle.calls.specs.declared.Call.the-variants.{Hold, Register, Port, Fetch, Refuse}
 use Rattle.calls.specs.Rules.{Out, _when_, lowest, tooDeep, rowsFull, numbersSpent}
-use Rattle.calls.specs.Calls.{refusalsHold, heldDepth, refusalsRegister, registeredDepth, refusalsPort, portDepth}
-use Rattle.calls.specs.Calls.{refusalsClose, refusalsDrop, perform, callerOf}
+use Rattle.calls.specs.Calls.{refusalsHold, heldDepth, refusalsRegister, registeredDepth, refusalsPort, portDepth, refusalsClose, refusalsDrop, perform, callerOf}
 use Rattle.calls.specs.contracts.Lookups.{HasRows, HasRequests, StandsAt}
 
 -- ---- a call
@@ -149,8 +148,8 @@ RefusesEnd t ps i after r =
 
 -- ---- drop
 -- r says whether a row has the row in slot i for a source
-abbrev pub IsSource : List ℕ → ℕ → ℕ → Bool → Type 0
-IsSource t n i r =
+abbrev pub IsSourceOfSome : List ℕ → ℕ → ℕ → Bool → Type 0
+IsSourceOfSome t n i r =
     (st : State) (e : ℕ) → HasRows t n st → StandsAt st e i → r ≡ any (λ r. member e (sources r)) (st .rows)
 
 abbrev pub RefusesDrop : List ℕ → ℕ → ℕ → ℕ → ℕ → ℕ → Type 0

@@ -12,7 +12,7 @@ use Rattle.rows.specs.Setters.{withRows, withRequests, withNext, withItems, wit
 use Rattle.rows.specs.Layout.{rowSlot}
 use Rattle.rows.specs.contracts.Represents.{Represents, changeRow, changeRequest}
 use Rattle.rows.specs.contracts.Slots.{requestSlot, withSourceNumbers}
-use Rattle.changes.specs.contracts.Marks.{closedUnder, MarksRows, MarksRequests}
+use Rattle.changes.specs.contracts.Marks.{closedUnder, MarkedRows, MarkedRequests}
 
 -- ---- one row or request changed
 -- the row in slot i becomes what g makes of it
@@ -51,11 +51,11 @@ SetsNext t u n = (st : State) → Represents t st → Represents u (withNext n s
 -- of the count rows there are the marked ones go, if no row that is left has a source among them
 abbrev pub RemovesRows : List ℕ → List ℕ → ℕ → List Bool → Type 0
 RemovesRows t u count ms =
-    (st : State) (g : List ℕ) → Represents t st → count ≡ length (st .rows) → MarksRows ms g (st .rows) → closedUnder g (st .rows) ≡ true
+    (st : State) (g : List ℕ) → Represents t st → count ≡ length (st .rows) → MarkedRows ms g (st .rows) → closedUnder g (st .rows) ≡ true
     → Represents u (withRows (filter (λ r. not (member (r .number) g)) (st .rows)) st)
 
 -- the marked requests go
 abbrev pub RemovesRequests : List ℕ → List ℕ → List Bool → Type 0
 RemovesRequests t u ms =
-    (st : State) (f : Request → Bool) → Represents t st → MarksRequests ms f (st .requests)
+    (st : State) (f : Request → Bool) → Represents t st → MarkedRequests ms f (st .requests)
     → Represents u (withRequests (filter (λ v. not (f v)) (st .requests)) st)

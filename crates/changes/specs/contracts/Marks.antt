@@ -36,11 +36,11 @@ abbrev pub NoneMarked : List Bool → ℕ → Type 0
 NoneMarked ms k = (i : ℕ) → i < k → getD ms i false ≡ false
 
 -- the marks of all slots of rows: set for the rows in g; of requests: for those that pass the test
-abbrev pub MarksRows : List Bool → List ℕ → List Row → Type 0
-MarksRows ms g rows = ms ≡ pad false ROWS (marksOf g rows)
+abbrev pub MarkedRows : List Bool → List ℕ → List Row → Type 0
+MarkedRows ms g rows = ms ≡ pad false ROWS (marksOf g rows)
 
-abbrev pub MarksRequests : List Bool → (Request → Bool) → List Request → Type 0
-MarksRequests ms f requests = ms ≡ pad false REQUESTS (tested f requests)
+abbrev pub MarkedRequests : List Bool → (Request → Bool) → List Request → Type 0
+MarkedRequests ms f requests = ms ≡ pad false REQUESTS (tested f requests)
 
 -- ---- a column
 -- of the first n words those that are not marked

@@ -9,8 +9,8 @@ use Rattle.text.specs.declared.Reading.{Reading}
 use Rattle.text.specs.CallLines.{Gathered, itemOf, itemRanged, comesForm, simpleForm}
 use Rattle.text.specs.contracts.Sizes.{GROUPS}
 
-unfoldable pub askedOf : Gathered → Asked
-askedOf g =
+unfoldable pub askedFrom : Gathered → Asked
+askedFrom g =
     record {
       next = g .next;
       count = length (g .items);

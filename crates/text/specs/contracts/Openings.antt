@@ -19,7 +19,8 @@ use Rattle.text.specs.declared.Naming.the-variants.{Listed, Missing, End
 use Rattle.text.specs.declared.Verdict.{Verdict}
 use Rattle.text.specs.Patterns.{form}
 use Rattle.text.specs.Opening.{operationEntry, subdirectoryEntry, Entries, entryRanged, Form, nodeForm, processForm, Line, lastLine, formLine, badLine, linesOf, entriesFrom, givesNode, givesProcess, formRefusal, entryListed, formListed, missingAt, firstPass, FirstPass, readTo, stoppedBy, Opening, opens, refusedAt}
-use Rattle.text.specs.contracts.Sizes.{GROUPS, NODES, PROCESSES}
+use Rattle.text.specs.contracts.Sizes.{GROUPS, NODES}
+use Rattle.rows.specs.contracts.Sizes.{PROCESSES}
 
 -- ---- lines
 -- how long the first line of a text is, with its line feed

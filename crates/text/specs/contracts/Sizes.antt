@@ -1,7 +1,7 @@
 -- Sizes and bounds of the text, named in contracts as in code (an underscore there is a hyphen here), and that they are those of the definitions.
 use Prim.Native.Nat.{ℕ, suc}
 use mathlib.Core.Path.{_≡_, refl}
-use Rattle.rows.specs.Limits.{processes, nodes, greatestNumber}
+use Rattle.rows.specs.Limits.{nodes, greatestNumber}
 use Rattle.text.specs.Patterns.{mostGroups}
 
 -- what stands for all numbers above the greatest; for all words of more than 8 letters
@@ -15,12 +15,9 @@ LONG-WORD = 1099511627776
 abbrev pub GROUPS : ℕ
 GROUPS = 64
 
--- the greatest node, the greatest process
+-- the greatest node
 abbrev pub NODES : ℕ
 NODES = 32
-
-abbrev pub PROCESSES : ℕ
-PROCESSES = 64
 
 -- the bytes of a reply: part of the C interface, as no definition has them
 abbrev pub REPLY : ℕ
@@ -34,12 +31,11 @@ abbrev pub VALUE : ℕ
 VALUE = 11
 
 -- ---- they are those of the definitions
-pub record SizesMeant : Type 0 where
+pub record TextSizesMeant : Type 0 where
   pub above : ABOVE ≡ suc greatestNumber
   pub groups : GROUPS ≡ mostGroups
   pub nodes : NODES ≡ nodes
-  pub processes : PROCESSES ≡ processes
 
-pub sizes-meant : SizesMeant
-unfolding greatestNumber mostGroups nodes processes
-sizes-meant = record { above = refl; groups = refl; nodes = refl; processes = refl }
+pub text-sizes-meant : TextSizesMeant
+unfolding greatestNumber mostGroups nodes
+text-sizes-meant = record { above = refl; groups = refl; nodes = refl }

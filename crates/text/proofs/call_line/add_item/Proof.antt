@@ -4,7 +4,7 @@ use native.Mathlib.Omega.{arith}
 use mathlib.Core.Path.{ap, _≡_, _∙_, refl}
 use Rattle.rows.specs.Limits.{allRights}
 use Rattle.text.specs.CallLines.{itemRanged, itemOf}
-use Rattle.text.specs.contracts.Asks.{askedOf}
+use Rattle.text.specs.contracts.Asks.{askedFrom}
 use Rattle.text.specs.declared.Asked.{Asked}
 use Rattle.text.proofs.AskLaws.{kept, item-kept}
 use borrow.Author.Needs.{needs}
@@ -42,7 +42,7 @@ add-t10 : tie.Need-add-t10
 add-t10 c = search needs
 
 returns : tie.Need-returns
-unfolding askedOf kept itemRanged itemOf allRights
+unfolding askedFrom kept itemRanged itemOf allRights
 returns c =
     let s = c .before .before in
     let n = s .before in

@@ -3,7 +3,7 @@ use mathlib.Core.Path.{sym, _∙_, ap}
 use Rattle.rows.specs.Lists.{bytes}
 use Rattle.text.specs.CallLines.{askForm, gathered}
 use Rattle.text.specs.Patterns.{form, mostGroups, whole}
-use Rattle.text.specs.contracts.Asks.{askedOf}
+use Rattle.text.specs.contracts.Asks.{askedFrom}
 use Rattle.text.specs.declared.Asked.{Asked}
 use borrow.Author.Needs.{needs}
 use Rattle.text.proofs.call_line.ask_form.Statement.{statement}
@@ -25,7 +25,7 @@ judge-requires : tie.Need-judge-requires
 judge-requires c κs = search needs
 
 returns : tie.Need-returns
-unfolding askForm form bytes mostGroups askedOf
+unfolding askForm form bytes mostGroups askedFrom
 returns c =
     let t = c .before in
     let e = t .before .before in
@@ -38,7 +38,7 @@ comes-form-requires : tie.Need-comes-form-requires
 comes-form-requires c κs = search needs
 
 returns-2 : tie.Need-returns-2
-unfolding askForm form bytes mostGroups askedOf
+unfolding askForm form bytes mostGroups askedFrom
 returns-2 c =
     let t = c .before in
     let e = t .before .before in

@@ -1,6 +1,6 @@
 -- `call_line::first_four` meets its contract.
 use mathlib.Core.Path.{sym}
-use Rattle.text.specs.contracts.Asks.{askedOf}
+use Rattle.text.specs.contracts.Asks.{askedFrom}
 use Rattle.text.proofs.AskLaws.{four-packed}
 use borrow.Author.Needs.{needs}
 use Rattle.text.proofs.call_line.first_four.Statement.{statement}
@@ -31,7 +31,7 @@ array-read-t30 : tie.Need-array-read-t30
 array-read-t30 c = search needs
 
 returns : tie.Need-returns
-unfolding askedOf
+unfolding askedFrom
 returns c = λ g e. rw e (sym (four-packed g))
 
 pub first-four-spec : {M : Type 1} → statement M

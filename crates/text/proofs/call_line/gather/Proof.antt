@@ -5,7 +5,7 @@ use native.Mathlib.Omega.{arith}
 use mathlib.Core.Path.{_≡_, refl, _∙_}
 use borrow.Author.Tests.{not-true, not-false}
 use Rattle.rows.specs.Lists.{bytes, pad, all, distinct}
-use Rattle.text.specs.contracts.Asks.{askedOf}
+use Rattle.text.specs.contracts.Asks.{askedFrom}
 use Rattle.text.proofs.AskLaws.{Gathering, gathering-starts, gathering-stops, gathering-room, gathering-goes-on, gathering-ends}
 use Rattle.text.proofs.PatternLaws.{form-of}
 use Rattle.text.proofs.call_line.gather.Statement.{statement}
@@ -18,7 +18,7 @@ abbrev μ-loop : tie.MeasureT-loop
 μ-loop line at a₀ t8 a = 64 - a .count
 
 loop-holds : tie.Need-loop-holds Inv-loop μ-loop
-unfolding bytes askedOf pad all distinct
+unfolding bytes askedFrom pad all distinct
 loop-holds c = (refl, gathering-starts 64 _ _ _ refl)
 
 slice-aggregate-read-form : tie.Need-slice-aggregate-read-form Inv-loop μ-loop

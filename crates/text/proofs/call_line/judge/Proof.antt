@@ -5,7 +5,7 @@ use borrow.Author.Tests.{lt-ltb, le-ltb}
 use Rattle.rows.specs.Limits.{mostItems}
 use Rattle.text.specs.CallLines.{judged}
 use Rattle.text.specs.Patterns.{counted}
-use Rattle.text.specs.contracts.Asks.{askedOf}
+use Rattle.text.specs.contracts.Asks.{askedFrom}
 use Rattle.text.specs.declared.Asked.{Asked}
 use borrow.Author.Needs.{needs}
 use Rattle.text.proofs.call_line.judge.Statement.{statement}
@@ -18,7 +18,7 @@ is-number-requires : tie.Need-is-number-requires
 is-number-requires c κs = search needs
 
 returns : tie.Need-returns
-unfolding judged askedOf mostItems
+unfolding judged askedFrom mostItems
 returns c =
     let t = c .before .before in
     λ g e.
@@ -26,7 +26,7 @@ returns c =
     rw (← good, sym (t .before .is-process .ensures), sym (t .is-number .ensures), c .if1 .taken)
 
 returns-2 : tie.Need-returns-2
-unfolding judged askedOf mostItems
+unfolding judged askedFrom mostItems
 returns-2 c =
     let t = c .before .before in
     let n = t .before .before in
@@ -36,7 +36,7 @@ returns-2 c =
     rw (← good, ← distinct-rows, sym (n .before .is-process .ensures), sym (n .is-number .ensures), t .if1 .left, c .if2 .taken)
 
 returns-3 : tie.Need-returns-3
-unfolding judged askedOf mostItems
+unfolding judged askedFrom mostItems
 returns-3 c =
     let u = c .before .before in
     let t = u .before .before in
@@ -53,7 +53,7 @@ first-four-requires : tie.Need-first-four-requires
 first-four-requires c κs = search needs
 
 returns-4 : tie.Need-returns-4
-unfolding judged askedOf mostItems
+unfolding judged askedFrom mostItems
 returns-4 c =
     let v = c .before in
     let u = v .before .before in
