@@ -160,7 +160,7 @@ portsStand rows requests = all (portStands rows) requests
 unfoldable pub requestersListed : List Process → List Request → Bool
 requestersListed ps requests = all (λ v. isListed ps (v .asker)) requests
 
--- the list has four places, 0 for an item that is not there
+-- the list has four positions, 0 for an item that is not there
 unfoldable pub itemsFew : List Request → Bool
 itemsFew requests = all (λ v. eqb (length (v .items)) mostItems) requests
 
