@@ -5,7 +5,7 @@ use Rattle.rows.specs.Lists.{if_then_else_, nonzero}
 use Rattle.calls.specs.declared.Answer.{Answer}
 use Rattle.calls.specs.declared.Answer.the-variants.{Done, Made, Fetched, Told, Refused}
 
--- the refusal's number, 0 for an accepted call
+-- (rule K5) the refusal's number, 0 for an accepted call
 unfoldable pub refusalOf : Answer → ℕ
 refusalOf Done = 0
 refusalOf (Made n) = 0
@@ -13,7 +13,7 @@ refusalOf (Fetched v a b c d) = 0
 refusalOf (Told t) = 0
 refusalOf (Refused k) = k
 
--- "`(ok n)`, n the new number or 0; fetch gives the request's number and then those of the items still listed, in the order asked; comes gives `(ok 1)` or `(ok 0)`"
+-- (rules K4, fetch-ok, comes-ok) the new number or 0; of fetch the request and the items still listed, in the order asked; of comes 1 or 0
 unfoldable pub valuesOf : Answer → List ℕ
 valuesOf Done = 0 ∷ []
 valuesOf (Made n) = n ∷ []

@@ -1,4 +1,4 @@
--- The twelve calls on a state. Of each the refusals 7 to 18, the lowest first; then, in one table, what each does where nothing refuses it.
+-- The twelve calls on a state (docs/MANUAL.md, chapter 4). Of each the refusals 7 to 18, the lowest first; then, in one table, what each does where nothing refuses it.
 use Prim.Native.Nat.{ℕ, suc}
 use mathlib.Core.Bool.{Bool, not, _&&_, _||_}
 use mathlib.Core.List.{List, [], _∷_}
@@ -20,17 +20,18 @@ use Rattle.calls.specs.declared.Answer.the-variants.{Done, Made, Fetched
 use Rattle.calls.specs.Rules.{Out, Test, _when_, judge, notHeld, hasOpen, askedOf, tooDeep, rowsFull, requestsFull, numbersSpent, withNewRows, copyOf, withRecord}
 use Rattle.calls.specs.Loans.{itemsOf, itemRow, moves, copies, copyDepth, withRequest, handedOver}
 
--- ---- "`go e`: e, a subdirectory in the c-list, becomes active; `go 0` goes to the prime node."
+-- ---- go: `go 0` has no refusal
 unfoldable pub refusalsGo : State → ℕ → ℕ → List Test
 refusalsGo st p e =
     if eqb e 0 then []
     else
-    -- "a row not in the caller's c-list"
+    -- (rule go-7) e is not in the caller's c-list
     7 when notHeld st p e
-    -- "wrong kind"
+    -- (rule go-8) e is not a subdirectory
     ∷ 8 when not (isSubdirectory (rowOf (st .rows) e .kind))
     ∷ []
 
+-- (rule go-ok) `go 0`: the active node is the prime node, through none; else it is the node that e names, through e
 unfoldable pub goHome : State → ℕ → State
 goHome st p = let x = processAt (st .processes) p in withRecord p (inPrimeNode x) st
 
@@ -39,7 +40,8 @@ goThrough st p e =
     let x = processAt (st .processes) p in
     withRecord p (wentThrough e (rowOf (st .rows) e .object) x) st
 
--- ---- "`hold s`: a row of the active node, copied to the c-list with its rights."
+-- ---- hold
+-- (rules R7, R11) one deeper than the deeper of s and the row gone through
 abbrev pub heldDepth : State → ℕ → ℕ → ℕ
 heldDepth st p s = depthOver (st .rows) s (processAt (st .processes) p .through)
 
@@ -47,90 +49,93 @@ unfoldable pub refusalsHold : State → ℕ → ℕ → List Test
 refusalsHold st p s =
     let r = rowOf (st .rows) s in
     let x = processAt (st .processes) p in
-    -- "hold: not in its active node"
+    -- (rule hold-7) s is not a row of the caller's active node
     7 when not (eqb (r .place) (inNode (x .active)))
-    -- "hold .. without that right"
+    -- (rule hold-9) s has not the right hold
     ∷ 9 when not (mayHold (r .rights))
-    -- "hold of a subdirectory after going through a lent one"
+    -- (rule hold-12) s is a subdirectory, and the row that the caller went through is lent
     ∷ 12 when (isSubdirectory (r .kind) && (some (x .through) && isLent st (x .through)))
-    -- "depth 13"
+    -- (rule hold-15) the new row would have depth 13
     ∷ 15 when tooDeep (heldDepth st p s)
-    -- "too few free rows"
+    -- (rule hold-16) no row is free
     ∷ 16 when rowsFull st 1
-    -- "too few numbers left"
+    -- (rule hold-18) no number is left
     ∷ 18 when numbersSpent st 1
     ∷ []
 
--- "A row taken by hold comes from the directory row and, if the caller went through a subdirectory row to its active node, from that row too."
+-- (rules R7, hold-ok) a copy of s with its rights, in the caller's c-list; its sources are s and the row gone through, if there is one
 unfoldable pub withHeld : State → ℕ → ℕ → State
 withHeld st p s =
     let r = rowOf (st .rows) s in
     let via = processAt (st .processes) p .through in
     withNewRows (copyOf r (st .next) (r .rights) (inClist p) s via (heldDepth st p s) 0 ∷ st .rows) (suc (st .next)) st
 
--- ---- "`register e`: a copy of e, with its rights, into the active node."
+-- ---- register
+-- (rules R8, R11) one deeper than the first source of e
 abbrev pub registeredDepth : State → ℕ → ℕ
 registeredDepth st e = depthOver (st .rows) (rowOf (st .rows) e .source) 0
 
 unfoldable pub refusalsRegister : State → ℕ → ℕ → List Test
 refusalsRegister st p e =
     let r = rowOf (st .rows) e in
-    -- "a row not in the caller's c-list"
+    -- (rule register-7) e is not in the caller's c-list
     7 when notHeld st p e
-    -- "Register and drop take no ends"
+    -- (rule register-8) e is an end
     ∷ 8 when isEnd (r .kind)
-    -- ".. or register without that right"
+    -- (rule register-9) e has not the right register
     ∷ 9 when not (mayRegister (r .rights))
-    -- "register of a lent row"
+    -- (rule register-12) e is lent
     ∷ 12 when isLent st e
-    -- "depth 13"
+    -- (rule register-15) the new row would have depth 13
     ∷ 15 when tooDeep (registeredDepth st e)
-    -- "too few free rows"
+    -- (rule register-16) no row is free
     ∷ 16 when rowsFull st 1
-    -- "too few numbers left"
+    -- (rule register-18) no number is left
     ∷ 18 when numbersSpent st 1
     ∷ []
 
--- "A registered row comes from the directory row that the held row was taken from, and from nothing else."
+-- (rules R8, register-ok) a copy of e with its rights, in the caller's active node; its one source is the first source of e
 unfoldable pub withRegistered : State → ℕ → ℕ → State
 withRegistered st p e =
     let r = rowOf (st .rows) e in
     let x = processAt (st .processes) p in
     withNewRows (copyOf r (st .next) (r .rights) (inNode (x .active)) (r .source) 0 (registeredDepth st e) 0 ∷ st .rows) (suc (st .next)) st
 
--- ---- "`drop e`: e is discarded."
+-- ---- drop
+-- (rules drop-13a, drop-13b) e is a source of some row, or the row that the caller went through
 unfoldable pub inUse : State → ℕ → ℕ → Bool
 inUse st p e = any (λ r. member e (sources r)) (st .rows) || eqb (processAt (st .processes) p .through) e
 
 unfoldable pub refusalsDrop : State → ℕ → ℕ → List Test
 refusalsDrop st p e =
-    -- "a row not in the caller's c-list"
+    -- (rule drop-7) e is not in the caller's c-list
     7 when notHeld st p e
-    -- "Register and drop take no ends"
+    -- (rule drop-8) e is an end
     ∷ 8 when isEnd (rowOf (st .rows) e .kind)
-    -- "drop of a row that another row comes from or that the caller went through"
+    -- (rules drop-13a, drop-13b) e is a source of some row, or the caller is in its active node through e
     ∷ 13 when inUse st p e
     ∷ []
 
--- ---- "`port e`: a port from operation e; client end to the caller, server end to the manager. Answers the client end."
+-- ---- port
+-- (rules R9, R11) one deeper than the operation row
 abbrev pub portDepth : State → ℕ → ℕ
 portDepth st e = depthOver (st .rows) e 0
 
 unfoldable pub refusalsPort : State → ℕ → ℕ → List Test
 refusalsPort st p e =
-    -- "a row not in the caller's c-list"
+    -- (rule port-7) e is not in the caller's c-list
     7 when notHeld st p e
-    -- "wrong kind"
+    -- (rule port-8) e is not an operation
     ∷ 8 when not (isOperation (rowOf (st .rows) e .kind))
-    -- "depth 13"
+    -- (rule port-15) the ends would have depth 13
     ∷ 15 when tooDeep (portDepth st e)
-    -- "too few free rows"
+    -- (rule port-16) fewer than two rows are free
     ∷ 16 when rowsFull st 2
-    -- "too few numbers left"
+    -- (rule port-18) fewer than two numbers are left
     ∷ 18 when numbersSpent st 2
     ∷ []
 
--- "Both ends of a port come from the operation row used. The server end's number is the client end's plus 1."
+-- (rules L1, R9, port-ok) two ends with source e: client end c with the caller, server end c + 1 with the manager that e names
 unfoldable pub portEnd : ℕ → ℕ → ℕ → ℕ → ℕ → ℕ → Row
 portEnd kind n c place e d =
     record { number = n; kind = kind; object = c; operation = 0; rights = 0; place = place; source = e; via = 0; depth = d; request = 0 }
@@ -143,110 +148,114 @@ withPort st p e =
     let server = portEnd serverEnd (suc c) c (inClist (rowOf (st .rows) e .object)) e d in
     withNewRows (server ∷ client ∷ st .rows) (suc (suc c)) st
 
--- ---- "`close c`: the port is destroyed."
+-- ---- close
 unfoldable pub refusalsClose : State → ℕ → ℕ → List Test
 refusalsClose st p c =
-    -- "a row not in the caller's c-list"
+    -- (rule close-7) c is not in the caller's c-list
     7 when notHeld st p c
-    -- "ask and close want a client end"
+    -- (rule close-8) c is not a client end
     ∷ 8 when not (isClient (rowOf (st .rows) c .kind))
-    -- "close of a client end on loan"
+    -- (rule close-12) c is on loan
     ∷ 12 when onLoan (st .requests) c
     ∷ []
 
--- ---- "`ask c (e r) ..`: SELECTRECEIVE with 0 to 4 privileges, each with the rights lent."
+-- ---- ask
+-- (rules ask-9a, ask-9b, L13) a copied item lacks transfer, or the rights lent are not within its row's; an end has rights 0 and needs no right
 unfoldable pub lacksRight : State → Item → Bool
 lacksRight st i =
     let r = itemRow st i in
     (not (moves st i) && not (mayTransfer (r .rights))) || not (within (i .rights) (r .rights))
 
+-- (rules ask-10b, ask-10c) an end of the port c, or of a port with an open request
 unfoldable pub isBusy : State → ℕ → Item → Bool
 isBusy st c i = let port = itemRow st i .object in moves st i && (eqb port c || hasOpen st port)
 
--- "The lowest number that applies, over all items."
+-- (rule F10) each over the port and all items together
 unfoldable pub refusalsAsk : State → ℕ → ℕ → List Item → List Test
 refusalsAsk st p c is =
     let k = length (copies st is) in
-    -- "a row not in the caller's c-list"
+    -- (rules ask-7a, ask-7b) c or an item is not in the caller's c-list
     7 when (notHeld st p c || any (λ i. notHeld st p (i .row)) is)
-    -- "ask and close want a client end"
+    -- (rule ask-8) c is not a client end
     ∷ 8 when not (isClient (rowOf (st .rows) c .kind))
-    -- "ask with a copied item lacking transfer, or rights not within the row's"
+    -- (rules ask-9a, ask-9b) an item lacks a right
     ∷ 9 when any (lacksRight st) is
-    -- "ask where the port has an open request, or an item is an end of that port or of one with an open request"
+    -- (rules ask-10a, ask-10b, ask-10c) the port c has an open request, or an item is an end that is busy
     ∷ 10 when (hasOpen st c || any (isBusy st c) is)
-    -- "depth 13"
+    -- (rule ask-15) a copy would have depth 13
     ∷ 15 when any (λ i. tooDeep (copyDepth st c i)) (copies st is)
-    -- "too few free rows"
+    -- (rule ask-16) fewer rows are free than copies to make
     ∷ 16 when rowsFull st k
-    -- "128 requests open"
+    -- (rule ask-17) 128 requests are open
     ∷ 17 when requestsFull st
-    -- "too few numbers left"
+    -- (rule ask-18) fewer numbers are left than 1 and one for each copy
     ∷ 18 when numbersSpent st (suc k)
     ∷ []
 
--- ---- "`fetch v`: GETDETAILS; the privileges come to the caller."
+-- ---- fetch
 unfoldable pub refusalsFetch : State → ℕ → ℕ → List Test
 refusalsFetch st p e =
     let v = askedOf st e in
-    -- "a row not in the caller's c-list"
+    -- (rule fetch-7) e is not in the caller's c-list
     7 when notHeld st p e
-    -- "fetch, reply and refuse [want] a server end"
+    -- (rule fetch-8) e is not a server end
     ∷ 8 when not (isServer (rowOf (st .rows) e .kind))
-    -- "fetch with no unfetched request"
+    -- (rules fetch-11a, fetch-11b) no request is open on the port, or it is fetched already
     ∷ 11 when (eqb (v .number) 0 || isFetched v)
     ∷ []
 
--- ---- "`reply v`: SEND; closes the request."
--- the ends that a request still lists: they go back when it closes
+-- ---- reply
+-- (rules reply-10, reply-14a, reply-14b) the ends that a request still lists: they go back when it closes
 unfoldable pub lentEnds : State → Request → List ℕ
 lentEnds st v = filter (λ e. goesBack (rowOf (st .rows) e)) (nonzero (v .items))
 
+-- (rules reply-14a, reply-14b) not in the caller's c-list, or listed by a newer request
 unfoldable pub isAway : State → ℕ → Request → ℕ → Bool
 isAway st p v e = notHeld st p e || any (λ w. ltb (v .number) (w .number) && lists e w) (st .requests)
 
 unfoldable pub refusalsReply : State → ℕ → ℕ → List Test
 refusalsReply st p e =
     let v = askedOf st e in
-    -- "a row not in the caller's c-list"
+    -- (rule reply-7) e is not in the caller's c-list
     7 when notHeld st p e
-    -- "fetch, reply and refuse [want] a server end"
+    -- (rule reply-8) e is not a server end
     ∷ 8 when not (isServer (rowOf (st .rows) e .kind))
-    -- "reply where a lent end's port has [an open request]"
+    -- (rule reply-10) an end that the request still lists is of a port with an open request
     ∷ 10 when any (λ x. hasOpen st (rowOf (st .rows) x .object)) (lentEnds st v)
-    -- "reply with no fetched one"
+    -- (rules reply-11a, reply-11b) no request is open on the port, or it is not fetched
     ∷ 11 when (eqb (v .number) 0 || not (isFetched v))
-    -- "reply while a lent end is not with the caller, or is listed in a newer request"
+    -- (rules reply-14a, reply-14b) an end that the request still lists is not in the caller's c-list, or a newer request lists it
     ∷ 14 when any (isAway st p v) (lentEnds st v)
     ∷ []
 
--- ---- "`refuse v`: REFUSE; closes it."
+-- ---- refuse
 unfoldable pub refusalsRefuse : State → ℕ → ℕ → List Test
 refusalsRefuse st p e =
-    -- "a row not in the caller's c-list"
+    -- (rule refuse-7) e is not in the caller's c-list
     7 when notHeld st p e
-    -- "fetch, reply and refuse [want] a server end"
+    -- (rule refuse-8) e is not a server end
     ∷ 8 when not (isServer (rowOf (st .rows) e .kind))
-    -- "refuse with none"
+    -- (rule refuse-11) no request is open on the port
     ∷ 11 when eqb (askedOf st e .number) 0
     ∷ []
 
--- ---- "`revoke q`: REVOKE by the process that asked; closes it."
+-- ---- revoke
 unfoldable pub refusalsRevoke : State → ℕ → ℕ → List Test
 refusalsRevoke st p q =
     let v = requestOf (st .requests) q in
-    -- "revoke: not an open request of the caller's"
+    -- (rules revoke-7a, revoke-7b) q is not an open request, or the caller did not ask it
     7 when (eqb (v .number) 0 || not (eqb (v .asker) p))
     ∷ []
 
--- ---- "`(comes e q)`, with no caller, answers 1 or 0."
+-- ---- comes
 unfoldable pub refusalsComes : State → ℕ → ℕ → List Test
 refusalsComes st e q =
-    -- "comes: no such row or open request"
+    -- (rules comes-7a, comes-7b) no row e stands, or no request q is open
     7 when (eqb (rowOf (st .rows) e .number) 0 || eqb (requestOf (st .requests) q .number) 0)
     ∷ []
 
 -- ---- all twelve
+-- (rule F8) the tests of a call, lowest number first
 unfoldable pub refusals : State → Call → List Test
 refusals st (Go p e) = refusalsGo st p e
 refusals st (Hold p s) = refusalsHold st p s
@@ -261,6 +270,7 @@ refusals st (Refuse p e) = refusalsRefuse st p e
 refusals st (Revoke p q) = refusalsRevoke st p q
 refusals st (Comes e q) = refusalsComes st e q
 
+-- (rule K4) no new number; a new number; what was fetched
 unfoldable pub done : State → Out
 done st = record { answer = Done; after = st }
 
@@ -270,6 +280,7 @@ made n st = record { answer = Made n; after = st }
 unfoldable pub fetchedAnswer : Request → Answer
 fetchedAnswer v = let is = v .items in Fetched (v .number) (getD is 0 0) (getD is 1 0) (getD is 2 0) (getD is 3 0)
 
+-- (rules go-ok, hold-ok, register-ok, drop-ok, port-ok, close-ok, ask-ok-4, fetch-ok, reply-ok, refuse-ok, revoke-ok, comes-ok)
 -- what each answers and does where no test holds
 unfoldable pub effect : State → Call → Out
 effect st (Go p e) = done (if eqb e 0 then goHome st p else goThrough st p e)
@@ -285,10 +296,11 @@ effect st (Refuse p e) = done (closeRequest (askedOf st e .number) st)
 effect st (Revoke p q) = done (closeRequest q st)
 effect st (Comes e q) = record { answer = Told (comesFrom (st .rows) q e); after = st }
 
+-- (rules K5, F8) refused by the lowest number that applies, else carried out
 unfoldable pub perform : State → Call → Out
 perform st c = judge st (refusals st c) (effect st c)
 
--- the caller's number; comes has none
+-- (rule F2) the caller's number; comes has none
 unfoldable pub callerOf : Call → ℕ
 callerOf (Go p e) = p
 callerOf (Hold p s) = p

@@ -14,44 +14,46 @@ use Rattle.calls.specs.declared.Item.{Item}
 use Rattle.calls.specs.declared.Items.{Items}
 use Rattle.calls.specs.Rules.{copyOf}
 
--- the items named, in order
+-- (rule F2) the items named, in order
 unfoldable pub itemsOf : Items → List Item
 itemsOf is = filter (λ i. some (i .row)) (is .first ∷ is .second ∷ is .third ∷ is .fourth ∷ [])
 
 unfoldable pub itemRow : State → Item → Row
 itemRow st i = rowOf (st .rows) (i .row)
 
--- "Operations and subdirectories are copied; ends move."
+-- (rules ask-ok-2, ask-ok-3) an end moves, an operation or subdirectory is copied
 unfoldable pub moves : State → Item → Bool
 moves st i = goesBack (itemRow st i)
 
 unfoldable pub copies : State → List Item → List Item
 copies st is = filter (λ i. not (moves st i)) is
 
--- "A lent copy comes from the lender's row and from the port it was lent over, counted as its client end."
+-- (rules R10, R11) a lent copy has the sources lender's row and client end of the port that it was lent over
 unfoldable pub copyDepth : State → ℕ → Item → ℕ
 copyDepth st c i = depthOver (st .rows) (i .row) c
 
--- "It also bears its request's number.": the copy numbered n, for request v over port c
+-- (rules R10, ask-ok-2) the copy numbered n, with the rights lent, which bears request v, over port c
 unfoldable pub copyLent : State → ℕ → ℕ → ℕ → Item → Row
 copyLent st c v n i = copyOf (itemRow st i) n (i .rights) withSystem (i .row) c (copyDepth st c i) v
 
--- the rows, the list and the next number as the items are lent one after the other
+-- (rule ask-ok-1) the rows, the list and the next number as the items are lent one after the other
 pub record Lending : Type 0 where
   pub rows : List Row
   pub items : List ℕ
   pub next : ℕ
 
--- "All lie with the system until fetched."
+-- (rules L6, ask-ok-3) an end moves to the system, where it lies until it is fetched
 unfoldable pub toSystem : ℕ → Row → Row
 toSystem e r = if eqb (r .number) e then withPlace withSystem r else r
 
 unfoldable pub lendEnd : Item → Lending → Lending
 lendEnd i l = record { rows = map (toSystem (i .row)) (l .rows); items = l .items ++ (i .row ∷ []); next = l .next }
 
+-- (rules L6, ask-ok-2) a copy is made with the system; the lender's row stays
 unfoldable pub lendCopy : State → ℕ → ℕ → Item → Lending → Lending
 lendCopy st c v i l = record { rows = copyLent st c v (l .next) i ∷ l .rows; items = l .items ++ (l .next ∷ []); next = suc (l .next) }
 
+-- (rule ask-ok-4) the list has copies and ends in the order of the items
 unfoldable pub lendItem : State → ℕ → ℕ → Item → Lending → Lending
 lendItem st c v i l = if moves st i then lendEnd i l else lendCopy st c v i l
 
@@ -59,10 +61,11 @@ unfoldable pub lendItems : State → ℕ → ℕ → List Item → Lending → L
 lendItems st c v [] l = l
 lendItems st c v (i ∷ is) l = lendItems st c v is (lendItem st c v i l)
 
--- "Takes the request's number, then one for each copy in order."
+-- (rule ask-ok-1) the request takes the next number, then each copy takes one
 unfoldable pub lent : State → ℕ → List Item → Lending
 lent st c is = lendItems st c (st .next) is (record { rows = st .rows; items = []; next = suc (st .next) })
 
+-- (rules L3, L10, ask-ok-4) open, not fetched, on port c, asked by p
 unfoldable pub newRequest : ℕ → ℕ → ℕ → List ℕ → Request
 newRequest v c p is = record { number = v; port = c; asker = p; fetched = waitingMark; items = pad 0 mostItems is }
 
@@ -71,7 +74,7 @@ withRequest st p c is =
     let l = lent st c is in
     withRows (l .rows) (withRequests (newRequest (st .next) c p (l .items) ∷ st .requests) (withNext (l .next) st))
 
--- "GETDETAILS; the privileges come to the caller."
+-- (rules L6, fetch-ok) every item that the request lists goes to the caller's c-list, and the request is fetched
 unfoldable pub handedTo : ℕ → Request → Row → Row
 handedTo p v r = if lists (r .number) v then withPlace (inClist p) r else r
 

@@ -15,13 +15,13 @@ use Rattle.rows.specs.Setters.{withRows, withProcesses, withNext}
 use Rattle.calls.specs.declared.Answer.{Answer}
 use Rattle.calls.specs.declared.Answer.the-variants.{Refused}
 
--- what a call answers and the state after it
+-- (rule K2) what a call answers and the state after it
 pub record Out : Type 0 where
   pub answer : Answer
   pub after : State
 
 -- ---- refusals
--- a test of the state, and the number of the refusal where it holds
+-- (rule F8) a test of the state, and the number of the refusal where it holds
 pub record Test : Type 0 where
   pub number : ℕ
   pub holds : Bool
@@ -30,58 +30,58 @@ infix 70 _when_
 abbrev pub _when_ : ℕ → Bool → Test
 k when b = record { number = k; holds = b }
 
--- the numbers of the refusals of a line or of the state; 1 is for words that are no sound tables
+-- (rules K5, F9) the numbers of the refusals of a line or of the state; 1 is for words that are no sound tables
 abbrev pub isRefusal : ℕ → Bool
 isRefusal k = leb 2 k && leb k 18
 
--- "The lowest number that applies": that of the first test that holds, 0 if none does; tests stand lowest number first
+-- (rule F8) the lowest number that applies: that of the first test that holds, 0 if none does; tests stand lowest number first
 unfoldable pub lowest : List Test → ℕ
 lowest [] = 0
 lowest (t ∷ ts) = if t .holds then t .number else lowest ts
 
--- "Answer `(no k)`, tables untouched"
+-- (rule K5) a refused call leaves the state as it was
 unfoldable pub refused : State → ℕ → Out
 refused st k = record { answer = Refused k; after = st }
 
--- refused by the first test that holds, else what follows
+-- (rule F8) refused by the first test that holds, else what follows
 unfoldable pub judge : State → List Test → Out → Out
 judge st ts other = let k = lowest ts in if eqb k 0 then other else refused st k
 
 -- ---- what the tests ask
--- 7: "a row not in the caller's c-list"; also what is no row
+-- (rule F11) 7: not in the caller's c-list; what names no row is in none
 unfoldable pub notHeld : State → ℕ → ℕ → Bool
 notHeld st p e = not (eqb (rowOf (st .rows) e .place) (inClist p))
 
--- 10: the port, counted as its client end, has an open request
+-- (rule L4) 10: the port, named by its client end, has an open request
 unfoldable pub hasOpen : State → ℕ → Bool
 hasOpen st c = some (openOn (st .requests) c .number)
 
--- the request that the server of a port sees at its end e: the one open on the port
+-- (rules L1, L4) the request that the server of a port sees at its end e: the one open on the port
 unfoldable pub askedOf : State → ℕ → Request
 askedOf st e = openOn (st .requests) (rowOf (st .rows) e .object)
 
--- 15: "depth 13"
+-- (rule X6) 15: depth 13
 unfoldable pub tooDeep : ℕ → Bool
 tooDeep d = ltb greatestDepth d
 
--- 16: "too few free rows"
+-- (rules X7, X10, X11, X14) 16: fewer than k rows are free; rows that went do not count
 unfoldable pub rowsFull : State → ℕ → Bool
 rowsFull st k = ltb rowSlots (length (st .rows) + k)
 
--- 17: "128 requests open"
+-- (rules X8, X12) 17: 128 requests are open
 unfoldable pub requestsFull : State → Bool
 requestsFull st = leb requestSlots (length (st .requests))
 
--- 18: "too few numbers left"
+-- (rules X9, X13) 18: fewer than k numbers are left; 1,000,000 is given
 unfoldable pub numbersSpent : State → ℕ → Bool
 numbersSpent st k = ltb (suc greatestNumber) (st .next + k)
 
 -- ---- changes of the state that calls share
--- new rows in front of the old ones, and the next number after theirs
+-- (rule R5) new rows in front of the old ones, and the next number after theirs
 unfoldable pub withNewRows : List Row → ℕ → State → State
 withNewRows rs n st = withRows rs (withNext n st)
 
--- a copy of r with number n, in a place, from two sources (0 for none)
+-- (rules R7, R8, R10) a copy of r with number n, in a place, from two sources (0 for none)
 unfoldable pub copyOf : Row → ℕ → ℕ → ℕ → ℕ → ℕ → ℕ → ℕ → Row
 copyOf r n rights place source via depth request =
     record {
@@ -97,6 +97,6 @@ copyOf r n rights place source via depth request =
       request = request;
     }
 
--- the records with that of process p, element p - 1, replaced
+-- (rule W5) the records with that of process p, element p - 1, replaced
 unfoldable pub withRecord : ℕ → Process → State → State
 withRecord p x st = withProcesses (set (st .processes) (p - 1) x) st

@@ -135,12 +135,12 @@ module _ (st : State) (s : Sound st) (n : ℕ) (e : isNode (rowOf (st .rows) n .
   effect-stays (Revoke p q) a = request-stays q (a .number)
   effect-stays (Comes d q) a = t
 
--- a row in a node of sound tables is there after every call line
+-- (rule P8) a row in a node of sound tables is there after every call line
 pub nodes-never-vanish : (st : State) → Sound st → (n : ℕ) → isNode (rowOf (st .rows) n .place) ≡ true → (line : List ℕ) → member n (numbers (callOn st line .after .rows)) ≡ true
 unfolding refused
 nodes-never-vanish st s n e line = let t = node-there (st .rows) n e in line-has (Stays n) st s (λ k r. t) line (effect-stays st s n e t)
 
--- ---- the rights of a copy are within those of the row it was copied from, for every row of a session
+-- ---- (rule P9) the row that a copy was made from stands, and has every right of the copy, for every row of a session
 pub rights-never-grow : (t p text : List ℕ) → accepts (openEntry t p text .reply) ≡ true → (lines : List (List ℕ)) (n : ℕ) →
     let rows = stateIn (lentAfter (openEntry t p text) lines) .rows in
     member n (numbers rows) ≡ true → isEnd (rowOf rows n .kind) ≡ false → some (rowOf rows n .source) ≡ true

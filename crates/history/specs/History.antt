@@ -1,32 +1,32 @@
--- The records of the history, and each with one field changed.
+-- The records of the history (docs/MANUAL.md, 10.1), and each with one field changed.
 use Prim.Native.Nat.{ℕ}
 use mathlib.Core.List.{List}
 
--- a row noted: its sources, the request that it bears and the port that it is an end of, 0 for none
+-- (rule H2) a row noted: its sources, the request that it bears and the port that it is an end of, 0 for none
 pub record Noted : Type 0 where
   pub number : ℕ
   pub sources : List ℕ
   pub request : ℕ
   pub port : ℕ
 
--- "request v, lender p, port c, the ends named"
+-- (rule H2) a request noted: its lender, its port, the ends among its items
 pub record Loan : Type 0 where
   pub number : ℕ
   pub lender : ℕ
   pub port : ℕ
   pub ends : List ℕ
 
--- "Each process's last accepted `go` is kept."
+-- (rule H2) where a process went; a later `go` takes its place
 pub record Went : Type 0 where
   pub process : ℕ
   pub through : ℕ
 
--- a request has an end on loan
+-- (rule H6) a request has an end on loan
 pub record OnLoan : Type 0 where
   pub request : ℕ
   pub lent : ℕ
 
--- All newest first. `text`: the rows of the text. `dropped`, `closedPorts`, `closedRequests`: by a call.
+-- (rule H1) all newest first. `text`: the rows of the text. `dropped`, `closedPorts`, `closedRequests`: by a call.
 pub record History : Type 0 where
   pub text : List ℕ
   pub rows : List Noted
@@ -37,7 +37,7 @@ pub record History : Type 0 where
   pub went : List Went
   pub loans : List OnLoan
 
--- ---- a history with one field changed: it is changed by these alone
+-- ---- (rule H2) a history with one field changed: it is changed by these alone
 abbrev pub withNotedRows : List Noted → History → History
 withNotedRows rs h =
     record {

@@ -1,4 +1,4 @@
--- The history: what each accepted call notes. It is fed text, lines and answers, and reads no table.
+-- The history: what each accepted call notes (docs/MANUAL.md, 10.1). It is fed text, lines and answers, and reads no table.
 use Prim.Native.Nat.{ℕ, suc, pred}
 use mathlib.Core.Bool.{Bool, not, _&&_, _||_}
 use mathlib.Core.List.{List, [], _∷_, _++_, map}
@@ -8,6 +8,7 @@ use Rattle.calls.specs.declared.Item.{Item}
 use Rattle.history.specs.History.{Noted, Loan, Went, OnLoan, History, withNotedRows, withNotedRequests, withDropped, withClosedPorts, withClosedRequests, withWent, withLoans}
 
 -- ---- look-up
+-- (rule H2) rows and requests noted, by number
 unfoldable pub noted : List Noted → List ℕ
 noted rs = map (λ r. r .number) rs
 
@@ -24,16 +25,16 @@ unfoldable pub loanOf : List Loan → ℕ → Loan
 loanOf vs q = firstWith (λ v. v .number) noLoan vs q
 
 -- ---- which rows stand and which requests are closed, computed for the notes; Chains.antt has what these words mean
--- dropped, or bears a request or is an end of a port closed by a call
+-- (rules H3, H5) dropped, or bears a request or is an end of a port closed by a call
 unfoldable pub spoiled : History → Noted → Bool
 spoiled h r =
     member (r .number) (h .dropped)
     || ((some (r .request) && member (r .request) (h .closedRequests)) || (some (r .port) && member (r .port) (h .closedPorts)))
 
+-- (rules H4, H5) from the oldest row on: those of which f does not hold and whose sources are left
 unfoldable pub survives : (Noted → Bool) → List ℕ → Noted → Bool
 survives f left r = not (f r) && all (λ s. member s left) (r .sources)
 
--- from the oldest row on: those of which f does not hold and whose sources are left
 unfoldable pub sweep : (Noted → Bool) → List Noted → List Noted
 sweep f [] = []
 sweep f (r ∷ rs) = let left = sweep f rs in if survives f (noted left) r then r ∷ left else left
@@ -44,22 +45,23 @@ standing h = sweep (spoiled h) (h .rows)
 unfoldable pub stands : History → ℕ → Bool
 stands h n = member n (noted (standing h))
 
--- closed by a call, or its port is closed: its client end stands no longer
+-- (rule H4) closed by a call, or its port is closed: its client end stands no longer
 unfoldable pub isClosed : History → Loan → Bool
 isClosed h v = member (v .number) (h .closedRequests) || not (stands h (v .port))
 
 unfoldable pub openLoans : History → List Loan
 openLoans h = filter (λ v. not (isClosed h v)) (h .requests)
 
--- the request open on a port, 0 for none
+-- (rule H2) the request open on a port, 0 for none
 unfoldable pub openRequest : History → ℕ → ℕ
 openRequest h c = firstWith (λ v. v .port) noLoan (openLoans h) c .number
 
--- ---- "A request has an end it names on loan until that end stands no longer, or until it, or an older one with that end on loan, closes."
+-- ---- loans
+-- (rule H6) a loan is over when its end stands no more, when its request is closed, or when an older one that has the end on loan is
 unfoldable pub isClosedNow : History → OnLoan → Bool
 isClosedNow h o = isClosed h (loanOf (h .requests) (o .request))
 
--- older: the older requests that had ends on loan
+-- (rule H6) older: the older requests that had ends on loan
 unfoldable pub staysOnLoan : History → List OnLoan → OnLoan → Bool
 staysOnLoan h older o =
     stands h (o .lent) && (not (isClosedNow h o) && not (any (λ x. eqb (x .lent) (o .lent) && isClosedNow h x) older))
@@ -68,14 +70,16 @@ unfoldable pub loansLeft : History → List OnLoan → List OnLoan
 loansLeft h [] = []
 loansLeft h (o ∷ older) = if staysOnLoan h older o then o ∷ loansLeft h older else loansLeft h older
 
--- ends whose loan is over go from the list
+-- (rule H6) ends whose loan is over go from the list
 unfoldable pub loansSettled : History → History
 loansSettled h = withLoans (loansLeft h (h .loans)) h
 
 -- ---- notes
+-- (rule H2) a row n, with its sources, the request that it bears, the port that it is an end of
 unfoldable pub addRow : ℕ → List ℕ → ℕ → ℕ → History → History
 addRow n ss q c h = withNotedRows (record { number = n; sources = ss; request = q; port = c } ∷ h .rows) h
 
+-- (rule H2) `go e`: that p went to e
 unfoldable pub wentNowhere : Went
 wentNowhere = record { process = 0; through = 0 }
 
@@ -85,14 +89,14 @@ lastGo ws p = firstWith (λ w. w .process) wentNowhere ws p .through
 unfoldable pub noteGo : ℕ → ℕ → History → History
 noteGo p e h = withWent (record { process = p; through = e } ∷ h .went) h
 
--- "row n with source s, and e too if p's last `go` was `go e` and e stands"
+-- (rule H2) `hold s`: row n, source s; and a second source e, if p went to e last, e is not 0, and e stands
 unfoldable pub heldSources : History → ℕ → ℕ → List ℕ
 heldSources h p s = let e = lastGo (h .went) p in if some e && stands h e then s ∷ e ∷ [] else s ∷ []
 
 unfoldable pub noteHold : ℕ → ℕ → ℕ → History → History
 noteHold p s n h = addRow n (heldSources h p s) 0 0 h
 
--- "row n with e's first source"
+-- (rule H2) `register e`: row n, its source the first source of e
 unfoldable pub firstOnly : List ℕ → List ℕ
 firstOnly [] = []
 firstOnly (s ∷ ss) = s ∷ []
@@ -100,11 +104,11 @@ firstOnly (s ∷ ss) = s ∷ []
 unfoldable pub noteRegister : ℕ → ℕ → History → History
 noteRegister e n h = addRow n (firstOnly (notedOf (h .rows) e .sources)) 0 0 h
 
--- "port n, its ends n and n + 1 with source e"
+-- (rule H2) `port e`: port n, its ends n and n + 1, source e
 unfoldable pub notePort : ℕ → ℕ → History → History
 notePort e n h = addRow (suc n) (e ∷ []) 0 n (addRow n (e ∷ []) 0 n h)
 
--- "request v, lender p, port c, the ends named. For the other items, copies v + 1 and on, bearing v, with sources their row and c."
+-- (rule H2) `ask c ..`: request v, lender p, on port c, with the ends among its items; the other items are rows v + 1 and on, bearing v, sources item and c
 unfoldable pub isEndNoted : List Noted → Item → Bool
 isEndNoted rs i = some (notedOf rs (i .row) .port)
 
@@ -125,7 +129,7 @@ noteAsk p c is v h =
     (withNotedRequests (record { number = v; lender = p; port = c; ends = es } ∷ h .requests)
     (withLoans (map (λ e. record { request = v; lent = e }) es ++ h .loans) h))
 
--- "`drop e`: e dropped. `close c`: port c closed. `revoke q`: q closed."
+-- (rule H2) `drop e`: e is dropped; `close c`: port c is closed; `revoke q`: request q is closed
 unfoldable pub noteDrop : ℕ → History → History
 noteDrop e h = withDropped (e ∷ h .dropped) h
 
@@ -135,6 +139,6 @@ noteClose c h = withClosedPorts (c ∷ h .closedPorts) h
 unfoldable pub noteRevoke : ℕ → History → History
 noteRevoke q h = withClosedRequests (q ∷ h .closedRequests) h
 
--- "`reply v`, `refuse v`: the open request on port v - 1 closed."
+-- (rule H2) `reply v`, `refuse v`: the request open on port v - 1 is closed
 unfoldable pub noteEnd : ℕ → History → History
 noteEnd v h = noteRevoke (openRequest h (pred v)) h

@@ -17,13 +17,14 @@ use Rattle.text.specs.Opening.{Form, nodeForm, processForm, Opening, opens, ref
 use Rattle.history.specs.History.{Noted, History}
 use Rattle.history.specs.Notes.{loansSettled, noteGo, noteHold, noteRegister, notePort, noteAsk, noteDrop, noteClose, noteRevoke, noteEnd}
 
--- ---- "It begins with the rows of the text, numbered as there."
+-- ---- at first
+-- (rules H1, O5) the rows of the text, numbered as there
 unfoldable pub entryCount : List Form → ℕ
 entryCount [] = 0
 entryCount (nodeForm n es ∷ fs) = entryCount fs + length es
 entryCount (processForm p n ∷ fs) = entryCount fs
 
--- k, k - 1, .. 1
+-- (rule H1) k, k - 1, .. 1
 unfoldable pub downFrom : ℕ → List ℕ
 downFrom zero = []
 downFrom (suc k) = suc k ∷ downFrom k
@@ -42,17 +43,19 @@ begunBy (refusedAt k n) = begunWith []
 unfoldable pub begun : List ℕ → History
 begun text = begunBy (openingOf (linesOf text))
 
--- ---- an answer: `(ok n ..)` accepts, and n is what is noted
+-- ---- an answer
+-- (rules H1, K4) `(ok n ..)` accepts, and n is what is noted
 unfoldable pub answerRead : List ℕ → Read
 answerRead reply = form reply 0 "(ok #"
 
 unfoldable pub accepts : List ℕ → Bool
 accepts reply = answerRead reply .good
 
+-- (rule H2) the items of an ask
 unfoldable pub itemsNamed : Items → List Item
 itemsNamed is = filter (λ i. some (i .row)) (is .first ∷ is .second ∷ is .third ∷ is .fourth ∷ [])
 
--- "Refused lines, `fetch` and `comes` note nothing. .. The other accepted calls of p note:"
+-- (rules H1, H2) what an accepted call adds; refused lines, `fetch` and `comes` add nothing
 unfoldable pub noteCall : Call → ℕ → History → History
 noteCall (Go p e) n h = noteGo p e h
 noteCall (Hold p s) n h = noteHold p s n h
@@ -72,11 +75,11 @@ noteReading (Asks c) n h = loansSettled (noteCall c n h)
 noteReading (Crowded p) n h = h
 noteReading (Refused k) n h = h
 
--- the history after a line and its answer
+-- (rule H1) the history after a line and its answer
 unfoldable pub noteLine : History → List ℕ → List ℕ → History
 noteLine h line reply = let r = answerRead reply in if r .good then noteReading (readingOf line) (r .c) h else h
 
--- the history after lines and their answers
+-- (rule H1) the history after lines and their answers
 unfoldable pub historyAfter : History → List (List ℕ) → List (List ℕ) → History
 historyAfter h [] replies = h
 historyAfter h (l ∷ ls) [] = h

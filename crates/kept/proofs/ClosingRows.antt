@@ -123,7 +123,7 @@ module _ (g : List ℕ) (f : Request → Bool) (st : State) (s : Sound st) (c : 
       (none-zero (st .requests) (s .numbers .requests-rise) (rowOf (st .rows) n .request) h)))
       (true-or-false (some (rowOf (st .rows) n .request)))
 
-  -- ---- "Sources are standing, of the kind above and older"
+  -- ---- (rule S13) each row is one of five
   sources-right-kept : sourcesRight (settled g f st .requests) (settled g f st .rows) ≡ true
   unfolding sourcesRight returned
   sources-right-kept = unfold settled in sourced-kept (hasRightSources (st .requests)) (hasRightSources left) at-row (s .rows .sources-right)
@@ -157,7 +157,7 @@ module _ (g : List ℕ) (f : Request → Bool) (st : State) (s : Sound st) (c : 
               (or-l (isEnd (row n .kind)) (some (row n .request)) h) stays
           elsewhere false h = stays
 
-  -- ---- "Ends stand in pairs."
+  -- ---- (rule S17) ends stand in pairs
   ends-paired-kept : endsPaired (settled g f st .rows) ≡ true
   unfolding endsPaired endPaired isPairedWith otherEnd withPlace
   ends-paired-kept = all-left g f st (endPaired (st .rows)) (endPaired (settled g f st .rows)) (s .numbers .rows-rise) at-row (s .rows .ends-paired)
@@ -176,7 +176,7 @@ module _ (g : List ℕ) (f : Request → Bool) (st : State) (s : Sound st) (c : 
               ap (isPairedWith r) (row-after g f st o (c .other-end-stays n t h k)) ∙ returned-keeps (isPairedWith r) (λ p x. refl) f (st .requests) (rowOf (st .rows) o) ∙ e
           pick false h e = refl
 
-  -- ---- "A copy is newer than the open request whose number it bears, and listed there."
+  -- ---- (rule S24) a copy is newer than its request, which lists it
   still-listed : (n : ℕ) → Stands st n → member n g ≡ false → some (rowOf (st .rows) n .request) ≡ true → lists n (requestOf (remaining f g (st .requests)) (rowOf (st .rows) n .request)) ≡ true
   unfolding leaves listedIn
   still-listed n t k h = ap (lists n) (request-left n t k h) ∙ trimmed-lists f g older v n ∙ and-i (lists n v) (not (leaves f g older n)) (copy-listed st s n t h) (ap not stays)

@@ -1,4 +1,4 @@
--- On sound tables closing in one pass is closing step by step, "until nothing more is removed": one round finds all of it.
+-- (rule P11) On sound tables closing in one pass is closing round after round until nothing more is removed: one round finds all of it.
 use Prim.Native.Nat.{ℕ, zero, suc}
 use mathlib.Core.Bool.{Bool, true, false, not, _&&_, _||_}
 use mathlib.Core.List.{List, [], _∷_, map}

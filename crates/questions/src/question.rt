@@ -1,5 +1,5 @@
 // The questions that go back along the sources: does a row come from a request, is it lent; and is an end on loan.
-// "A copy goes when the port under it goes, and a port goes when its operation row goes":
+// (rules R9, R10) A copy goes when the port under it goes, and a port goes when its operation row goes:
 // row question and port question call each other, and the depth falls.
 use rows::codes::GREATEST_DEPTH;
 use rows::codes::is_end;

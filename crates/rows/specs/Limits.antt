@@ -1,7 +1,7 @@
--- The limits of document 01, each defined once.
+-- The limits (docs/MANUAL.md, chapter 8), each defined once.
 use Prim.Native.Nat.{ℕ}
 
--- "Processes are 1 to 64, nodes 1 to 32, operations 0 to 255."
+-- (rule X1) processes are 1 to 64, nodes 1 to 32, operations 0 to 255
 unfoldable pub processes : ℕ
 processes = 64
 
@@ -11,33 +11,33 @@ nodes = 32
 unfoldable pub greatestOperation : ℕ
 greatestOperation = 255
 
--- "Rights (capcaps) are a sum of hold 1, transfer 2 and register 4, so 0 to 7."
+-- (rules R3, X2) rights are 0 to 7: hold 1, transfer 2 and register 4, added up
 unfoldable pub allRights : ℕ
 allRights = 7
 
--- "Rows and requests take numbers from one counter, 1 to 1,000,000, never given again."
+-- (rules R5, X9) one counter, from 1 to 1,000,000, numbers rows and requests alike; a number is given once
 unfoldable pub greatestNumber : ℕ
 greatestNumber = 1000000
 
--- "At most 1,024 rows and 128 open requests stand"
+-- (rules X7, X8) at most 1,024 rows stand, and at most 128 requests are open
 unfoldable pub rowSlots : ℕ
 rowSlots = 1024
 
 unfoldable pub requestSlots : ℕ
 requestSlots = 128
 
--- "Depth is 1 plus the greatest depth among the sources, at most 12."
+-- (rules R11, X6) no row is deeper than 12
 unfoldable pub greatestDepth : ℕ
 greatestDepth = 12
 
--- "at most 4 items"
+-- (rules L3, X5) a request lists at most four items
 unfoldable pub mostItems : ℕ
 mostItems = 4
 
--- "0 to 16 entries"
+-- (rules O2, X4) a node form has at most 16 entries
 unfoldable pub mostEntries : ℕ
 mostEntries = 16
 
--- "at most 255 bytes before the line feed"
+-- (rules T1, X3) a line has at most 255 bytes before its line feed
 unfoldable pub mostBytes : ℕ
 mostBytes = 255

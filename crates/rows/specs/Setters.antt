@@ -20,6 +20,7 @@ abbrev pub withNext : ℕ → State → State
 withNext n st = record { rows = st .rows; requests = st .requests; processes = st .processes; next = n }
 
 -- ---- a row
+-- (rule R12) of a row that stands nothing changes but its place
 unfoldable pub withPlace : ℕ → Row → Row
 withPlace p r =
     record {
@@ -35,6 +36,7 @@ withPlace p r =
       request = r .request;
     }
 
+-- (rule W8) sources as slots, and back
 unfoldable pub withSources : ℕ → ℕ → Row → Row
 withSources s v r =
     record {

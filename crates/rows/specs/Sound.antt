@@ -1,4 +1,4 @@
--- Sound tables: a named definition for each clause of that paragraph of document 01, and their conjunction.
+-- Sound tables (docs/MANUAL.md, chapter 6): a named definition for each of the 27 clauses, and their conjunction in five parts.
 use Prim.Native.Nat.{ℕ, suc, pred, max}
 use mathlib.Core.Bool.{Bool, true, false, not, _&&_, _||_}
 use mathlib.Core.List.{List, [], _∷_, map}
@@ -13,32 +13,37 @@ use Rattle.rows.specs.Codes.{isOperation, isSubdirectory, isClient, isSe
 use Rattle.rows.specs.Tables.{State, rowOf, requestOf, isListed, numbers, lists, goesBack}
 
 -- ==== numbers: of the next number, rows and requests
--- "Row and request numbers rise, are never shared and are below the next number, which is at most 1,000,001."
+-- (rule S1) row numbers are above 0 and rise
 unfoldable pub rowsRise : List Row → Bool
 rowsRise rows = rises (λ r. r .number) rows
 
+-- (rule S2) request numbers are above 0 and rise
 unfoldable pub requestsRise : List Request → Bool
 requestsRise requests = rises (λ v. v .number) requests
 
+-- (rule S3) no request has the number of a row
 unfoldable pub numbersApart : List Row → List Request → Bool
 numbersApart rows requests = all (λ v. not (member (v .number) (numbers rows))) requests
 
+-- (rule S4) every number is below the next number
 unfoldable pub belowNext : ℕ → List Row → List Request → Bool
 belowNext next rows requests = ltb (topOf (λ r. r .number) rows) next && ltb (topOf (λ v. v .number) requests) next
 
+-- (rule S5) the next number is 1 to 1,000,001
 unfoldable pub nextInRange : ℕ → Bool
 nextInRange next = between 1 (suc greatestNumber) next
 
--- "At most 1,024 rows and 128 open requests stand"
+-- (rule S6) at most 1,024 rows stand
 unfoldable pub rowsFit : List Row → Bool
 rowsFit rows = leb (length rows) rowSlots
 
+-- (rule S7) at most 128 requests are open
 unfoldable pub requestsFit : List Request → Bool
 requestsFit requests = leb (length requests) requestSlots
 
 -- ==== rows: of rows, requests and processes
--- "All fields are in range; processes that are places or managers are listed (of a node, being in range is all that is asked)."
--- an operation row names a listed manager and an operation, a subdirectory row a node, an end its port; a field that a kind does not use is 0
+-- (rule S9) one of the four kinds. An operation row names a listed manager and an operation of at most 255, a subdirectory row
+-- a node from 1 to 32, an end its port; only an operation row has an operation other than 0
 unfoldable pub objectInRange : List Process → Row → Bool
 objectInRange ps r =
     (isOperation (r .kind) && (isListed ps (r .object) && leb (r .operation) greatestOperation))
@@ -49,32 +54,33 @@ objectInRange ps r =
 unfoldable pub objectsInRange : List Process → List Row → Bool
 objectsInRange ps rows = all (objectInRange ps) rows
 
--- "Ends have rights 0."
+-- (rule S10) the rights of an operation or subdirectory are at most 7, those of an end 0
 unfoldable pub rightInRange : Row → Bool
 rightInRange r = leb (r .rights) (if isEnd (r .kind) then 0 else allRights)
 
 unfoldable pub rightsInRange : List Row → Bool
 rightsInRange rows = all rightInRange rows
 
+-- (rule S11) a place is a node from 1 to 32, given in the text or not, the c-list of a listed process, or the system
 unfoldable pub placeInRange : List Process → Row → Bool
 placeInRange ps r = isNode (r .place) || ((isClist (r .place) && isListed ps (ownerOf (r .place))) || isSystem (r .place))
 
 unfoldable pub placesInRange : List Process → List Row → Bool
 placesInRange ps rows = all (placeInRange ps) rows
 
--- the source and the second source of a row, looked up among the older rows rs
+-- (rule S13) the source and the second source of a row, looked up among the older rows rs: a source must stand and be older
 abbrev pub sourceOf : List Row → Row → Row
 sourceOf rs r = rowOf rs (r .source)
 
 abbrev pub viaOf : List Row → Row → Row
 viaOf rs r = rowOf rs (r .via)
 
--- a test of each row, its source and its second source
+-- (rules S13, S14, S15) a test of each row, its source and its second source
 unfoldable pub sourced : (Row → Row → Row → Bool) → List Row → Bool
 sourced F rows = each (λ r rs. F r (sourceOf rs r) (viaOf rs r)) rows
 
--- "Only opening and registered rows are in nodes." "Sources are standing, of the kind above and older":
--- each row is one of five (open point 26); s is its source, v its second source
+-- (rule S13) each row is one of five, opening, registered, held, end or lent copy; s is its source, v its second source.
+-- Of the sources no more is asked than this
 unfoldable pub isOpening : Row → Bool
 isOpening r = isNode (r .place) && (isCopied (r .kind) && (eqb (r .source) 0 && (eqb (r .via) 0 && eqb (r .request) 0)))
 
@@ -89,7 +95,7 @@ isHeld r s v =
 unfoldable pub isPortEnd : Row → Row → Bool
 isPortEnd r s = isEnd (r .kind) && (not (isNode (r .place)) && (isOperation (s .kind) && (eqb (r .via) 0 && eqb (r .request) 0)))
 
--- its second source is the client end of the port of the request that it bears
+-- (rule S13) its second source is the client end of the port of the open request whose number it bears
 unfoldable pub isLentCopy : List Request → Row → Row → Row → Bool
 isLentCopy vs r s v =
     some (r .request)
@@ -105,7 +111,7 @@ sourceRight vs r rs = hasRightSources vs r (sourceOf rs r) (viaOf rs r)
 unfoldable pub sourcesRight : List Request → List Row → Bool
 sourcesRight vs rows = sourced (hasRightSources vs) rows
 
--- "depths are right"; "at most 12"
+-- (rule S14) every depth is 1 plus the greatest depth of the sources, and at most 12
 unfoldable pub hasRightDepth : Row → Row → Row → Bool
 hasRightDepth r s v = eqb (r .depth) (suc (max (s .depth) (v .depth))) && leb (r .depth) greatestDepth
 
@@ -115,7 +121,7 @@ depthRight r rs = hasRightDepth r (sourceOf rs r) (viaOf rs r)
 unfoldable pub depthsRight : List Row → Bool
 depthsRight rows = sourced hasRightDepth rows
 
--- "a copy has its row's kind and object, and rights within it" (of held, registered and lent rows, open point 28)
+-- (rule S15) a held, registered or lent row has its first source's kind, object and operation, and rights within its
 unfoldable pub matchesSource : Row → Row → Row → Bool
 matchesSource r s v =
     eqb (r .source) 0
@@ -128,11 +134,11 @@ copyMatches r rs = matchesSource r (sourceOf rs r) (viaOf rs r)
 unfoldable pub copiesMatch : List Row → Bool
 copiesMatch rows = sourced matchesSource rows
 
--- "Ends stand in pairs." Client n, server n + 1, with the same source (open point 29)
+-- (rule S17) ends stand in pairs: client n and server n + 1, of one port, with the same source
 unfoldable pub isPairedWith : Row → Row → Bool
 isPairedWith a b = isEnd (b .kind) && (eqb (a .object) (b .object) && eqb (a .source) (b .source))
 
--- the other end of a port has the number n + 1 for a client end n, n - 1 for a server end n
+-- (rule S17) the other end of a port has the number n + 1 for a client end n, n - 1 for a server end n
 unfoldable pub otherEnd : Row → ℕ
 otherEnd r = if isClient (r .kind) then suc (r .number) else pred (r .number)
 
@@ -143,41 +149,44 @@ unfoldable pub endsPaired : List Row → Bool
 endsPaired rows = all (endPaired rows) rows
 
 -- ==== loans: of rows, requests and processes
--- "All fields are in range"
+-- (rule S12) a request's mark is 0 or 1
 abbrev pub markInRange : Request → Bool
 markInRange v = leb (v .fetched) greatestMark
 
 unfoldable pub fetchedInRange : List Request → Bool
 fetchedInRange requests = all markInRange requests
 
--- "Each open request is newer than its standing port and its ends, has a listed requester and at most 4 items, none twice, only ends and copies as above; a port has one at most."
+-- (rule S18) a request's port is a standing client end c, and the request is newer than both ends, c and c + 1
 unfoldable pub portStands : List Row → Request → Bool
 portStands rs v = isClient (rowOf rs (v .port) .kind) && ltb (suc (v .port)) (v .number)
 
 unfoldable pub portsStand : List Row → List Request → Bool
 portsStand rows requests = all (portStands rows) requests
 
+-- (rule S19) its asker is a listed process
 unfoldable pub requestersListed : List Process → List Request → Bool
 requestersListed ps requests = all (λ v. isListed ps (v .asker)) requests
 
--- the list has four positions, 0 for an item that is not there
+-- (rule S20) its list has four positions, 0 for an item that is not there
 unfoldable pub itemsFew : List Request → Bool
 itemsFew requests = all (λ v. eqb (length (v .items)) mostItems) requests
 
+-- (rule S21) no list has one item twice
 unfoldable pub itemsApart : List Request → Bool
 itemsApart requests = all (λ v. distinct (nonzero (v .items))) requests
 
--- an end older than the request, or a copy that bears its number
+-- (rule S22) an item is an end older than the request, of any port, or a copy that bears its number
 unfoldable pub mayBeListed : Request → Row → Bool
 mayBeListed v r = (goesBack r && ltb (r .number) (v .number)) || (some (r .request) && eqb (r .request) (v .number))
 
 unfoldable pub itemsLent : List Row → List Request → Bool
 itemsLent rows requests = all (λ v. all (λ e. mayBeListed v (rowOf rows e)) (nonzero (v .items))) requests
 
+-- (rule S23) no two open requests are on one port
 unfoldable pub onePerPort : List Request → Bool
 onePerPort requests = distinct (map (λ v. v .port) requests)
 
--- "A copy is newer than the open request whose number it bears, and listed there."
+-- (rule S24) a row that bears a request's number is newer than that request, which is open and lists the row
 unfoldable pub copyListed : List Request → Row → Bool
 copyListed vs r = eqb (r .request) 0 || (ltb (r .request) (r .number) && lists (r .number) (requestOf vs (r .request)))
 
@@ -185,19 +194,18 @@ unfoldable pub copiesListed : List Request → List Row → Bool
 copiesListed vs rows = all (copyListed vs) rows
 
 -- ==== holders: of rows and requests
--- "Where several requests list an end, all but the newest are fetched."
+-- (rule S25) every request that lists an item of a newer one is fetched
 unfoldable pub isFetched : Request → Bool
 isFetched v = eqb (v .fetched) fetchedMark
 
--- the older requests that list an item of v are fetched
+-- (rule S25) the older requests that list an item of v are fetched
 unfoldable pub olderFetchedBy : Request → List Request → Bool
 olderFetchedBy v vs = all (λ w. isFetched w || not (any (λ e. lists e w) (v .items))) vs
 
 unfoldable pub olderFetched : List Request → Bool
 olderFetched requests = each olderFetchedBy requests
 
--- "The system holds exactly those copies and ends whose newest request is not fetched."
--- the newest request that lists e is there and not fetched
+-- (rule S26) a row is with the system exactly if the newest request that lists it is there and not fetched
 unfoldable pub awaitsFetch : List Request → ℕ → Bool
 awaitsFetch [] e = false
 awaitsFetch (v ∷ vs) e = if lists e v then not (isFetched v) else awaitsFetch vs e
@@ -209,11 +217,11 @@ unfoldable pub systemHolds : List Request → List Row → Bool
 systemHolds vs rows = all (λ r. same (isSystem (r .place)) (awaitsFetch vs (r .number))) rows
 
 -- ==== processes: of rows and processes
--- "It has 64 records"
+-- (rule S8) there are 64 process records
 unfoldable pub recordsFit : List Process → Bool
 recordsFit ps = eqb (length ps) processes
 
--- "unused records are 0"
+-- (rule S16) a record is all 0, or its prime and active nodes are 1 to 32
 unfoldable pub recordUnused : Process → Bool
 recordUnused x = eqb (x .prime) 0 && (eqb (x .active) 0 && eqb (x .through) 0)
 
@@ -223,7 +231,7 @@ recordInRange x = recordUnused x || (between 1 nodes (x .prime) && between 1 nod
 unfoldable pub recordsInRange : List Process → Bool
 recordsInRange ps = all recordInRange ps
 
--- "Every process is in its prime node through none, or in the node of a subdirectory row of its c-list."
+-- (rule S27) a process is in its prime node through none, or in the node of a subdirectory row of its own c-list, gone through
 unfoldable pub processPlaced : List Row → ℕ → Process → Bool
 processPlaced rs p x =
     let r = rowOf rs (x .through) in
@@ -237,7 +245,8 @@ placedFrom rs p (x ∷ xs) = processPlaced rs p x && placedFrom rs (suc p) xs
 unfoldable pub processesPlaced : List Row → List Process → Bool
 processesPlaced rows ps = placedFrom rows 1 ps
 
--- ==== all of it, part by part: a part reads the lists that it names
+-- ==== all of it
+-- (rule F9) tables are sound if every clause of every part holds; a part reads the lists that it names
 unfoldable pub numberClauses : ℕ → List Row → List Request → List Bool
 numberClauses next rows requests =
     rowsRise rows
@@ -281,7 +290,6 @@ processClauses rows ps = recordsFit ps ∷ recordsInRange ps ∷ processesPlaced
 unfoldable pub every : List Bool → Bool
 every bs = all (λ b. b) bs
 
--- the parts of a state
 unfoldable pub parts : State → List Bool
 parts st =
     every (numberClauses (st .next) (st .rows) (st .requests))

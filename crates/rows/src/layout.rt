@@ -1,5 +1,8 @@
 // Where the columns of the lent runs of words start, and how long the runs are: specs/Layout.antt.
 
+// (rule W11) the version of this layout; the words do not hold it
+pub const LAYOUT_VERSION: u32 = 1;
+
 // slots of rows, of requests; processes; items of a request
 pub const ROWS: usize = 1024;
 

@@ -1,4 +1,4 @@
--- "All but the newest are fetched", told from the newest request to the oldest: what newer ones list is at hand.
+-- (rule S25) Every request that lists an item of a newer one is fetched, told from the newest request to the oldest: what newer ones list is at hand.
 use Prim.Native.Nat.{ℕ}
 use mathlib.Core.Bool.{Bool, true, false, not, _&&_, _||_}
 use mathlib.Core.List.{List, [], _∷_}

@@ -102,7 +102,7 @@ via-listed r e = pick (some (r .source))
     pick false = rw e (member-here (r .via) [])
 
 -- ---- rights
--- "a copy has .. rights within it": the source of a row that is no end stands, and has all its rights
+-- (rule S15) the source of a row that is no end stands, and has all its rights
 pub rights-within : (st : State) → Numbers (st .next) (st .rows) (st .requests) → RowsSound (st .rows) (st .requests) (st .processes) → (n : ℕ) → member n (numbers (st .rows)) ≡ true
     → isEnd (rowOf (st .rows) n .kind) ≡ false → some (rowOf (st .rows) n .source) ≡ true
     → (member (rowOf (st .rows) n .source) (numbers (st .rows)) ≡ true)
@@ -157,7 +157,7 @@ node-sources vs rs r h e = none-one P (r .source) (r .via ∷ []) (both h .0) (n
     both (port-end d) = let a : not (isNode (r .place)) ≡ true = search (and-l, and-r) in clash e (not-t (isNode (r .place)) a)
     both (lent-copy d) = let a : not (isNode (r .place)) ≡ true = search (and-l, and-r) in clash e (not-t (isNode (r .place)) a)
 
--- where no row in a node passes the test, none is marked: "rows of nodes never vanish"
+-- (rule P8) where no row in a node passes the test, none is marked
 pub nodes-stay : (st : State) → Numbers (st .next) (st .rows) (st .requests) → RowsSound (st .rows) (st .requests) (st .processes) → (f : Row → Bool)
     → ((n : ℕ) → member n (numbers (st .rows)) ≡ true → isNode (rowOf (st .rows) n .place) ≡ true → f (rowOf (st .rows) n) ≡ false)
     → (n : ℕ) → isNode (rowOf (st .rows) n .place) ≡ true → member n (marked f (st .rows)) ≡ false

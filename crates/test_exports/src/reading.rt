@@ -1,5 +1,6 @@
-// Reading: the words of a slot, the next number, the process records.
+// Reading: the version of the layout, the words of a slot, the next number, the process records.
 // Where a length or slot does not fit, nothing is written, and the answer is 0 or no.
+use rows::layout::LAYOUT_VERSION;
 use rows::layout::RECORDS;
 use rows::layout::REQUEST_COLUMNS;
 use rows::layout::REQUESTS;
@@ -13,10 +14,17 @@ ghost use mathlib.Core.Bool.{false};
 ghost use Prim.Native.Nat.{_<_};
 ghost use lib.ListN.{getD};
 ghost use Rattle.rows.specs.Tables.{isListed};
-ghost use Rattle.rows.specs.Layout.{recordsIn};
+ghost use Rattle.rows.specs.Layout.{layoutVersion, recordsIn};
 ghost use Rattle.rows.specs.contracts.Sizes.{ROWS, REQUESTS, NEXT, IsTables, IsRecords};
 ghost use Rattle.test_exports.specs.contracts.Exports.{Unless, ReadsRow, ReadsRequest, StoresRecords};
 ghost use Rattle.test_exports.specs.contracts.Exports.{RecordsStay};
+
+#[no_mangle]
+pub extern "C" fn kernel_layout_version() -> u32
+    ensures { λ r. ⌜ r ≡ layoutVersion ⌝ }
+{
+    LAYOUT_VERSION
+}
 
 #[no_mangle]
 pub extern "C" fn kernel_row_at(t: &[u32], i: usize, out: &mut [u32; ROW_COLUMNS])

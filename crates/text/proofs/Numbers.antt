@@ -1,4 +1,4 @@
--- A number of any length is never wrapped: what is read is its exact value, or 1,000,001 if that is above 1,000,000.
+-- (rule P10) A number of any length is never wrapped: what is read is its exact value, or 1,000,001 if that is above 1,000,000.
 use Prim.Native.Nat.{ℕ, suc, _+_, _*_, _-_, _<_}
 use native.Mathlib.Omega.{arith}
 use mathlib.Core.Path.{_≡_, refl}

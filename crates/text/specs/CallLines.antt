@@ -1,4 +1,4 @@
--- A call line: the call that it asks for, or the refusal of its text: 2, 3, 4, 6 ("Refused for the input").
+-- A call line (docs/MANUAL.md, chapter 3): the call that it asks for, or the refusal of its text, 2, 3, 4 or 6.
 use Prim.Native.Nat.{ℕ, zero, suc}
 use mathlib.Core.Bool.{Bool, not, _&&_}
 use mathlib.Core.List.{List, [], _∷_, map}
@@ -15,18 +15,19 @@ use Rattle.text.specs.declared.Reading.{Reading}
 use Rattle.text.specs.declared.Reading.the-variants.{Asks, Crowded, Refused}
 use Rattle.text.specs.Patterns.{form, whole, wordOf, mostGroups}
 
--- "Processes are 1 to 64"; row and request numbers are 1 to 1,000,000 (open point 4)
+-- (rule F4) the caller is 1 to 64; row and request numbers are 1 to 1,000,000
 unfoldable pub isProcess : ℕ → Bool
 isProcess p = between 1 processes p
 
 unfoldable pub isNumber : ℕ → Bool
 isNumber e = between 1 greatestNumber e
 
--- 3: "a number out of range"
+-- (rule F4) 3: a number out of range
 unfoldable pub ranged : Bool → Call → Reading
 ranged inRange c = if inRange then Asks c else Refused 3
 
--- ---- calls of one number; any other word is a bad form
+-- ---- calls of one number
+-- (rules F2, F3, F4) `(p W n)` with one of ten words; any other word is 2; `go` takes 0 too
 unfoldable pub simple : ℕ → ℕ → ℕ → Reading
 simple w p e =
     let good = isProcess p && isNumber e in
@@ -45,13 +46,15 @@ simple w p e =
 unfoldable pub simpleForm : List ℕ → Reading
 simpleForm s = let f = form s 0 "(# @ #)\n" in if whole s f then simple (f .word) (f .b) (f .c) else Refused 2
 
--- ---- "`(comes e q)`, with no caller"
+-- ---- comes
+-- (rules F2, F3) `(comes e q)`, with no caller
 unfoldable pub comesForm : List ℕ → Reading → Reading
 comesForm s other =
     let f = form s 0 "(comes # #)\n" in
     if whole s f then ranged (isNumber (f .b) && isNumber (f .c)) (Comes (f .b) (f .c)) else other
 
--- ---- "`ask c (e r) ..`"
+-- ---- ask
+-- (rules F2, T7) `(p ask c (e r) ..)`: every item counts, also those after the fourth
 pub record Gathered : Type 0 where
   pub items : List Item
   pub next : ℕ
@@ -62,23 +65,25 @@ itemOf f = record { row = f .b; rights = f .c }
 unfoldable pub addItem : Item → Gathered → Gathered
 addItem i g = record { items = i ∷ g .items; next = g .next }
 
--- the items from position i on, n at most, and the position after them
+-- (rules F2, T7) the items from position i on, n at most, and the position after them
 unfoldable pub gathered : ℕ → List ℕ → ℕ → Gathered
 gathered zero s i = record { items = []; next = i }
 gathered (suc n) s i =
     let f = form s i " (# #)" in
     if f .good then addItem (itemOf f) (gathered n s (f .next)) else record { items = []; next = i }
 
+-- (rule F4) an item's rights are 0 to 7
 unfoldable pub itemRanged : Item → Bool
 itemRanged i = isNumber (i .row) && leb (i .rights) allRights
 
+-- (rule F2) four items, those named first
 unfoldable pub noItem : Item
 noItem = record { row = 0; rights = 0 }
 
 unfoldable pub packed : List Item → Items
 packed is = record { first = getD is 0 noItem; second = getD is 1 noItem; third = getD is 2 noItem; fourth = getD is 3 noItem }
 
--- 3, then 4 "an item of an ask named twice", then 6 "more than 4 items" (before which comes 5, which needs the tables)
+-- (rules F4, F5, F7, F8) 3, then 4, one row twice among the items, then 6, more than four items (before which comes 5, which needs the tables)
 unfoldable pub judged : ℕ → ℕ → List Item → Reading
 judged p c is =
     if not (isProcess p && (isNumber c && all itemRanged is)) then Refused 3
@@ -86,12 +91,13 @@ judged p c is =
     else if ltb mostItems (length is) then Crowded p
     else Asks (Ask p c (packed is))
 
+-- (rules F1, F2) the whole line
 unfoldable pub askForm : List ℕ → Reading → Reading
 askForm s other =
     let f = form s 0 "(# ask #" in
     let g = gathered mostGroups s (f .next) in
     if f .good && whole s (form s (g .next) ")\n") then judged (f .b) (f .c) (g .items) else other
 
--- "A call is exactly one line; a missing line feed or a second line is a bad form."; "at most 255 bytes before the line feed"
+-- (rules T1, F1, F3) a call is one line, whose line feed is the last byte, of at most 255 bytes before it; every other line is 2
 unfoldable pub readingOf : List ℕ → Reading
 readingOf s = if ltb (suc mostBytes) (length s) then Refused 2 else askForm s (comesForm s (simpleForm s))

@@ -1,4 +1,4 @@
--- The two entry points on the lent words: any words, any bytes in; the reply and every word out.
+-- The two entry points on the lent words (docs/MANUAL.md, chapter 1): any words, any bytes in; the reply and every word out.
 use Prim.Native.Nat.{ℕ}
 use mathlib.Core.Bool.{Bool, not, _&&_}
 use mathlib.Core.List.{List, [], _∷_}
@@ -15,11 +15,11 @@ use Rattle.text.specs.Opening.{Form, Opening, opens, refusedAt, linesOf,
 use Rattle.text.specs.Answers.{okText, noText, printed}
 
 -- ---- a call on a state
--- 5: "a process .. not listed": the caller (open point 9); comes has none
+-- (rule F6) 5: the caller is not listed; comes has none
 unfoldable pub callerUnlisted : State → Call → Bool
 callerUnlisted st c = let p = callerOf c in some p && not (isListed (st .processes) p)
 
--- 5 comes before 6, and both before the refusals of the state
+-- (rules F7, F8) 5 comes before 6, and both before the refusals of the state
 unfoldable pub answered : State → Reading → Out
 answered st (BadLine k) = refused st k
 answered st (Crowded p) = judge st (5 when not (isListed (st .processes) p) ∷ []) (refused st 6)
@@ -29,6 +29,7 @@ unfoldable pub callOn : State → List ℕ → Out
 callOn st line = answered st (readingOf line)
 
 -- ---- on words
+-- (rules K2, K3) the reply and both runs, by the words and bytes lent and nothing else
 pub record Replied : Type 0 where
   pub reply : List ℕ
   pub tables : List ℕ
@@ -40,12 +41,13 @@ replyWith text st = record { reply = text; tables = wordsOf st; processes = reco
 unfoldable pub replyOf : Out → Replied
 replyOf o = replyWith (printed (o .answer)) (o .after)
 
--- 1 "tables not sound" comes before all that the line has; "Answer `(no k)`, tables untouched"
+-- (rules F9, K5, K8) 1, no sound tables, comes before all that the line has, and leaves every word
 unfoldable pub callEntry : List ℕ → List ℕ → List ℕ → Replied
 callEntry t p line =
     if soundWords t p then replyOf (callOn (stateOf t p) line)
     else record { reply = noText (1 ∷ []); tables = t; processes = p }
 
+-- (rules K6, K7) the state opened, or empty tables; whatever the tables held before is gone
 unfoldable pub stateOpened : List Form → State
 stateOpened fs = openedFrom empty fs
 
@@ -53,7 +55,7 @@ unfoldable pub openedBy : Opening → Replied
 openedBy (opens fs rest) = replyWith (okText (0 ∷ [])) (stateOpened fs)
 openedBy (refusedAt k n) = replyWith (noText (k ∷ n ∷ [])) empty
 
--- "A lent run of another length .. an opening answers it `(no 1 0)` and clears what was lent."
+-- (rules K8, O9) a run of another length is `(no 1 0)`, and both runs are cleared; what the words hold does not matter
 unfoldable pub openEntry : List ℕ → List ℕ → List ℕ → Replied
 openEntry t p text =
     if rightLengths t p then openedBy (openingOf (linesOf text))

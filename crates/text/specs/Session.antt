@@ -6,16 +6,16 @@ use Rattle.text.specs.Opening.{Opening, opens, refusedAt, linesOf, openi
 use Rattle.text.specs.Answers.{okText, noText, printed}
 use Rattle.text.specs.Entry.{callOn, stateOpened}
 
--- an answer a line
+-- (rules K9, K10) an answer a line
 unfoldable pub answers : State → List (List ℕ) → List ℕ
 answers st [] = []
 answers st (l ∷ ls) = let o = callOn st l in printed (o .answer) ++ answers (o .after) ls
 
--- "After a refused opening it reads no more."
+-- (rule K9) after a refused opening nothing more is printed
 unfoldable pub sessionOf : Opening → List ℕ
 sessionOf (refusedAt k n) = noText (k ∷ n ∷ [])
 sessionOf (opens fs rest) = okText (0 ∷ []) ++ answers (stateOpened fs) rest
 
--- "The program `tablet` reads standard input and prints one line for the opening, then one a call"
+-- (rules K9, P12) one line for the opening, then one a call
 unfoldable pub session : List ℕ → List ℕ
 session input = sessionOf (openingOf (linesOf input))

@@ -27,7 +27,7 @@ module _ {A : Type 0} where
 unfoldable pub marksOf : List ℕ → List Row → List Bool
 marksOf g rows = tested (λ r. member (r .number) g) rows
 
--- a row that is not in g has no source in g: "a row never outlives its source"
+-- a row that is not in g has no source in g: no row outlives its source
 unfoldable pub closedUnder : List ℕ → List Row → Bool
 closedUnder g rows = all (λ r. member (r .number) g || not (any (λ s. member s g) (sources r))) rows
 

@@ -1,4 +1,4 @@
--- The starred cases of document 01, and the readings that it calls wrong: one theorem over a table of them, computed by the prover.
+-- The cases that the customer's specification stars, and the readings that it calls wrong: one theorem over a table of them, computed by the prover.
 use Prim.Native.Nat.{ℕ}
 use Prim.Native.String.{String}
 use mathlib.Core.Bool.{Bool}
@@ -38,7 +38,7 @@ answerBytes (x ∷ xs) = bytes (x .answer) ++ (10 ∷ answerBytes xs)
 unfoldable pub passes : Case → Bool
 passes c = sameList (session (linesBytes (c .opening) ++ callBytes (c .calls))) (bytes (c .opened) ++ (10 ∷ answerBytes (c .calls)))
 
--- the opening of document 01's session
+-- the opening of the manual's first session
 unfoldable pub registry : List String
 registry = "(node 1 (op 2 5 7) (dir 2 3))" ∷ "(node 2 (op 3 1 1))" ∷ "(process 1 1)" ∷ "(process 2 2)" ∷ "(process 3 2)" ∷ "(open)" ∷ []
 

@@ -89,7 +89,7 @@ pub received-stays :
 unfolding momentAfter afterLines afterOpening inTables hasOnLoan closed isWith received receivedRevoked Rattle.rows.specs.Computes.computes Rattle.closing.specs.Computes.computes Rattle.calls.specs.Computes.computes Rattle.text.specs.Computes.computes Rattle.history.specs.Computes.computes
 received-stays = tt
 
--- ---- the entry points on the lent words: document 01's session up to the revoke, its replies, and the words of the state that it leaves
+-- ---- the entry points on the lent words: the manual's first session up to the revoke, its replies, and the words of the state that it leaves
 unfoldable pub opened : Replied
 opened =
     openEntry (replicate tablesLength 7) (replicate processesLength 7) (bytes "(node 1 (op 2 5 7) (dir 2 3))\n(node 2 (op 3 1 1))\n(process 1 1)\n(process 2 2)\n(process 3 2)\n(open)\n")
