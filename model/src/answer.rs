@@ -2,11 +2,11 @@
 
 #[derive(Clone, PartialEq, Eq, Debug)]
 pub enum Answer {
-    /// `(ok n)`, "n the new number or 0"; fetch gives more numbers.
+    /// (rule K4) `(ok n)`, n the new number or 0; fetch gives more numbers.
     Ok(Vec<u32>),
     /// `(no k)`.
     No(u32),
-    /// "the opening answers `(no k line)`".
+    /// (rule K7) The opening answers `(no k line)`.
     NoAt(u32, u32),
 }
 

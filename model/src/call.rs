@@ -30,7 +30,7 @@ pub const WORDS: [(&[u8], Word); 10] = [
     (b"revoke", Word::Revoke),
 ];
 
-/// An item of an ask: "0 to 4 privileges, each with the rights lent".
+/// (rule F2) An item of an ask: a row and the rights lent.
 #[derive(Clone, Copy, PartialEq, Eq, Debug)]
 pub struct Item {
     pub row: u32,
@@ -56,8 +56,8 @@ pub enum Call {
     },
 }
 
-/// The call on a line, none for a bad form. "A call is exactly one line; a
-/// missing line feed or a second line is a bad form."
+/// (rules F1, F2, F3) The call on a line, none for a bad form: one line, whose
+/// line feed is the last byte.
 pub fn read_call(line: &[u8]) -> Option<Call> {
     let parts = read_line(line)?;
     match parts.as_slice() {

@@ -1,9 +1,9 @@
-//! Stands, closed and comes from by the words of document 01: all chains of a
-//! row are listed and looked at. Slow; the moments are compared with it.
+//! Stands, closed and comes from as the manual defines them (10.1): all chains of
+//! a row are listed and looked at. Slow; the moments are compared with it.
 
 use crate::notes::Notes;
 
-/// "A *chain* leads from a row to a source and so on to a row of the text."
+/// (rule H3) A chain leads from a row to a source and so on to a row of the text.
 pub fn chains(notes: &Notes, row: u32) -> Vec<Vec<u32>> {
     let sources = notes.rows.get(&row).map(|r| r.sources.as_slice());
     let sources = sources.unwrap_or(&[]);
@@ -19,14 +19,15 @@ pub fn chains(notes: &Notes, row: u32) -> Vec<Vec<u32>> {
     with_row.collect()
 }
 
-/// "A row *stands* if no chain of it uses anything dropped or closed."
+/// (rule H5) A row stands if no chain of it uses something dropped or closed.
 pub fn stands(notes: &Notes, row: u32) -> bool {
     let known = notes.rows.contains_key(&row);
     let chains = chains(notes, row);
     known && !chains.iter().any(|chain| uses_gone(notes, chain))
 }
 
-/// "It uses its rows, the requests they bear and the ports they are ends of."
+/// (rule H3) A chain uses its rows, the requests they bear and the ports they are
+/// ends of.
 fn uses_gone(notes: &Notes, chain: &[u32]) -> bool {
     let mut rows = chain.iter().filter_map(|n| notes.rows.get_key_value(n));
     rows.any(|(number, row)| {
@@ -37,13 +38,13 @@ fn uses_gone(notes: &Notes, chain: &[u32]) -> bool {
     })
 }
 
-/// "A port is closed too once its operation row stands no longer".
+/// (rule H4) A port is closed too when its operation row stands no more.
 pub fn port_closed(notes: &Notes, port: u32) -> bool {
     let operation = notes.ports.get(&port);
     notes.closed_ports.contains(&port) || !operation.is_some_and(|e| stands(notes, *e))
 }
 
-/// "and a request once its port is closed."
+/// (rule H4) And a request when its port is closed.
 pub fn request_closed(notes: &Notes, request: u32) -> bool {
     let noted = notes.requests.get(&request);
     notes.closed_requests.contains(&request) || noted.is_none_or(|r| port_closed(notes, r.port))

@@ -1,11 +1,11 @@
-//! Closing a request or a port, by the four steps of document 01.
+//! Closing a request or a port, by the rules of the manual's chapter 5.
 
 use crate::relations::{request_on, rows_from};
 use crate::tables::{Place, Process, Row, Tables};
 use std::collections::BTreeSet;
 
-/// What one closing removes and closes. The lists count as they stood when
-/// the call came (point 24), so nothing is altered before both are known.
+/// (rule C7) What one closing removes and closes. The lists count as they stood
+/// when the call came, so nothing is altered before both are known.
 #[derive(Default)]
 struct Closing {
     removed: BTreeSet<u32>,
@@ -21,7 +21,7 @@ pub fn close_request(tables: &mut Tables, request: u32) {
     finish(tables, closing);
 }
 
-/// "Closing a port removes both ends and closes its request."
+/// (rule C2) Closing a port removes both ends and closes its request.
 pub fn close_port(tables: &mut Tables, port: u32) {
     let mut closing = Closing::default();
     destroy_port(tables, port, &mut closing);
@@ -42,9 +42,9 @@ fn finish(tables: &mut Tables, mut closing: Closing) {
     leave_lists(tables, &closing.removed);
 }
 
-/// Steps 1 and 2. "Every row that comes from it is removed." "A port whose
-/// ends are removed is destroyed, and the request open on it is closed the
-/// same way, until nothing more is removed."
+/// (rules C1, C3) Every row that comes from a closed request is removed; a port
+/// whose ends are removed has ended, and the request open on it closes too, until
+/// a round removes nothing.
 fn remove_until_nothing_more(tables: &Tables, closing: &mut Closing) {
     loop {
         let before = (closing.removed.len(), closing.closed.len());
@@ -79,8 +79,8 @@ struct Returned {
     oldest: u32,
 }
 
-/// Step 3. "A surviving end listed in closed requests goes to the asker of the
-/// oldest of them".
+/// (rule C5) An end that is not removed, listed by requests that close, goes to
+/// the asker of the oldest of them.
 fn returned_ends(tables: &Tables, closing: &Closing) -> Vec<Returned> {
     let surviving = tables.rows.iter().filter(|r| survives(r, closing));
     let returned = surviving.filter_map(|r| {
@@ -103,7 +103,7 @@ fn survives(row: &Row, closing: &Closing) -> bool {
     row.is_end() && !closing.removed.contains(&row.number)
 }
 
-/// "and leaves every newer request's list."
+/// (rule C6) And leaves the list of every newer request.
 fn give_back(tables: &mut Tables, returned: &Returned) {
     tables.set_place(returned.end, Place::CList(returned.to));
     let newer = |number: u32| number > returned.oldest;
@@ -112,8 +112,8 @@ fn give_back(tables: &mut Tables, returned: &Returned) {
     }
 }
 
-/// Step 4. "A process whose active node was reached through a removed row goes
-/// to its prime node".
+/// (rule C8) A process that went to its active node through a removed row is in
+/// its prime node.
 fn to_prime_nodes(tables: &mut Tables, removed: &BTreeSet<u32>) {
     let gone_through = |p: &&mut Process| removed.contains(&p.through);
     for record in tables.processes.iter_mut().filter(gone_through) {
@@ -121,7 +121,7 @@ fn to_prime_nodes(tables: &mut Tables, removed: &BTreeSet<u32>) {
     }
 }
 
-/// "A removed or dropped row leaves every request's list."
+/// (rules C4, drop-ok) A removed or dropped row leaves every list.
 pub fn leave_lists(tables: &mut Tables, removed: &BTreeSet<u32>) {
     for request in &mut tables.requests {
         for &row in removed {

@@ -51,7 +51,7 @@ fn done() -> Option<Answer> {
     Some(Answer::ok(0))
 }
 
-/// The next number of the counter, "never given again".
+/// (rule R5) The next number of the counter, given once.
 fn take_number(tables: &mut Tables) -> u32 {
     let number = tables.next;
     tables.next += 1;
@@ -68,8 +68,7 @@ fn append(tables: &mut Tables, mut row: Row) -> u32 {
     row.number
 }
 
-/// "e, a subdirectory in the c-list, becomes active; `go 0` goes to the prime
-/// node."
+/// (rule go-ok) The node that e names becomes active; with 0 the prime node.
 fn go(tables: &mut Tables, caller: u32, e: u32) -> Option<Answer> {
     let prime = tables.process(caller)?.prime;
     let active = match e {
@@ -85,7 +84,8 @@ fn go(tables: &mut Tables, caller: u32, e: u32) -> Option<Answer> {
     done()
 }
 
-/// "a row of the active node, copied to the c-list with its rights."
+/// (rules R7, hold-ok) A row of the active node, copied to the c-list with its
+/// rights.
 fn hold(tables: &mut Tables, caller: u32, s: u32) -> Option<Answer> {
     let directory = *tables.row(s)?;
     let through = tables.process(caller)?.through;
@@ -98,9 +98,8 @@ fn hold(tables: &mut Tables, caller: u32, s: u32) -> Option<Answer> {
     Some(Answer::ok(append(tables, row)))
 }
 
-/// "a copy of e, with its rights, into the active node." "A registered row
-/// comes from the directory row that the held row was taken from, and from
-/// nothing else."
+/// (rules R8, register-ok) A copy of e, with its rights, in the active node; its
+/// one source is the first source of e.
 fn register(tables: &mut Tables, caller: u32, e: u32) -> Option<Answer> {
     let held = *tables.row(e)?;
     let row = Row {
@@ -112,15 +111,15 @@ fn register(tables: &mut Tables, caller: u32, e: u32) -> Option<Answer> {
     Some(Answer::ok(append(tables, row)))
 }
 
-/// "e is discarded."
+/// (rule drop-ok) The row goes.
 fn drop_row(tables: &mut Tables, e: u32) -> Option<Answer> {
     tables.rows.retain(|r| r.number != e);
     leave_lists(tables, &BTreeSet::from([e]));
     done()
 }
 
-/// "a port from operation e; client end to the caller, server end to the
-/// manager. Answers the client end."
+/// (rules R9, port-ok) Two ends from operation e: the client end to the caller,
+/// the server end to the manager.
 fn port(tables: &mut Tables, caller: u32, e: u32) -> Option<Answer> {
     let operation = *tables.row(e)?;
     let client = Row {
@@ -144,9 +143,9 @@ fn port(tables: &mut Tables, caller: u32, e: u32) -> Option<Answer> {
     Some(Answer::ok(number))
 }
 
-/// "Takes the request's number, then one for each copy in order. Operations
-/// and subdirectories are copied; ends move. All lie with the system until
-/// fetched. Answers the request."
+/// (rules ask-ok-1, ask-ok-2, ask-ok-3, ask-ok-4) The request takes a number, then
+/// each copy in order; operations and subdirectories are copied, ends move; all
+/// lie with the system until they are fetched.
 fn ask(tables: &mut Tables, caller: u32, client: u32, items: &[Item]) -> Option<Answer> {
     let number = take_number(tables);
     let mut listed = [None; ITEMS];
@@ -163,8 +162,8 @@ fn ask(tables: &mut Tables, caller: u32, client: u32, items: &[Item]) -> Option<
     Some(Answer::ok(number))
 }
 
-/// The row that goes to the system for an item: the end itself, or a copy
-/// that "comes from the lender's row and from the port it was lent over".
+/// (rules R10, L6) The row that goes to the system for an item: the end itself, or
+/// a copy from the lender's row and the port that it was lent over.
 fn lend(tables: &mut Tables, request: u32, client: u32, item: &Item) -> Option<u32> {
     let lenders = *tables.row(item.row)?;
     if lenders.is_end() {
@@ -182,8 +181,8 @@ fn lend(tables: &mut Tables, request: u32, client: u32, item: &Item) -> Option<u
     Some(append(tables, copy))
 }
 
-/// "the privileges come to the caller"; the answer is "the request's number
-/// and then those of the items still listed, in the order asked".
+/// (rule fetch-ok) The items come to the caller; the answer is the request's
+/// number, then the items still listed, in the order asked.
 fn fetch(tables: &mut Tables, caller: u32, v: u32) -> Option<Answer> {
     let port = tables.row(v)?.object;
     let request = tables.requests.iter_mut().find(|q| q.port == port)?;
@@ -196,7 +195,7 @@ fn fetch(tables: &mut Tables, caller: u32, v: u32) -> Option<Answer> {
     Some(Answer::Ok(numbers))
 }
 
-/// Reply and refuse: "closes the request".
+/// (rules reply-ok, refuse-ok) The request is closed.
 fn answer_request(tables: &mut Tables, v: u32) -> Option<Answer> {
     let port = tables.row(v)?.object;
     let request = request_on(tables, port)?.number;

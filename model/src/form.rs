@@ -11,9 +11,9 @@ pub enum Part<'a> {
     Form(Vec<Part<'a>>),
 }
 
-/// The parts of the form on a line; none if the line is a bad form. The line
-/// must have one line feed, as its last byte, and "at most 255 bytes before
-/// the line feed".
+/// (rules T1, T2, F1) The parts of the form on a line; none if the line is a bad
+/// form. The line must have one line feed, as its last byte, and at most 255 bytes
+/// before it.
 pub fn read_line(line: &[u8]) -> Option<Vec<Part<'_>>> {
     let (&last, body) = line.split_last()?;
     if last != b'\n' || body.len() > LINE_BYTES {
@@ -50,7 +50,7 @@ fn part(bytes: &[u8]) -> Option<(Part<'_>, &[u8])> {
     }
 }
 
-/// "no leading zeros". A number of any length is of good form (point 3).
+/// (rules T3, T4) No leading zeros. A number of any length is of good form.
 fn number(bytes: &[u8]) -> Option<(Part<'_>, &[u8])> {
     let (digits, rest) = run(bytes, u8::is_ascii_digit);
     if digits.len() > 1 && digits[0] == b'0' {

@@ -12,7 +12,7 @@ use std::collections::BTreeMap;
 #[derive(Clone, Debug, Default)]
 pub struct History {
     pub notes: Notes,
-    /// "Each process's last accepted `go` is kept."
+    /// (rule H2) Each process's last accepted `go`.
     last_go: BTreeMap<u32, u32>,
     pub now: Moment,
     /// The moment before the last noted call, and the request it revoked.
@@ -30,7 +30,7 @@ fn accepted_number(answer: &[u8]) -> Option<u32> {
 }
 
 impl History {
-    /// "It begins with the rows of the text, numbered as there."
+    /// (rule H1) At first the rows of the text, numbered as there.
     pub fn begin(text: &[u8], answer: &[u8]) -> History {
         let mut history = History::default();
         let (Some(_), Ok(opening)) = (accepted_number(answer), read_opening(text)) else {
@@ -47,8 +47,8 @@ impl History {
         history
     }
 
-    /// Feeds one line and its answer. "Refused lines, `fetch` and `comes` note
-    /// nothing."
+    /// (rule H1) Feeds one line and its answer. Refused lines, `fetch` and `comes` add
+    /// nothing.
     pub fn note(&mut self, line: &[u8], answer: &[u8]) {
         self.revoked = None;
         let (Some(call), Some(n)) = (read_call(line), accepted_number(answer)) else {
@@ -89,8 +89,8 @@ impl History {
         }
     }
 
-    /// "row n with source s, and e too if p's last `go` was `go e` and e
-    /// stands."
+    /// (rule H2) Row n with source s, and e too if p's last `go` was `go e` and e
+    /// stands.
     fn note_hold(&mut self, p: u32, s: u32, n: u32) {
         let last = self.last_go.get(&p).copied();
         let through = last.filter(|e| *e != 0 && self.now.standing.contains(e));
@@ -102,7 +102,7 @@ impl History {
         self.notes.rows.insert(n, row);
     }
 
-    /// "row n with e's first source."
+    /// (rule H2) Row n with the first source of e.
     fn note_register(&mut self, e: u32, n: u32) {
         let sources = self.notes.rows.get(&e).map(|r| r.sources.as_slice());
         let first = sources.and_then(|s| s.first()).copied();
@@ -113,7 +113,7 @@ impl History {
         self.notes.rows.insert(n, row);
     }
 
-    /// "port n, its ends n and n + 1 with source e."
+    /// (rule H2) Port n, its ends n and n + 1 with source e.
     fn note_port(&mut self, e: u32, n: u32) {
         let end = NotedRow {
             sources: vec![e],
@@ -125,8 +125,8 @@ impl History {
         self.notes.rows.insert(n + 1, end);
     }
 
-    /// "For the other items, copies v + 1 and on, bearing v, with sources
-    /// their row and c."
+    /// (rule H2) For the other items copies v + 1 and on, bearing v, with sources
+    /// their row and c.
     fn note_ask(&mut self, lender: u32, port: u32, items: &[Item], v: u32) {
         let rows = items.iter().map(|i| i.row);
         let (ends, others): (Vec<u32>, Vec<u32>) = rows.partition(|row| self.notes.is_end(*row));
@@ -142,7 +142,7 @@ impl History {
         self.notes.requests.insert(v, request);
     }
 
-    /// "`reply v`, `refuse v`: the open request on port v - 1 closed."
+    /// (rule H2) `reply v`, `refuse v`: the open request on port v - 1 is closed.
     fn note_answered(&mut self, v: u32) {
         let port = v.saturating_sub(1);
         let on_port = |q: &&u32| self.notes.requests.get(q).is_some_and(|r| r.port == port);

@@ -1,4 +1,4 @@
-//! The independent model of document 01: tables, calls, text, history.
+//! The independent model of the kernel: tables, calls, text, history.
 
 pub mod answer;
 pub mod call;
@@ -12,6 +12,7 @@ pub mod effects;
 pub mod form;
 pub mod history;
 pub mod limits;
+pub mod manual;
 pub mod moment;
 pub mod notes;
 pub mod opening;

@@ -1,25 +1,25 @@
-//! The limits that document 01 names, each written once.
+//! The limits (docs/MANUAL.md, chapter 8), each written once.
 
-/// "Processes are 1 to 64".
+/// (rule X1) Processes are 1 to 64.
 pub const PROCESSES: u32 = 64;
-/// "nodes 1 to 32".
+/// (rule X1) Nodes are 1 to 32.
 pub const NODES: u32 = 32;
-/// "operations 0 to 255".
+/// (rule X1) Operations are 0 to 255.
 pub const LAST_OPERATION: u32 = 255;
-/// "Rights (capcaps) are a sum of hold 1, transfer 2 and register 4, so 0 to 7".
+/// (rules R3, X2) Rights are hold 1, transfer 2 and register 4, added up: 0 to 7.
 pub const HOLD: u32 = 1;
 pub const TRANSFER: u32 = 2;
 pub const REGISTER: u32 = 4;
 pub const ALL_RIGHTS: u32 = 7;
-/// "Rows and requests take numbers from one counter, 1 to 1,000,000".
+/// (rules R5, X9) Rows and requests take numbers from one counter, 1 to 1,000,000.
 pub const LAST_NUMBER: u32 = 1_000_000;
-/// "At most 1,024 rows and 128 open requests stand".
+/// (rules X7, X8) At most 1,024 rows stand and 128 requests are open.
 pub const ROWS: usize = 1024;
 pub const REQUESTS: usize = 128;
-/// "Depth is 1 plus the greatest depth among the sources, at most 12".
+/// (rules R11, X6) No row is deeper than 12.
 pub const DEEPEST: u32 = 12;
-/// "0 to 16 entries", "SELECTRECEIVE with 0 to 4 privileges".
+/// (rules X4, X5) A node form has at most 16 entries, an ask at most 4 items.
 pub const ENTRIES: usize = 16;
 pub const ITEMS: usize = 4;
-/// "at most 255 bytes before the line feed".
+/// (rule X3) A line has at most 255 bytes before its line feed.
 pub const LINE_BYTES: usize = 255;

@@ -35,7 +35,7 @@ impl Moment {
         moment
     }
 
-    /// "A row *stands* if no chain of it uses anything dropped or closed": not
+    /// (rule H5) A row stands if no chain of it uses something dropped or closed: not
     /// the row itself, its request or its port, and no chain of a source.
     fn row_stands(&self, notes: &Notes, number: u32, row: &NotedRow) -> bool {
         let dropped = notes.dropped.contains(&number);
@@ -45,22 +45,22 @@ impl Moment {
         !dropped && !request && !port && sources
     }
 
-    /// "A port is closed too once its operation row stands no longer".
+    /// (rule H4) A port is closed too when its operation row stands no more.
     fn port_closed(&self, notes: &Notes, port: u32) -> bool {
         let operation = notes.ports.get(&port);
         let stands = operation.is_some_and(|e| self.standing.contains(e));
         notes.closed_ports.contains(&port) || !stands
     }
 
-    /// "and a request once its port is closed."
+    /// (rule H4) And a request when its port is closed.
     fn request_closed(&self, notes: &Notes, request: u32) -> bool {
         let port = notes.requests.get(&request).map(|r| r.port);
         let by_port = port.is_none_or(|c| self.port_closed(notes, c));
         notes.closed_requests.contains(&request) || by_port
     }
 
-    /// "A request has an end it names on loan until that end stands no longer,
-    /// or until it, or an older one with that end on loan, closes."
+    /// (rule H6) A request has an end on loan until that end stands no more, or until
+    /// it, or an older one with that end on loan, is closed.
     fn loans_after(
         &self,
         notes: &Notes,

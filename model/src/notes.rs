@@ -11,7 +11,7 @@ pub struct NotedRow {
     pub end_of: Option<u32>,
 }
 
-/// "request v, lender p, port c, the ends named".
+/// (rule H2) A request, its lender, its port, the ends among its items.
 #[derive(Clone, Debug)]
 pub struct NotedRequest {
     pub lender: u32,
@@ -36,9 +36,9 @@ impl Notes {
         self.rows.get(&row).is_some_and(|r| r.end_of.is_some())
     }
 
-    /// "*Comes from* is read off these notes": the rows among those given that
-    /// come from the request. Sources are older, so in rising number they are
-    /// decided before the row.
+    /// (rule R14) Comes from, by the notes: the rows among those given that come from
+    /// the request. Sources are older, so in rising number they are decided before the
+    /// row.
     pub fn rows_from(&self, rows: &BTreeSet<u32>, request: u32) -> BTreeSet<u32> {
         let mut from = BTreeSet::new();
         for number in rows {

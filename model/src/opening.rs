@@ -72,9 +72,8 @@ fn read_entry(part: &Part) -> Option<Entry> {
     }
 }
 
-/// Reads an opening text; a refusal is its number and line. "The first line
-/// with refusal 2, 3, 4 or 6 is reported, with the lowest of its numbers; if
-/// there is none, the first with 5."
+/// (rules O16, O17) Reads an opening text; a refusal is its number and line: the
+/// first line with 2, 3, 4 or 6, and its lowest; if there is none, the first with 5.
 pub fn read_opening(text: &[u8]) -> Result<Opening, (u32, u32)> {
     let mut forms: Vec<Form> = Vec::new();
     let mut bytes = 0;
@@ -89,7 +88,7 @@ pub fn read_opening(text: &[u8]) -> Result<Opening, (u32, u32)> {
             return all_listed(forms, bytes);
         }
     }
-    // "A text without `(open)` has 2 at the line after its last."
+    // (rule O12) A text without `(open)` has 2 at the line after its last.
     Err((2, forms.len() as u32 + 1))
 }
 
@@ -135,7 +134,7 @@ fn entry_in_range(entry: &Entry) -> bool {
     }
 }
 
-/// "a node or process given by two forms".
+/// (rule O14) A node or process given by two forms.
 fn gives_the_same(a: &Form, b: &Form) -> bool {
     match (a, b) {
         (Form::Node { node: a, .. }, Form::Node { node: b, .. }) => a == b,
@@ -144,7 +143,7 @@ fn gives_the_same(a: &Form, b: &Form) -> bool {
     }
 }
 
-/// "5 a process or node not listed": at the line that names it (point 12).
+/// (rule O17) 5: a process or node that is not listed, at the line that names it.
 fn all_listed(forms: Vec<Form>, bytes: usize) -> Result<Opening, (u32, u32)> {
     let missing = forms.iter().position(|form| !names_listed(&forms, form));
     match missing {
@@ -174,7 +173,7 @@ fn names_listed(forms: &[Form], form: &Form) -> bool {
     }
 }
 
-/// The tables of an accepted opening. "Rows are numbered in text order."
+/// (rule O5) The tables of an accepted opening. Rows are numbered in text order.
 pub fn open_tables(opening: &Opening) -> Tables {
     let mut tables = Tables::empty();
     for form in &opening.forms {
@@ -189,7 +188,7 @@ pub fn open_tables(opening: &Opening) -> Tables {
     tables
 }
 
-/// "A row of the opening text has no source and depth 1."
+/// (rule R6) A row of the text has no source and depth 1.
 fn add_entries(tables: &mut Tables, node: u32, entries: &[Entry]) {
     for entry in entries {
         let (kind, object, operation, rights) = match *entry {

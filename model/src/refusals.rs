@@ -10,7 +10,7 @@ use std::collections::BTreeSet;
 /// A refusal's number and whether it applies.
 pub type Tests = Vec<(u32, bool)>;
 
-/// "The lowest number that applies, over all items."
+/// (rules F8, F10) The lowest number that applies, over all items.
 pub fn lowest(tests: &Tests) -> Option<u32> {
     let applying = tests.iter().filter(|(_, applies)| *applies);
     applying.map(|(number, _)| *number).min()
@@ -28,7 +28,7 @@ pub fn tests(tables: &Tables, call: &Call) -> Tests {
     tests
 }
 
-/// "Refused for the input", 3 to 6.
+/// Refused for the input, 3 to 6 (docs/MANUAL.md, chapter 3).
 fn input_tests(tables: &Tables, call: &Call) -> Tests {
     vec![
         (3, out_of_range(call)),
@@ -38,7 +38,7 @@ fn input_tests(tables: &Tables, call: &Call) -> Tests {
     ]
 }
 
-/// Point 4: rows and requests are 1 to 1,000,000, but for `go 0`.
+/// (rule F4) Rows and requests are 1 to 1,000,000, but for `go 0`.
 fn out_of_range(call: &Call) -> bool {
     let caller = |p: u32| (1..=PROCESSES).contains(&p);
     let number = |n: u32| (1..=LAST_NUMBER).contains(&n);
@@ -61,13 +61,13 @@ fn out_of_range(call: &Call) -> bool {
     !in_range
 }
 
-/// "an item of an ask named twice". Point 10: by row number.
+/// (rule F5) One row twice among the items, whatever the rights.
 fn item_named_twice(items: &[Item]) -> bool {
     let rows: BTreeSet<u32> = items.iter().map(|i| i.row).collect();
     rows.len() < items.len()
 }
 
-/// "Refused for the state", 7 to 18.
+/// Refused for the state, 7 to 18 (docs/MANUAL.md, chapter 4).
 fn state_tests(tables: &Tables, call: &Call) -> Tests {
     match call {
         Call::One {
@@ -100,23 +100,23 @@ fn one_number(tables: &Tables, caller: u32, word: Word, number: u32) -> Tests {
     test(tables, caller, number)
 }
 
-/// "A look-up finds the row or yields 7": a row in the caller's c-list.
+/// (rule F11) A look-up finds the row, in the caller's c-list, or yields 7.
 fn look_up(tables: &Tables, caller: u32, number: u32) -> Option<&Row> {
     tables.row(number).filter(|r| r.in_c_list_of(caller))
 }
 
-/// "16: too few free rows."
+/// (rule X7) 16: too few rows are free.
 fn rows_short(tables: &Tables, wanted: usize) -> bool {
     tables.rows.len() + wanted > ROWS
 }
 
-/// "18: too few numbers left."
+/// (rule X9) 18: too few numbers are left.
 fn numbers_short(tables: &Tables, wanted: usize) -> bool {
     let left = (LAST_NUMBER + 1).saturating_sub(tables.next);
     wanted > left as usize
 }
 
-/// "15: depth 13", for a row with these sources.
+/// (rule X6) 15: depth 13, for a row with these sources.
 fn too_deep(sources: &[Option<&Row>]) -> bool {
     let depths = sources.iter().flatten().map(|r| r.depth);
     depths.max().is_some_and(|greatest| greatest >= DEEPEST)
@@ -215,14 +215,14 @@ fn ask(tables: &Tables, caller: u32, c: u32, items: &[Item]) -> Tests {
     ]
 }
 
-/// "ask with a copied item lacking transfer, or rights not within the row's".
-/// Point 15: an end has rights 0 and needs no transfer.
+/// (rules ask-9a, ask-9b) A copied item lacks transfer, or the rights lent are not
+/// within the row's. An end has rights 0 and needs no transfer.
 fn lendable(row: &Row, rights: u32) -> bool {
     let transfer = row.is_end() || row.permits(TRANSFER);
     transfer && row.permits(rights)
 }
 
-/// An end "of one with an open request".
+/// (rules ask-10c, reply-10) An end of a port with an open request.
 fn port_busy(tables: &Tables, row: &Row) -> bool {
     row.port()
         .is_some_and(|port| request_on(tables, port).is_some())
@@ -262,7 +262,7 @@ fn reply(tables: &Tables, caller: u32, v: u32) -> Tests {
     ]
 }
 
-/// "or is listed in a newer request".
+/// (rule reply-14b) Listed by a newer request.
 fn lent_on(tables: &Tables, request: &Request, ends: &[&Row]) -> bool {
     let mut newer = tables.requests.iter().filter(|q| q.number > request.number);
     newer.any(|q| ends.iter().any(|r| q.lists(r.number)))

@@ -3,9 +3,9 @@
 use crate::tables::{Request, Row, Tables};
 use std::collections::BTreeSet;
 
-/// "A row *comes from* a request if it bears the request's number or one of
-/// its sources comes from it": the least set of rows closed under this, for
-/// any of the requests given.
+/// (rule R14) A row comes from a request if it bears its number or a source of it
+/// comes from it: the least set of rows closed under this, for any of the requests
+/// given.
 pub fn rows_from(tables: &Tables, requests: &BTreeSet<u32>) -> BTreeSet<u32> {
     let bears = |r: &Row| r.request != 0 && requests.contains(&r.request);
     least_set(tables, bears)
@@ -15,13 +15,13 @@ pub fn comes_from(tables: &Tables, row: u32, request: u32) -> bool {
     rows_from(tables, &BTreeSet::from([request])).contains(&row)
 }
 
-/// "An end is *on loan* if an open request lists it."
+/// (rule L7) An end is on loan while an open request lists it.
 pub fn on_loan(tables: &Tables, row: &Row) -> bool {
     row.is_end() && newest_listing(tables, row.number).is_some()
 }
 
-/// "A row is *lent* if it is on loan, bears a request's number, or has a lent
-/// source."
+/// (rule L8) A row is lent if it is an end on loan, bears a request's number, or
+/// has a lent source.
 pub fn lent(tables: &Tables, row: u32) -> bool {
     lent_rows(tables).contains(&row)
 }
@@ -54,7 +54,7 @@ pub fn request_on(tables: &Tables, port: u32) -> Option<&Request> {
     tables.requests.iter().find(|q| q.port == port)
 }
 
-/// "whose newest request": the newest of the open requests that list the row.
+/// (rule S26) The newest of the open requests that list the row.
 pub fn newest_listing(tables: &Tables, row: u32) -> Option<&Request> {
     let listing = tables.requests.iter().filter(|q| q.lists(row));
     listing.max_by_key(|q| q.number)

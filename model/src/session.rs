@@ -9,8 +9,8 @@ use crate::refusals::refusal;
 use crate::sound::sound;
 use crate::tables::Tables;
 
-/// Reads an opening: the tables, the answer and the bytes read. A refused
-/// opening leaves "tables with nothing in them and next number 1".
+/// (rules K6, K7) Reads an opening: the tables, the answer and the bytes read. A
+/// refused opening leaves empty tables.
 pub fn open(text: &[u8]) -> (Tables, Answer, usize) {
     match read_opening(text) {
         Ok(opening) => (open_tables(&opening), Answer::ok(0), opening.bytes),
@@ -18,7 +18,7 @@ pub fn open(text: &[u8]) -> (Tables, Answer, usize) {
     }
 }
 
-/// One call on tables of any content. "Answer `(no k)`, tables untouched".
+/// (rules F9, K5) One call on tables of any content. A refused one leaves them.
 pub fn call(tables: &mut Tables, line: &[u8]) -> Answer {
     if !sound(tables) {
         return Answer::No(1);
@@ -53,7 +53,7 @@ pub struct Session<'a> {
 }
 
 impl<'a> Session<'a> {
-    /// "After a refused opening it reads no more."
+    /// (rule K9) After a refused opening nothing more is read.
     pub fn begin(input: &'a [u8]) -> Session<'a> {
         let (tables, opening, bytes) = open(input);
         let rest = input.get(bytes..).unwrap_or(&[]);
@@ -73,8 +73,7 @@ impl<'a> Session<'a> {
     }
 }
 
-/// "The program `tablet` reads standard input and prints one line for the
-/// opening, then one a call".
+/// (rule K9) The program `tablet`: one line for the opening, then one a call.
 pub fn run_session(input: &[u8]) -> Vec<u8> {
     let mut session = Session::begin(input);
     let mut output = session.opening.print();

@@ -1,7 +1,7 @@
-//! Sound tables: the paragraph of document 01, clause by clause.
+//! Sound tables (docs/MANUAL.md, chapter 6), clause by clause.
 //!
-//! Each clause is a name and a predicate over tables of any content; points
-//! 26 to 31 of open-points.md say what is meant.
+//! Each clause is a name and a predicate over tables of any content. The clauses
+//! are cut otherwise than the manual's 27: each says which rules it is a part of.
 
 use crate::limits::*;
 use crate::relations::newest_listing;
@@ -60,42 +60,42 @@ fn every_request(tables: &Tables, test: impl Fn(&Request) -> bool) -> bool {
     tables.requests.iter().all(test)
 }
 
-/// "Row and request numbers rise".
+/// (rules S1, S2) Numbers rise.
 fn numbers_rise(t: &Tables) -> bool {
     let rows = t.rows.windows(2).all(|w| w[0].number < w[1].number);
     let requests = t.requests.windows(2).all(|w| w[0].number < w[1].number);
     rows && requests
 }
 
-/// "are never shared".
+/// (rule S3) No request has the number of a row.
 fn numbers_not_shared(t: &Tables) -> bool {
     every_request(t, |q| t.row(q.number).is_none())
 }
 
-/// "and are below the next number".
+/// (rule S4) Numbers are below the next number.
 fn numbers_below_next(t: &Tables) -> bool {
     every_row(t, |r| r.number < t.next) && every_request(t, |q| q.number < t.next)
 }
 
-/// "which is at most 1,000,001". Point 30: and at least 1.
+/// (rule S5) The next number is 1 to 1,000,001.
 fn next_in_range(t: &Tables) -> bool {
     (1..=LAST_NUMBER + 1).contains(&t.next)
 }
 
-/// "At most 1,024 rows and 128 open requests stand".
+/// (rules S6, S7) At most 1,024 rows stand and 128 requests are open.
 fn counts(t: &Tables) -> bool {
     t.rows.len() <= ROWS && t.requests.len() <= REQUESTS
 }
 
-/// "Only opening and registered rows are in nodes." Point 26: no source or
-/// one, no request number.
+/// (rule S13) Only opening and registered rows are in nodes: no source or one, no
+/// request number.
 fn nodes(t: &Tables) -> bool {
     every_row(t, |r| {
         !r.in_node() || (!r.is_end() && r.via == 0 && r.request == 0)
     })
 }
 
-/// "All fields are in range". Point 30: fields that a kind does not use are 0.
+/// (rules S9, S10, S11) Fields in range; fields that a kind does not use are 0.
 fn row_fields(t: &Tables) -> bool {
     every_row(t, |r| {
         let place = match r.place {
@@ -108,8 +108,8 @@ fn row_fields(t: &Tables) -> bool {
     })
 }
 
-/// "An operation row names a manager process and an operation. Ends have
-/// rights 0."
+/// (rules S9, S10) An operation row names a manager and an operation; an end has
+/// rights 0.
 fn object_in_range(r: &Row) -> bool {
     let rights = r.rights <= ALL_RIGHTS;
     match r.kind {
@@ -122,15 +122,15 @@ fn object_in_range(r: &Row) -> bool {
     }
 }
 
-/// "All fields are in range", of requests and listed records. Point 30:
-/// fetched is 0 or 1.
+/// (rules S12, S16) Fields of requests and of listed records in range; the mark is
+/// 0 or 1.
 fn request_fields(t: &Tables) -> bool {
     let requests = every_request(t, |q| q.number >= 1 && q.fetched <= 1);
     let primes = t.processes.iter().all(|p| p.prime <= NODES);
     requests && primes
 }
 
-/// "processes that are places or managers are listed".
+/// (rules S9, S11) Processes that are places or managers are listed.
 fn listed(t: &Tables) -> bool {
     every_row(t, |r| {
         let place = match r.place {
@@ -141,33 +141,33 @@ fn listed(t: &Tables) -> bool {
     })
 }
 
-/// "Sources are standing, .. and older".
+/// (rule S13) Sources stand and are older.
 fn sources_older(t: &Tables) -> bool {
     every_row(t, |r| {
         r.sources().all(|s| s < r.number && t.row(s).is_some())
     })
 }
 
-/// "of the kind above". Point 26: every row is one of five.
+/// (rule S13) Every row is one of five.
 fn sources_of_kind(t: &Tables) -> bool {
     every_row(t, |r| {
         opening(r) || registered(t, r) || held(t, r) || end(t, r) || lent_copy(t, r)
     })
 }
 
-/// "A row of the opening text has no source".
+/// (rule R6) A row of the text has no source.
 fn opening(r: &Row) -> bool {
     r.in_node() && r.source == 0 && r.via == 0
 }
 
-/// "A registered row comes from the directory row .., and from nothing else."
+/// (rule R8) A registered row has one source, a row of a node.
 fn registered(t: &Tables, r: &Row) -> bool {
     let directory = t.row(r.source).is_some_and(Row::in_node);
     r.in_node() && directory && r.via == 0
 }
 
-/// "A row taken by hold comes from the directory row and, if the caller went
-/// through a subdirectory row to its active node, from that row too."
+/// (rule R7) A held row comes from a row of a node and perhaps from a subdirectory
+/// row.
 fn held(t: &Tables, r: &Row) -> bool {
     let place = matches!(r.place, Place::CList(_));
     let directory = t.row(r.source).is_some_and(Row::in_node);
@@ -176,14 +176,14 @@ fn held(t: &Tables, r: &Row) -> bool {
     place && !r.is_end() && r.request == 0 && directory && second
 }
 
-/// "Both ends of a port come from the operation row used."
+/// (rule R9) An end comes from an operation row.
 fn end(t: &Tables, r: &Row) -> bool {
     let operation = t.row(r.source).is_some_and(|s| s.kind == Kind::Operation);
     r.is_end() && !r.in_node() && r.request == 0 && operation && r.via == 0
 }
 
-/// "A lent copy comes from the lender's row and from the port it was lent
-/// over, counted as its client end. It also bears its request's number."
+/// (rule R10) A lent copy comes from the lender's row and the client end of the
+/// port that it was lent over, and bears its request's number.
 fn lent_copy(t: &Tables, r: &Row) -> bool {
     let lenders_row = t.row(r.source).is_some_and(|s| !s.is_end());
     let client = t.row(r.via).is_some_and(|c| c.kind == Kind::Client);
@@ -191,7 +191,7 @@ fn lent_copy(t: &Tables, r: &Row) -> bool {
     !r.in_node() && !r.is_end() && lenders_row && client && over
 }
 
-/// "depths are right": "1 plus the greatest depth among the sources".
+/// (rule S14) Every depth is 1 plus the greatest depth of the sources.
 fn depths(t: &Tables) -> bool {
     every_row(t, |r| {
         let of_sources = r.sources().filter_map(|s| t.row(s)).map(|s| s.depth);
@@ -200,7 +200,7 @@ fn depths(t: &Tables) -> bool {
     })
 }
 
-/// The row that a held, registered or lent row is a copy of (point 28).
+/// (rule S15) The row that a held, registered or lent row is a copy of.
 fn copied<'a>(t: &'a Tables, r: &Row) -> Option<&'a Row> {
     if r.is_end() || r.source == 0 {
         return None;
@@ -208,7 +208,7 @@ fn copied<'a>(t: &'a Tables, r: &Row) -> Option<&'a Row> {
     t.row(r.source)
 }
 
-/// "a copy has its row's kind and object".
+/// (rule S15) A copy has its row's kind and object.
 fn copies_alike(t: &Tables) -> bool {
     every_row(t, |r| {
         copied(t, r)
@@ -216,12 +216,12 @@ fn copies_alike(t: &Tables) -> bool {
     })
 }
 
-/// "and rights within it".
+/// (rule S15) And rights within its row's.
 fn copies_within(t: &Tables) -> bool {
     every_row(t, |r| copied(t, r).is_none_or(|s| s.permits(r.rights)))
 }
 
-/// "unused records are 0": "all 0 where p is not listed".
+/// (rule S16) The record of a process that is not listed is all 0.
 fn unused_records(t: &Tables) -> bool {
     let records = t.processes.iter();
     records
@@ -229,7 +229,7 @@ fn unused_records(t: &Tables) -> bool {
         .all(|p| *p == Process::default())
 }
 
-/// "Ends stand in pairs." Point 29: same source; client n, server n + 1.
+/// (rule S17) Ends stand in pairs: client n, server n + 1, the same source.
 fn pairs(t: &Tables) -> bool {
     every_row(t, |r| match r.kind {
         Kind::Client => {
@@ -249,8 +249,7 @@ fn paired(client: &Row, server: &Row) -> bool {
     kinds && client.object == server.object && client.source == server.source
 }
 
-/// "Each open request is newer than its standing port". Point 29: than both
-/// ends of it.
+/// (rule S18) A request is newer than both ends of its port, which stand.
 fn ports_stand(t: &Tables) -> bool {
     every_request(t, |q| {
         let client = t.row(q.port).is_some_and(|c| c.kind == Kind::Client);
@@ -258,7 +257,7 @@ fn ports_stand(t: &Tables) -> bool {
     })
 }
 
-/// "and its ends".
+/// (rule S22) And newer than the ends that it lists.
 fn newer_than_ends(t: &Tables) -> bool {
     every_request(t, |q| {
         let mut rows = q.listed().filter_map(|i| t.row(i));
@@ -266,12 +265,12 @@ fn newer_than_ends(t: &Tables) -> bool {
     })
 }
 
-/// "has a listed requester".
+/// (rule S19) The asker is listed.
 fn requesters_listed(t: &Tables) -> bool {
     every_request(t, |q| t.listed(q.asker))
 }
 
-/// "and at most 4 items, none twice". At most 4 by the type.
+/// (rules S20, S21) At most 4 items, by the type; none twice.
 fn items_once(t: &Tables) -> bool {
     every_request(t, |q| {
         q.listed()
@@ -279,7 +278,7 @@ fn items_once(t: &Tables) -> bool {
     })
 }
 
-/// "only ends and copies as above". Point 29: the copies bear its number.
+/// (rule S22) Items are ends, and copies that bear the request's number.
 fn items_of_kind(t: &Tables) -> bool {
     every_request(t, |q| {
         q.listed().all(|i| {
@@ -289,15 +288,15 @@ fn items_of_kind(t: &Tables) -> bool {
     })
 }
 
-/// "a port has one at most".
+/// (rule S23) A port has one open request at most.
 fn one_a_port(t: &Tables) -> bool {
     every_request(t, |q| {
         t.requests.iter().filter(|o| o.port == q.port).count() == 1
     })
 }
 
-/// "A copy is newer than the open request whose number it bears, and listed
-/// there."
+/// (rule S24) A copy is newer than the open request whose number it bears, and
+/// listed there.
 fn copies_listed(t: &Tables) -> bool {
     every_row(t, |r| {
         let borne = t.request(r.request);
@@ -305,7 +304,7 @@ fn copies_listed(t: &Tables) -> bool {
     })
 }
 
-/// "Where several requests list an end, all but the newest are fetched."
+/// (rule S25) Where several requests list an end, all but the newest are fetched.
 fn older_fetched(t: &Tables) -> bool {
     every_row(t, |r| {
         let newest = newest_listing(t, r.number).map(|q| q.number);
@@ -315,8 +314,8 @@ fn older_fetched(t: &Tables) -> bool {
     })
 }
 
-/// "The system holds exactly those copies and ends whose newest request is not
-/// fetched."
+/// (rule S26) The system holds exactly those rows whose newest request is not
+/// fetched.
 fn system_holds(t: &Tables) -> bool {
     every_row(t, |r| {
         let copy_or_end = r.is_end() || r.request != 0;
@@ -325,8 +324,8 @@ fn system_holds(t: &Tables) -> bool {
     })
 }
 
-/// "Every process is in its prime node through none, or in the node of a
-/// subdirectory row of its c-list." Point 30.
+/// (rule S27) Every process is in its prime node through none, or in the node of a
+/// subdirectory row of its c-list.
 fn stands(t: &Tables) -> bool {
     (1..=PROCESSES).all(|p| t.process(p).is_none_or(|record| in_its_node(t, p, record)))
 }

@@ -2,7 +2,7 @@
 
 use crate::limits::{ITEMS, PROCESSES};
 
-/// "kind (operation, subdirectory, client end, server end)".
+/// (rule R2) The four kinds.
 #[derive(Clone, Copy, PartialEq, Eq, Debug)]
 pub enum Kind {
     Operation,
@@ -11,7 +11,7 @@ pub enum Kind {
     Server,
 }
 
-/// "place (a node, a process's c-list, or the system)".
+/// (rule R4) A node, the c-list of a process, or the system.
 #[derive(Clone, Copy, PartialEq, Eq, Debug)]
 pub enum Place {
     Node(u32),
@@ -19,8 +19,8 @@ pub enum Place {
     System,
 }
 
-/// "A row is one privilege". Sources are row numbers, 0 for none; `source` is
-/// the first and `via` the second.
+/// (rule R1) A row is one privilege. Sources are row numbers, 0 for none; `source`
+/// is the first and `via` the second.
 #[derive(Clone, Copy, PartialEq, Eq, Debug)]
 pub struct Row {
     pub number: u32,
@@ -47,7 +47,7 @@ pub struct Request {
     pub items: [Option<u32>; ITEMS],
 }
 
-/// "prime node, active node, and the subdirectory row gone through or none".
+/// (rule R13) Prime node, active node, and the subdirectory row gone through or none.
 #[derive(Clone, Copy, PartialEq, Eq, Debug, Default)]
 pub struct Process {
     pub prime: u32,
@@ -59,7 +59,7 @@ pub struct Process {
 pub struct Tables {
     pub rows: Vec<Row>,
     pub requests: Vec<Request>,
-    /// "It has 64 records, record p for process p": at p - 1.
+    /// (rule W5) 64 records, that of process p at p - 1.
     pub processes: [Process; PROCESSES as usize],
     pub next: u32,
 }
@@ -86,7 +86,7 @@ impl Row {
         self.rights & right == right
     }
 
-    /// The numbers of its sources, in the document's order.
+    /// The numbers of its sources, the first and then the second.
     pub fn sources(&self) -> impl Iterator<Item = u32> {
         [self.source, self.via].into_iter().filter(|&s| s != 0)
     }
@@ -126,7 +126,7 @@ impl Request {
 }
 
 impl Tables {
-    /// "tables with nothing in them and next number 1".
+    /// (rule K7) Empty tables, next number 1.
     pub fn empty() -> Tables {
         Tables {
             rows: Vec::new(),

@@ -1,4 +1,5 @@
-//! The lent tables as words of 32 bits, and the two entry points on them.
+//! The lent tables as words of 32 bits (docs/MANUAL.md, chapter 7), and the two
+//! entry points on them.
 
 use crate::answer::Answer;
 use crate::limits::{ITEMS, PROCESSES, REQUESTS, ROWS};
@@ -23,12 +24,15 @@ const REQUEST: usize = 9;
 pub const REQUEST_COLUMNS: usize = 4 + ITEMS;
 const REQUEST_START: usize = ROW_COLUMNS * ROWS;
 
+/// (rule W11) The version of this layout.
+pub const LAYOUT_VERSION: u32 = 1;
+
 /// The next number is the last word.
 const NEXT: usize = REQUEST_START + REQUEST_COLUMNS * REQUESTS;
 pub const TABLES_WORDS: usize = NEXT + 1;
 pub const PROCESS_WORDS: usize = 3 * PROCESSES as usize;
 
-/// "the c-list of process p is 100 + p, the system is 200"; a node is its number.
+/// (rule W12) The c-list of process p is 100 + p, the system 200; a node is its number.
 const C_LIST: u32 = 100;
 const SYSTEM: u32 = 200;
 
@@ -90,7 +94,7 @@ pub fn row_words(tables: &Tables, row: &Row) -> Option<[u32; ROW_COLUMNS]> {
     Some(words)
 }
 
-/// "the slot of the source row plus 1, 0 for none".
+/// (rule W8) The slot of the source row plus 1, 0 for none.
 fn slot_word(tables: &Tables, source: u32) -> Option<u32> {
     if source == 0 {
         return Some(0);
@@ -194,8 +198,8 @@ fn decode_request(fields: &[u32; REQUEST_COLUMNS]) -> Request {
     }
 }
 
-/// The opening on lent words. A run of another length "answers `(no 1 0)` and
-/// clears what was lent".
+/// (rule K8) The opening on lent words. A run of another length answers `(no 1 0)`
+/// and clears what was lent.
 pub fn open_entry(tables: &mut [u32], processes: &mut [u32], text: &[u8]) -> Vec<u8> {
     let lengths = tables.len() == TABLES_WORDS && processes.len() == PROCESS_WORDS;
     tables.fill(0);

@@ -1,5 +1,5 @@
-//! The cases that document 01 names, and small sessions for open points.
-//! The answers are worked out by hand from the papers.
+//! The cases that the customer names, and small sessions for the decisions.
+//! The answers are worked out by hand from the rules.
 
 use model::run_session;
 
@@ -123,11 +123,11 @@ fn drop_of_a_row_with_a_copy_out() {
             ("(1 ask 6 (5 3))", "(ok 8)"),
             ("(1 drop 5)", "(no 13)"),
             ("(1 drop 6)", "(no 8)"),
-            // The row itself is not lent: it may be registered (point 23).
+            // The row itself is not lent: it may be registered (rule L9).
             ("(1 register 5)", "(ok 10)"),
             ("(2 fetch 7)", "(ok 8 9)"),
             ("(2 register 9)", "(no 9)"),
-            // A borrower may drop the copy; the request stays open (point 18).
+            // A borrower may drop the copy; the request stays open (rule drop-ok).
             ("(2 drop 9)", "(ok 0)"),
             ("(1 drop 5)", "(ok 0)"),
             ("(2 reply 7)", "(ok 0)"),
@@ -159,7 +159,7 @@ fn reply_while_a_lent_ends_port_has_a_request() {
     );
 }
 
-/// "row 1,025 gives 16, and after a drop hold works".
+/// (rules X7, X10, hold-16) Row 1,025 gives 16, and after a drop hold works.
 #[test]
 fn row_1025_gives_16() {
     let mut session = ONE.to_string();
@@ -173,7 +173,7 @@ fn row_1025_gives_16() {
     assert_eq!(answers(&session), expected);
 }
 
-/// "1,000,000 is given, then 18": four copies and a request take 5 numbers.
+/// (rules X9, X13, ask-18) 1,000,000 is given, then 18: four copies and a request take 5 numbers.
 #[test]
 fn number_1000000_is_given_then_18() {
     let mut session = ONE.to_string() + &"(1 hold 1)\n".repeat(4) + "(1 port 2)\n";
@@ -212,7 +212,7 @@ fn request_129_gives_17() {
     assert_eq!(answers(&session), expected);
 }
 
-/// "Revoking what a process merely received *over* a borrowed port": it stays.
+/// (rule C11) What a process merely received over a borrowed port stays.
 #[test]
 fn received_over_a_borrowed_port() {
     check(
@@ -240,8 +240,8 @@ fn received_over_a_borrowed_port() {
     );
 }
 
-/// "Returning an end lent twice to its second lender when the first loan is
-/// closed": it goes to the first.
+/// (rule C5) An end lent twice, when the first loan is closed, goes to the first
+/// lender.
 #[test]
 fn an_end_lent_twice() {
     check(
@@ -318,7 +318,7 @@ fn two_loans_of_an_end_close_at_once() {
     );
 }
 
-/// "Letting a borrower of a subdirectory take the subdirectories in it."
+/// (rule hold-12) A borrower of a subdirectory does not take those in it.
 #[test]
 fn a_borrower_takes_no_subdirectories() {
     let opening = "(node 1 (op 2 0 7) (dir 2 7))\n(node 2 (dir 1 7) (op 1 0 7))\n\
@@ -369,7 +369,7 @@ fn registered_rows_stay() {
     );
 }
 
-/// Point 17: close goes by the lists, even where the end has come back.
+/// (rule close-12) Close goes by the lists, even where the end has come back.
 #[test]
 fn close_of_an_end_that_came_back() {
     check(
@@ -393,7 +393,7 @@ fn close_of_an_end_that_came_back() {
     );
 }
 
-/// Refusal 9, right by right; point 15: ends have rights 0 and need no
+/// (rules ask-9a, ask-9b) Refusal 9, right by right; ends have rights 0 and need no
 /// transfer, a row without transfer is not lent even with rights 0.
 #[test]
 fn rights_asked_for() {

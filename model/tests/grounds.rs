@@ -1,5 +1,5 @@
 //! The grounds of the refusals 7 to 18 that the named cases leave out, each in
-//! a small session. The answers are worked out by hand from the papers.
+//! a small session. The answers are worked out by hand from the rules.
 
 use model::run_session;
 

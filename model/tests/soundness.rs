@@ -29,7 +29,7 @@ fn every_clause_has_an_aim() {
 }
 
 /// A row in a node that is neither opening nor registered is none of the five
-/// kinds of point 26, or bears a number that no request lists.
+/// kinds (rule S13), or bears a number that no request lists.
 const NEVER_ALONE: [&str; 1] = ["only opening and registered rows in nodes"];
 
 /// Each clause is broken 100 times by an alteration aimed at it; most clauses

@@ -78,7 +78,7 @@ fn opening_lines() {
     }
 }
 
-/// "more than 16 entries": 16 are accepted; 2, 3 and 4 come before 6.
+/// (rule O15) More than 16 entries: 16 are accepted; 2, 3 and 4 come before 6.
 #[test]
 fn entries() {
     let with = |count: usize, last: &str| {
@@ -94,7 +94,7 @@ fn entries() {
     assert_eq!(first(&second), "(no 4 2)");
 }
 
-/// "at most 255 bytes before the line feed": a number fills the line.
+/// (rule T1) At most 255 bytes before the line feed: a number fills the line.
 #[test]
 fn line_length() {
     let node = |digits: usize| first(&format!("(node {})\n(open)\n", "1".repeat(digits)));
@@ -162,7 +162,7 @@ fn call_lines() {
     assert_eq!(answer("(1 go 0)\n"), None);
 }
 
-/// "what follows it is not read"; the last line without a line feed is a call.
+/// (rules O8, K10) What follows it is not read; the last line without a line feed is a call.
 #[test]
 fn lines_of_a_session() {
     let opening = "(node 1)\n(process 1 1)\n(open)\n";

@@ -114,8 +114,8 @@ fn full_tables_round_trip() {
     panic!("{} rows", tables.rows.len());
 }
 
-/// "A lent run of another length is 1 for a call; an opening answers it
-/// `(no 1 0)` and clears what was lent."
+/// (rule K8) A lent run of another length is 1 for a call; an opening answers it
+/// `(no 1 0)` and clears what was lent.
 #[test]
 fn lengths() {
     let text = b"(node 1)\n(process 1 1)\n(open)\n";
@@ -145,8 +145,7 @@ fn lengths() {
     }
 }
 
-/// "the opening answers `(no k line)` and leaves tables with nothing in them
-/// and next number 1."
+/// (rule K7) A refused opening answers `(no k line)` and leaves empty tables.
 #[test]
 fn a_refused_opening_leaves_empty_words() {
     for text in [&b""[..], b"(node 1)\n", b"(node 1 (op 9 9 9))\n(open)\n"] {

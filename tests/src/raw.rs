@@ -12,6 +12,7 @@ extern "C" {
     pub fn kernel_open_on(t: *const u32, t_len: usize, c: u32) -> usize;
 
     // reading.rt
+    pub fn kernel_layout_version() -> u32;
     pub fn kernel_row_at(t: *const u32, t_len: usize, i: usize, out: *mut RowFields);
     pub fn kernel_request_at(t: *const u32, t_len: usize, j: usize, out: *mut RequestFields);
     pub fn kernel_next_of(t: *const u32, t_len: usize) -> u32;

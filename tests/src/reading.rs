@@ -32,6 +32,11 @@ pub fn open_on(tables: &[u32], port: u32) -> Option<usize> {
     slot(unsafe { raw::kernel_open_on(tables.as_ptr(), tables.len(), port) })
 }
 
+/// (rule W11) The version of the layout.
+pub fn layout_version() -> u32 {
+    unsafe { raw::kernel_layout_version() }
+}
+
 /// Writes the words of a slot; nothing if there is no such slot.
 pub fn row_at(tables: &[u32], slot: usize, out: &mut RowFields) {
     unsafe { raw::kernel_row_at(tables.as_ptr(), tables.len(), slot, out) }

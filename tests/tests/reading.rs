@@ -9,8 +9,13 @@ use model::limits::{ALL_RIGHTS, PROCESSES, REQUESTS, ROWS};
 use model::random::Rng;
 use model::relations::request_on;
 use model::tables::Row;
-use model::words::{request_words, row_words, PROCESS_WORDS, TABLES_WORDS};
+use model::words::{request_words, row_words, LAYOUT_VERSION, PROCESS_WORDS, TABLES_WORDS};
 use model::Tables;
+
+#[test]
+fn the_layout_has_one_version() {
+    assert_eq!(layout_version(), LAYOUT_VERSION);
+}
 
 /// Numbers to look up: each that is used, and others near and far.
 fn numbers(rng: &mut Rng, tables: &Tables) -> Vec<u32> {

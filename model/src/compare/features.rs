@@ -51,7 +51,7 @@ fn of_refusals(tables: &Tables, call: &Call) -> Features {
     pairs.collect()
 }
 
-/// What sort of row it is, of the five of point 26.
+/// (rule S13) What sort of row it is, of the five.
 fn sort(row: &Row) -> String {
     let via = if row.via == 0 { "" } else { " via" };
     let origin = match (row.in_node(), row.request != 0, row.is_end()) {

@@ -5,8 +5,8 @@ use crate::limits::{ENTRIES, LINE_BYTES};
 use crate::random::Rng;
 
 /// The text with a number of one line lengthened so that the line has one
-/// byte less than it may have, as many, or one more: "at most 255 bytes
-/// before the line feed". The form stays good, since numbers of any length are.
+/// byte less than it may have, as many, or one more than 255
+/// before its line feed (rule T1). The form stays good, since numbers of any length are.
 pub fn stretched(rng: &mut Rng, text: &[u8]) -> Vec<u8> {
     let bytes = LINE_BYTES + rng.below(3) - 1;
     with_line(

@@ -24,8 +24,9 @@ use Rattle.compare.specs.Help.{row, request, process, state, tellNext, t
 
 ";
 
-/// Writes `crates/compare` and `cases/` into the directory, instead of what
-/// was there. `cases/list` has a line for each case: its name, then what it is.
+/// Writes the scratch crate and a folder of cases into the directory, instead of
+/// what was there. The file `list` of the cases has a line for each: its name, then
+/// what it is.
 pub fn write(directory: &Path, cases: &[Case]) -> std::io::Result<()> {
     let specs = directory.join("crates/compare/specs");
     let source = directory.join("crates/compare/src");
