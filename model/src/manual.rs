@@ -13,6 +13,14 @@ pub struct Told {
     pub answers: Vec<String>,
 }
 
+impl Told {
+    /// What the program prints: the answers, a line each.
+    pub fn output(&self) -> Vec<u8> {
+        let lines = self.answers.iter().map(|a| format!("{a}\n"));
+        lines.collect::<String>().into_bytes()
+    }
+}
+
 /// The lines of the words that a session leaves: a part's name, then rows of numbers.
 pub struct Words {
     pub line: usize,

@@ -7,16 +7,16 @@ use model::words::encode;
 
 /// Not fewer sessions and answers than the manual had when this was written, so that
 /// a fence that is not read does not pass unseen.
-const SESSIONS: usize = 44;
-const ANSWERS: usize = 490;
+const SESSIONS: usize = 48;
+const ANSWERS: usize = 518;
 
 #[test]
 fn sessions_are_answered_as_told() {
     let sessions = manual::sessions(&manual::read().unwrap());
     for told in &sessions {
         let printed = String::from_utf8(run_session(&told.input)).unwrap();
-        let printed: Vec<&str> = printed.lines().collect();
-        assert_eq!(printed, told.answers, "docs/MANUAL.md:{}", told.line);
+        let output = String::from_utf8(told.output()).unwrap();
+        assert_eq!(printed, output, "docs/MANUAL.md:{}", told.line);
     }
     assert!(sessions.len() >= SESSIONS, "{} sessions", sessions.len());
     let answers: usize = sessions.iter().map(|s| s.answers.len()).sum();

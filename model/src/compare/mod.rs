@@ -23,7 +23,7 @@ use crate::random::Rng;
 /// How many cases of each sort are written.
 #[derive(Clone, Copy, Debug)]
 pub struct Sizes {
-    /// Lines of the longest conformance session.
+    /// Lines of the longest conformance session; 0: none, and none of the manual.
     pub lines: usize,
     /// Random sessions, others chosen for their features, the calls of each.
     pub sessions: usize,
@@ -45,6 +45,9 @@ pub struct Sizes {
 pub fn cases(seed: u64, sizes: Sizes) -> std::io::Result<Vec<Case>> {
     let mut rng = Rng::new(seed);
     let mut cases = sessions::conformance(sizes.lines)?;
+    if sizes.lines > 0 {
+        cases.extend(sessions::of_manual()?);
+    }
     cases.extend(sessions::fresh(&mut rng, sizes.sessions, sizes.calls));
     let sessions = features::sessions(&mut rng, sizes.chosen, sizes.calls);
     cases.extend(sessions::chosen(&sessions));

@@ -1,10 +1,11 @@
 //! Whole sessions with the output that the model prints: conformance, random
-//! and damaged ones.
+//! and damaged ones; those of the manual with the answers that it gives.
 
 use super::antt::bytes;
 use super::case::{name, same, Case};
 use super::conformance::conformance_inputs;
 use super::limits;
+use crate::manual;
 use crate::random::damage::damage;
 use crate::random::{session, Profile, Rng, PROFILES, SMALL};
 use crate::session::{open, run_session};
@@ -12,10 +13,15 @@ use crate::session::{open, run_session};
 /// The definitions print for this input what the model prints.
 pub fn case(name: String, about: String, input: Vec<u8>) -> Case {
     let output = run_session(&input);
+    prints(name, about, input, &output)
+}
+
+/// The definitions print this output for this input.
+fn prints(name: String, about: String, input: Vec<u8>, output: &[u8]) -> Case {
     Case {
         name,
         about,
-        claim: same(&format!("session {}", bytes(&input)), &bytes(&output)),
+        claim: same(&format!("session {}", bytes(&input)), &bytes(output)),
         files: vec![("session", input)],
     }
 }
@@ -23,6 +29,18 @@ pub fn case(name: String, about: String, input: Vec<u8>) -> Case {
 pub fn conformance(lines: usize) -> std::io::Result<Vec<Case>> {
     let inputs = conformance_inputs(lines)?.into_iter().enumerate();
     let cases = inputs.map(|(at, (about, input))| case(name("conformance", at), about, input));
+    Ok(cases.collect())
+}
+
+/// The sessions of docs/MANUAL.md.
+pub fn of_manual() -> std::io::Result<Vec<Case>> {
+    let text = manual::read()?;
+    let sessions = manual::sessions(&text).into_iter().enumerate();
+    let cases = sessions.map(|(at, told)| {
+        let about = format!("docs/MANUAL.md:{}", told.line);
+        let output = told.output();
+        prints(name("manual", at), about, told.input, &output)
+    });
     Ok(cases.collect())
 }
 

@@ -182,7 +182,7 @@ starred =
     }
     ∷ []
 
--- "Plausible readings that are wrong", and the order of refusals
+-- the readings that the customer calls wrong (rules C5, C11, hold-12), and the order of refusals (rule F8)
 unfoldable pub misreadings : List Case
 misreadings =
     record {
@@ -312,7 +312,7 @@ misreadings =
     }
     ∷ []
 
--- the openings that are refused: number and line
+-- (rules K7, O8, O12, O14, O15, O17) the openings that are refused: number and line
 unfoldable pub openings : List Case
 openings =
     record { name = "5 at its line, after 2, 3, 4 and 6 of any line"; opening = "(node 1 (op 9 1 1))" ∷ "(process 1 2)" ∷ "(open)" ∷ []; opened = "(no 5 1)"; calls = [] }

@@ -45,7 +45,7 @@ closed q s = isClosed (s .history) (loanOf (s .history .requests) q)
 unfoldable pub isWith : ℕ → ℕ → Moment → Bool
 isWith e p s = eqb (rowOf (s .state .rows) e .place) (inClist p)
 
--- ---- an end lent twice goes back to the first lender: 1 lends the end 7 and the operation 6 to 2 by request 9; 2 makes port 11 from the copy 10
+-- ---- (rules H4, H6, C3, C5) an end lent twice goes back to the first lender: 1 lends the end 7 and the operation 6 to 2 by request 9; 2 makes port 11 from the copy 10
 -- and lends 7 on over it by request 13. The revoke of 9 closes both.
 unfoldable pub lentTwice : Moment
 lentTwice =
@@ -60,7 +60,7 @@ pub goes-back-to-first-lender :
 unfolding momentAfter afterLines afterOpening inTables hasOnLoan closed isWith lentTwice lentTwiceRevoked Rattle.rows.specs.Computes.computes Rattle.closing.specs.Computes.computes Rattle.calls.specs.Computes.computes Rattle.text.specs.Computes.computes Rattle.history.specs.Computes.computes
 goes-back-to-first-lender = tt
 
--- ---- a port made from a lent operation goes with the loan: 9 and 10 are made from the copy 8 that bears request 7
+-- ---- (rules H1, H2, H3, H5, C1) a port made from a lent operation goes with the loan: 9 and 10 are made from the copy 8 that bears request 7
 unfoldable pub portFromLoan : Moment
 portFromLoan =
     momentAfter "(node 1 (op 2 5 7) (dir 2 3))\n(node 2 (op 3 1 1))\n(process 1 1)\n(process 2 2)\n(process 3 2)\n(open)\n(1 hold 1)\n(1 port 4)\n(1 ask 5 (4 3))\n(2 fetch 6)\n(2 port 8)\n"
@@ -75,7 +75,7 @@ pub port-goes-with-loan :
 unfolding momentAfter afterLines afterOpening inTables portFromLoan portFromLoanRevoked Rattle.rows.specs.Computes.computes Rattle.closing.specs.Computes.computes Rattle.calls.specs.Computes.computes Rattle.text.specs.Computes.computes Rattle.history.specs.Computes.computes
 port-goes-with-loan = tt
 
--- ---- what was received over a borrowed port stays: the server end 6 is lent by request 7; the copy 9 of request 8 is received over it
+-- ---- (rules C11, H6) what was received over a borrowed port stays: the server end 6 is lent by request 7; the copy 9 of request 8 is received over it
 unfoldable pub received : Moment
 received =
     momentAfter "(node 1 (op 1 1 7))\n(process 1 1)\n(open)\n(1 hold 1)\n(1 port 2)\n(1 port 2)\n(1 ask 3 (6 0))\n(1 fetch 4)\n(1 ask 5 (2 3))\n(1 fetch 6)\n"
@@ -89,7 +89,7 @@ pub received-stays :
 unfolding momentAfter afterLines afterOpening inTables hasOnLoan closed isWith received receivedRevoked Rattle.rows.specs.Computes.computes Rattle.closing.specs.Computes.computes Rattle.calls.specs.Computes.computes Rattle.text.specs.Computes.computes Rattle.history.specs.Computes.computes
 received-stays = tt
 
--- ---- the entry points on the lent words: the manual's first session up to the revoke, its replies, and the words of the state that it leaves
+-- ---- (rules K6, O9) the entry points on the lent words, whatever they held before: the manual's first session up to the revoke, its replies, and the words of the state that it leaves
 unfoldable pub opened : Replied
 opened =
     openEntry (replicate tablesLength 7) (replicate processesLength 7) (bytes "(node 1 (op 2 5 7) (dir 2 3))\n(node 2 (op 3 1 1))\n(process 1 1)\n(process 2 2)\n(process 3 2)\n(open)\n")
