@@ -1,13 +1,13 @@
--- Padded columns, and what is kept of them: the loops that compact a column, and what a column of laid words becomes. Over any number of slots.
+-- Padded columns, and what is kept of them: the loop that clears words, and what a column of laid words becomes. Over any number of slots.
 use Prim.Native.Nat.{ℕ, zero, suc, _+_, _-_, _<_, _≤_, zero-le, suc-le-suc}
 use mathlib.Core.Bool.{Bool, true, false, not, cond, false≢true, true≢false}
 use mathlib.Core.List.{List, [], _∷_, _++_, append-assoc, append-nil}
 use mathlib.Core.Path.{_≡_, refl, ap, sym, subst, _∙_}
-use native.Mathlib.Nat.{add-zero, zero-add, suc-add, not-suc-le-zero, le-of-suc-le-suc, le-refl, le-step}
+use native.Mathlib.Nat.{zero-add, suc-add, not-suc-le-zero, le-of-suc-le-suc, le-refl, le-step}
 use native.Mathlib.Numerals.{add-one}
 use native.Mathlib.Omega.{arith}
-use lib.ListN.{length, getD, take, drop, set, length-append, length-set, take-append-drop}
-use lib.Seq.{take-suc, take-at, drop-at, drop-cons, drop-drop, take-suc-set, take-set-le, drop-set-lt, getD-drop, set-at, length-take-le}
+use lib.ListN.{length, getD, take, drop, set, length-append, length-drop, take-append-drop}
+use lib.Seq.{take-suc, take-at, drop-at, drop-cons, set-at, getD-take, getD-drop, ext-getD, length-take-le}
 use Rattle.rows.specs.Lists.{filter, pad, laid}
 use Rattle.changes.specs.contracts.Marks.{tested, keep, compacted}
 
@@ -54,7 +54,7 @@ module _ {A : Type 0} where
   length-keep (false ∷ ms) (x ∷ l) = suc-le-suc (length-keep ms l)
 
   -- one element more, marked or not
-  keep-skip : (ms : List Bool) (l : List A) (i : ℕ) → i < length l → getD ms i false ≡ true → keep ms (take (suc i) l) ≡ keep ms (take i l)
+  pub keep-skip : (ms : List Bool) (l : List A) (i : ℕ) → i < length l → getD ms i false ≡ true → keep ms (take (suc i) l) ≡ keep ms (take i l)
   unfolding keep
   keep-skip ms [] i h e = absurd (not-suc-le-zero h)
   keep-skip [] (x ∷ l) i h e = absurd (false≢true e)
@@ -63,7 +63,7 @@ module _ {A : Type 0} where
   keep-skip (true ∷ ms) (x ∷ l) (suc i) h e = keep-skip ms l i (le-of-suc-le-suc h) e
   keep-skip (false ∷ ms) (x ∷ l) (suc i) h e = ap (λ (t : List A). x ∷ t) (keep-skip ms l i (le-of-suc-le-suc h) e)
 
-  keep-take : (d : A) (ms : List Bool) (l : List A) (i : ℕ) → i < length l → getD ms i false ≡ false → keep ms (take (suc i) l) ≡ keep ms (take i l) ++ (getD l i d ∷ [])
+  pub keep-take : (d : A) (ms : List Bool) (l : List A) (i : ℕ) → i < length l → getD ms i false ≡ false → keep ms (take (suc i) l) ≡ keep ms (take i l) ++ (getD l i d ∷ [])
   unfolding keep
   keep-take d ms [] i h e = absurd (not-suc-le-zero h)
   keep-take d [] (x ∷ l) i h e = take-suc (x ∷ l) i d h
@@ -72,7 +72,7 @@ module _ {A : Type 0} where
   keep-take d (true ∷ ms) (x ∷ l) (suc i) h e = keep-take d ms l i (le-of-suc-le-suc h) e
   keep-take d (false ∷ ms) (x ∷ l) (suc i) h e = ap (λ (t : List A). x ∷ t) (keep-take d ms l i (le-of-suc-le-suc h) e)
 
-  keep-unmarked : (ms : List Bool) (l : List A) (n : ℕ) → ((i : ℕ) → i < n → getD ms i false ≡ false) → keep ms (take n l) ≡ take n l
+  pub keep-unmarked : (ms : List Bool) (l : List A) (n : ℕ) → ((i : ℕ) → i < n → getD ms i false ≡ false) → keep ms (take n l) ≡ take n l
   unfolding keep
   keep-unmarked [] l n f = refl
   keep-unmarked (m ∷ ms) l zero f = refl
@@ -111,48 +111,6 @@ module _ {A : Type 0} where
   keep-snoc (true ∷ ms) m (y ∷ l) x e = keep-snoc ms m l x (omega arith)
   keep-snoc (false ∷ ms) m (y ∷ l) x e = ap (λ (t : List A). y ∷ t) (keep-snoc ms m l x (omega arith))
 
--- ---- the loop that moves what is kept to the front
-module _ {A : Type 0} (d : A) (ms : List Bool) (l₀ : List A) where
-  -- i elements are passed, and the first j are those of them that are kept
-  pub record Passed (l : List A) (i j : ℕ) : Type 0 where
-    pub len : length l ≡ length l₀
-    pub back : j ≤ i
-    pub front : take j l ≡ keep ms (take i l₀)
-    pub rest : drop i l ≡ drop i l₀
-
-  pub gather-start : (n : ℕ) → ((i : ℕ) → i < n → getD ms i false ≡ false) → Passed l₀ n n
-  gather-start n f = record { len = refl; back = le-refl n; front = sym (keep-unmarked ms l₀ n f); rest = refl }
-
-  module _ (l : List A) (i j : ℕ) (p : Passed l i j) (h : i < length l₀) where
-    rest-more : drop (i + 1) (set l j (getD l i d)) ≡ drop (i + 1) l₀
-    rest-more = drop-set-lt (i + 1) l j (getD l i d) (omega (arith, p .back)) ∙ rw (← drop-drop 1 i l, ← drop-drop 1 i l₀, p .rest) refl
-
-    same-at : getD l i d ≡ getD l₀ i d
-    same-at = sym (rw add-zero at (getD-drop i l 0 d)) ∙ ap (λ (t : List A). getD t 0 d) (p .rest) ∙ (rw add-zero at (getD-drop i l₀ 0 d))
-
-    pub gather-marked : getD ms i false ≡ true → Passed (set l j (getD l i d)) (i + 1) j
-    gather-marked e =
-        record {
-          len = length-set l j (getD l i d) ∙ p .len;
-          back = omega (arith, p .back);
-          front = rw add-one (take-set-le j l j (getD l i d) (le-refl j) ∙ p .front ∙ sym (keep-skip ms l₀ i h e));
-          rest = rest-more;
-        }
-
-    pub gather-left : getD ms i false ≡ false → Passed (set l j (getD l i d)) (i + 1) (j + 1)
-    gather-left e =
-        record {
-          len = length-set l j (getD l i d) ∙ p .len;
-          back = omega (arith, p .back);
-          front =
-              rw (add-one i, add-one j)
-              (take-suc-set l j (getD l i d) (omega (arith, p .len, p .back))
-              ∙ ap (λ (t : List A). t ++ (getD l i d ∷ [])) (p .front)
-              ∙ ap (λ (a : A). keep ms (take i l₀) ++ (a ∷ [])) same-at
-              ∙ sym (keep-take d ms l₀ i h e));
-          rest = rest-more;
-        }
-
 -- ---- the loop that clears what stands between two positions
 module _ {A : Type 0} (d : A) (l₀ : List A) (from : ℕ) (room : from ≤ length l₀) where
   abbrev pub Cleared : List A → ℕ → Type 0
@@ -174,19 +132,34 @@ module _ {A : Type 0} (d : A) (l₀ : List A) (from : ℕ) (room : from ≤ leng
       ∙ sym (append-assoc (pad d i (take from l₀)) (d ∷ []) (drop (suc i) l₀))
       ∙ ap (λ (t : List A). t ++ drop (suc i) l₀) (sym (pad-more d i (take from l₀) (omega (arith, long)))))
 
--- the two loops one after the other
-pub compacted-is : (ms : List Bool) (n j : ℕ) (l₀ l l′ : List ℕ) → take j l ≡ keep ms (take n l₀) → drop n l ≡ drop n l₀
-    → l′ ≡ pad 0 n (take j l) ++ drop n l → l′ ≡ compacted ms n l₀
-unfolding compacted
-compacted-is ms n j l₀ l l′ front rest e = e ∙ ap (λ (t : List ℕ). pad 0 n t ++ drop n l) front ∙ ap (λ (t : List ℕ). pad 0 n (keep ms (take n l₀)) ++ t) rest
+-- ---- columns that agree where nothing is marked are compacted to the same
+keep-agree : (ms : List Bool) (l l′ : List ℕ) → length l ≡ length l′ → ((i : ℕ) → i < length l → getD ms i false ≡ false → getD l i 0 ≡ getD l′ i 0)
+    → keep ms l ≡ keep ms l′
+unfolding keep
+keep-agree ms [] [] e h = refl
+keep-agree ms [] (y ∷ l′) e h = absurd (omega arith)
+keep-agree ms (x ∷ l) [] e h = absurd (omega arith)
+keep-agree [] (x ∷ l) (y ∷ l′) e h =
+    ap (λ (w : ℕ). w ∷ l) (h 0 (suc-le-suc zero-le) refl)
+    ∙ ap (λ (t : List ℕ). y ∷ t) (keep-agree [] l l′ (omega arith) (λ i lt u. h (suc i) (suc-le-suc lt) u))
+keep-agree (true ∷ ms) (x ∷ l) (y ∷ l′) e h = keep-agree ms l l′ (omega arith) (λ i lt u. h (suc i) (suc-le-suc lt) u)
+keep-agree (false ∷ ms) (x ∷ l) (y ∷ l′) e h =
+    ap (λ (w : ℕ). w ∷ keep ms l) (h 0 (suc-le-suc zero-le) refl)
+    ∙ ap (λ (t : List ℕ). y ∷ t) (keep-agree ms l l′ (omega arith) (λ i lt u. h (suc i) (suc-le-suc lt) u))
 
-pub length-compacted : (ms : List Bool) (n : ℕ) (l : List ℕ) → n ≤ length l → length (compacted ms n l) ≡ length l
+pub compacted-agree : (ms : List Bool) (n : ℕ) (l l′ : List ℕ) → n ≤ length l → length l ≡ length l′
+    → ((i : ℕ) → i < n → getD ms i false ≡ false → getD l i 0 ≡ getD l′ i 0) → ((i : ℕ) → n ≤ i → getD l i 0 ≡ getD l′ i 0)
+    → compacted ms n l ≡ compacted ms n l′
 unfolding compacted
-length-compacted ms n l h =
-    let few : length (take n l) ≡ n = length-take-le n l h in
-    let front : length (pad 0 n (keep ms (take n l))) ≡ n = length-pad 0 n (keep ms (take n l)) (omega (arith, length-keep ms (take n l), few)) in
-    length-append (pad 0 n (keep ms (take n l))) (drop n l)
-    ∙ omega (arith, front, ap length (take-append-drop n l), length-append (take n l) (drop n l), few)
+compacted-agree ms n l l′ room e same rest =
+    let long : length (take n l) ≡ n = length-take-le n l room in
+    let long′ : length (take n l′) ≡ n = length-take-le n l′ (omega arith) in
+    ap (λ (t : List ℕ). pad 0 n t ++ drop n l)
+    (keep-agree ms (take n l) (take n l′) (long ∙ sym long′)
+    (λ i h u. let lt : i < n = omega arith in getD-take n l i 0 lt ∙ same i lt u ∙ sym (getD-take n l′ i 0 lt)))
+    ∙ ap (λ (t : List ℕ). pad 0 n (keep ms (take n l′)) ++ t)
+    (ext-getD 0 (drop n l) (drop n l′) (omega (arith, length-drop n l, length-drop n l′))
+    (λ i h. getD-drop n l i 0 ∙ rest (n + i) (omega arith) ∙ sym (getD-drop n l′ i 0)))
 
 -- ---- a column of laid words
 -- a padded column, of which the first n words are looked at and hold all that is not padding

@@ -3,11 +3,13 @@
 pub mod Put
 -- words that represent a state, with one change
 pub mod Changes
--- a column compacted: the loops, and what laid words become
+-- a column compacted: what is kept, and what laid words become
 pub mod Keep
+-- runs of words moved down in a column
+pub mod Slide
+-- columns one after the other, changed in the same way
+pub mod Parts
 -- the slots that rows move to, and source columns renumbered
 pub mod Renumber
--- columns of which one or all are lent and come back
-pub mod Parts
 -- rows and requests removed
 pub mod Removed

@@ -25,7 +25,7 @@ module _ {A : Type 0} (d : A) where
   length-pad (suc n) [] h = ap suc (length-pad n [] zero-le)
   length-pad (suc n) (x ∷ xs) h = ap suc (length-pad n xs (le-of-suc-le-suc h))
 
-  getD-pad : (n : ℕ) (l : List A) (i : ℕ) → getD (pad d n l) i d ≡ getD l i d
+  pub getD-pad : (n : ℕ) (l : List A) (i : ℕ) → getD (pad d n l) i d ≡ getD l i d
   unfolding pad
   getD-pad zero l i = refl
   getD-pad (suc n) [] zero = refl

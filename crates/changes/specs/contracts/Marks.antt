@@ -1,14 +1,14 @@
 -- Marks of what is to be removed, one for each slot, oldest first; what is left, and the slots that it moves to.
-use Prim.Native.Nat.{ℕ, zero, suc, _*_, _≤_, _<_}
-use mathlib.Core.Bool.{Bool, false, not, _||_}
-use mathlib.Core.List.{List, [], _∷_, _++_, map}
+use Prim.Native.Nat.{ℕ, zero, suc, _+_, _*_, _≤_, _<_}
+use mathlib.Core.Bool.{Bool, true, false, not, _||_}
+use mathlib.Core.List.{List, [], _∷_, _++_}
 use mathlib.Core.Path.{_≡_}
-use lib.ListN.{getD, take, drop}
+use lib.ListN.{length, getD, take, drop}
 use Rattle.rows.specs.declared.Row.{Row}
 use Rattle.rows.specs.declared.Request.{Request}
 use Rattle.rows.specs.Lists.{if_then_else_, any, all, pad, member}
 use Rattle.rows.specs.Tables.{sources}
-use Rattle.rows.specs.contracts.Sizes.{ROWS, REQUESTS}
+use Rattle.rows.specs.contracts.Sizes.{ROWS, REQUESTS, SOURCE, VIA, DEPTH}
 
 -- ---- marks
 module _ {A : Type 0} where
@@ -31,9 +31,26 @@ marksOf g rows = tested (λ r. member (r .number) g) rows
 unfoldable pub closedUnder : List ℕ → List Row → Bool
 closedUnder g rows = all (λ r. member (r .number) g || not (any (λ s. member s g) (sources r))) rows
 
--- none of the first k is marked
-abbrev pub NoneMarked : List Bool → ℕ → Type 0
-NoneMarked ms k = (i : ℕ) → i < k → getD ms i false ≡ false
+-- ---- runs of slots: from one slot up to another none is marked, or all are
+abbrev pub NoneMarked : List Bool → ℕ → ℕ → Type 0
+NoneMarked ms from to = (i : ℕ) → from ≤ i → i < to → getD ms i false ≡ false
+
+abbrev pub AllMarked : List Bool → ℕ → ℕ → Type 0
+AllMarked ms from to = (i : ℕ) → from ≤ i → i < to → getD ms i false ≡ true
+
+-- the run of slots that are not marked, from one slot on, among the first count: it ends before the slot r
+pub record EndsClear (ms : List Bool) (from count r : ℕ) : Type 0 where
+  pub after : from ≤ r
+  pub within : r ≤ count
+  pub clear : NoneMarked ms from r
+  pub stops : r < count → getD ms r false ≡ true
+
+-- the run of slots that are marked likewise
+pub record EndsMarked (ms : List Bool) (from count r : ℕ) : Type 0 where
+  pub after : from ≤ r
+  pub within : r ≤ count
+  pub marked : AllMarked ms from r
+  pub stops : r < count → getD ms r false ≡ false
 
 -- the marks of all slots of rows: set for the rows in g; of requests: for those that pass the test
 abbrev pub MarkedRows : List Bool → List ℕ → List Row → Type 0
@@ -43,22 +60,22 @@ abbrev pub MarkedRequests : List Bool → (Request → Bool) → List Request �
 MarkedRequests ms f requests = ms ≡ pad false REQUESTS (tested f requests)
 
 -- ---- a column
--- of the first n words those that are not marked
-abbrev pub unmarkedOf : List Bool → ℕ → List ℕ → List ℕ
-unmarkedOf ms n l = keep ms (take n l)
+-- k words from one position on, moved down to another; the words that they do not reach stay
+unfoldable pub slid : ℕ → ℕ → ℕ → List ℕ → List ℕ
+slid to from k l = take to l ++ (take k (drop from l) ++ drop (to + k) l)
 
 -- the words from a position up to another are 0
-abbrev pub cleared : ℕ → ℕ → List ℕ → List ℕ
+unfoldable pub cleared : ℕ → ℕ → List ℕ → List ℕ
 cleared from to l = pad 0 to (take from l) ++ drop to l
 
 -- of the first n words those that are not marked come first, 0 after them; the others stay
 unfoldable pub compacted : List Bool → ℕ → List ℕ → List ℕ
 compacted ms n l = pad 0 n (keep ms (take n l)) ++ drop n l
 
--- each of the first c parts of k words compacted
-unfoldable pub compactedParts : List Bool → ℕ → ℕ → ℕ → List ℕ → List ℕ
-compactedParts ms n k zero l = []
-compactedParts ms n k (suc c) l = compactedParts ms n k c l ++ compacted ms n (take k (drop (c * k) l))
+-- each of the first c parts of k words changed by f
+unfoldable pub onParts : (List ℕ → List ℕ) → ℕ → ℕ → List ℕ → List ℕ
+onParts f k zero l = []
+onParts f k (suc c) l = onParts f k c l ++ f (take k (drop (c * k) l))
 
 -- ---- slots
 -- how many of the first i slots are not marked
@@ -75,6 +92,22 @@ movedTo ms (suc i) = suc (lefts ms i)
 abbrev pub Ranks : List Bool → ℕ → List ℕ → Type 0
 Ranks ms n to = (s : ℕ) → s ≤ n → getD to s 0 ≡ movedTo ms s
 
--- the first n words are changed by a table
-unfoldable pub remapped : List ℕ → ℕ → List ℕ → List ℕ
-remapped to n l = map (λ s. getD to s 0) (take n l) ++ drop n l
+-- the words from one position up to n are looked up in a table
+pub record Remapped (to : List ℕ) (from n : ℕ) (l l′ : List ℕ) : Type 0 where
+  pub long : length l′ ≡ length l
+  pub before : (i : ℕ) → i < from → getD l′ i 0 ≡ getD l i 0
+  pub looked : (i : ℕ) → from ≤ i → i < n → getD l′ i 0 ≡ getD to (getD l i 0) 0
+  pub rest : (i : ℕ) → n ≤ i → getD l′ i 0 ≡ getD l i 0
+
+-- of the first n slots, the source word of each that is not marked becomes what the source's slot becomes, if the source is older
+pub record Renumbered (ms : List Bool) (n : ℕ) (l l′ : List ℕ) : Type 0 where
+  pub long : length l′ ≡ length l
+  pub moved : (i : ℕ) → i < n → getD ms i false ≡ false → getD l i 0 ≤ i → getD l′ i 0 ≡ movedTo ms (getD l i 0)
+  pub rest : (i : ℕ) → n ≤ i → getD l′ i 0 ≡ getD l i 0
+
+-- in both columns of sources; the other words stay
+pub record RenumbersSources (ms : List Bool) (n : ℕ) (t u : List ℕ) : Type 0 where
+  pub front : take SOURCE u ≡ take SOURCE t
+  pub source : Renumbered ms n (take ROWS (drop SOURCE t)) (take ROWS (drop SOURCE u))
+  pub via : Renumbered ms n (take ROWS (drop VIA t)) (take ROWS (drop VIA u))
+  pub behind : drop DEPTH u ≡ drop DEPTH t

@@ -32,6 +32,9 @@ SOURCE = 6144
 abbrev pub VIA : ℕ
 VIA = 7168
 
+abbrev pub DEPTH : ℕ
+DEPTH = 8192
+
 abbrev pub REQUEST : ℕ
 REQUEST = 9216
 
@@ -65,6 +68,7 @@ pub record SizesMeant : Type 0 where
   pub request-columns : REQUEST-COLUMNS ≡ requestColumns
   pub source : SOURCE ≡ 6 * rowSlots
   pub via : VIA ≡ 7 * rowSlots
+  pub depth : DEPTH ≡ 8 * rowSlots
   pub request : REQUEST ≡ 9 * rowSlots
   pub first-request : Q-NUMBER ≡ requestsAt
   pub next : NEXT ≡ nextAt
@@ -83,6 +87,7 @@ sizes-meant =
       request-columns = refl;
       source = refl;
       via = refl;
+      depth = refl;
       request = refl;
       first-request = refl;
       next = refl;

@@ -54,9 +54,7 @@ pub fn on_tables(b: &Benched, by: &mut dyn Measured) {
     for slot in [b.first, b.line, b.end] {
         lent(b, by, slot);
     }
-    for gone in [1, b.rows / 2, b.rows] {
-        removal(b, by, gone);
-    }
+    removals(b, by);
 }
 
 fn sound(b: &Benched, by: &mut dyn Measured) {
@@ -169,7 +167,7 @@ fn lent(b: &Benched, by: &mut dyn Measured, slot: usize) {
     by.measure(b.size(), about, &mut Reads(proved, plain));
 }
 
-/// Removal of the newest rows. Each call has tables of its own.
+/// Removal of marked rows. Each call has tables of its own.
 struct Removal<'a> {
     benched: &'a Benched,
     marks: RowMarks,
@@ -198,9 +196,24 @@ impl Operation for Removal<'_> {
     }
 }
 
-fn removal(b: &Benched, by: &mut dyn Measured, gone: usize) {
+/// Of the newest rows, 1, half or all; of an old row, so that nearly all rows
+/// move; of rows scattered over the tables, so that many short runs move.
+fn removals(b: &Benched, by: &mut dyn Measured) {
+    let rows = b.rows;
+    let newest = |gone: usize| move |slot: usize| slot >= rows - gone;
+    removal(b, by, "the newest row", newest(1));
+    removal(b, by, "the newer half", newest(rows / 2));
+    removal(b, by, "all rows", newest(rows));
+    removal(b, by, "the 8th oldest row", |slot| slot == 7);
+    removal(b, by, "every 8th row", |slot| slot % 8 == 7);
+    removal(b, by, "every other row", |slot| slot % 2 == 1);
+}
+
+fn removal(b: &Benched, by: &mut dyn Measured, what: &str, goes: impl Fn(usize) -> bool) {
     let mut marks: RowMarks = [false; ROWS];
-    marks[b.rows - gone..b.rows].fill(true);
+    for (slot, mark) in marks[..b.rows].iter_mut().enumerate() {
+        *mark = goes(slot);
+    }
     let calls = 10;
     let tables = vec![b.words.clone(); calls];
     let mut operation = Removal {
@@ -214,7 +227,7 @@ fn removal(b: &Benched, by: &mut dyn Measured, gone: usize) {
     operation.plain(calls);
     assert!(proved == operation.tables, "the same words");
     let about = About {
-        name: format!("removal of {gone} of {} rows", b.rows),
+        name: format!("removal of {what}"),
         bytes: b.rows + 40 * b.rows,
         calls,
     };

@@ -1,0 +1,78 @@
+-- None of eight marks is set.
+use borrow.Author.Needs.{needs}
+use Prim.Native.Nat.{ℕ}
+use mathlib.Core.Bool.{false}
+use denote.Ref.{now}
+use lib.ListN.{getD}
+use Rattle.changes.proofs.Slide.{clear-eight}
+use Rattle.changes.proofs.runs.eight_clear.Statement.{statement}
+use Rattle.changes.proofs.runs.eight_clear.Tie as tie
+
+shared-slice-read-low : tie.Need-shared-slice-read-low
+shared-slice-read-low c = search needs
+
+add-low : tie.Need-add-low
+add-low c = search needs
+
+shared-slice-read-low-2 : tie.Need-shared-slice-read-low-2
+shared-slice-read-low-2 c = search needs
+
+add-low-2 : tie.Need-add-low-2
+add-low-2 c = search needs
+
+shared-slice-read-low-3 : tie.Need-shared-slice-read-low-3
+shared-slice-read-low-3 c = search needs
+
+add-low-3 : tie.Need-add-low-3
+add-low-3 c = search needs
+
+shared-slice-read-low-4 : tie.Need-shared-slice-read-low-4
+shared-slice-read-low-4 c = search needs
+
+add-high : tie.Need-add-high
+add-high c = search needs
+
+shared-slice-read-high : tie.Need-shared-slice-read-high
+shared-slice-read-high c = search needs
+
+add-high-2 : tie.Need-add-high-2
+add-high-2 c = search needs
+
+shared-slice-read-high-2 : tie.Need-shared-slice-read-high-2
+shared-slice-read-high-2 c = search needs
+
+add-high-3 : tie.Need-add-high-3
+add-high-3 c = search needs
+
+shared-slice-read-high-3 : tie.Need-shared-slice-read-high-3
+shared-slice-read-high-3 c = search needs
+
+add-high-4 : tie.Need-add-high-4
+add-high-4 c = search needs
+
+shared-slice-read-high-4 : tie.Need-shared-slice-read-high-4
+shared-slice-read-high-4 c = search needs
+
+returns : tie.Need-returns
+returns c = let s = c .before .before .before .before .before .before .before .before in clear-eight (λ (k : ℕ). getD (now (s .args .marks)) k false) (s .args .i)
+
+pub eight-clear-spec : {M : Type 1} → statement M
+eight-clear-spec =
+    tie.close
+    (tie.spec
+    shared-slice-read-low
+    add-low
+    shared-slice-read-low-2
+    add-low-2
+    shared-slice-read-low-3
+    add-low-3
+    shared-slice-read-low-4
+    add-high
+    shared-slice-read-high
+    add-high-2
+    shared-slice-read-high-2
+    add-high-3
+    shared-slice-read-high-3
+    add-high-4
+    shared-slice-read-high-4
+    returns)
