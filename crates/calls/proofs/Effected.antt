@@ -16,10 +16,11 @@ use Rattle.rows.proofs.Slots.{row-found}
 use Rattle.tables.proofs.Sound.{sound-open}
 use Rattle.tables.proofs.SoundFacts.{row-object, manager-listed, listed-range}
 use Rattle.rows.specs.contracts.Represents.{laidWell, Represents}
+use Rattle.calls.specs.declared.Items.{Items}
 use Rattle.calls.specs.declared.Answer.the-variants.{Done, Made, Fetched, Told}
-use Rattle.calls.specs.declared.Call.the-variants.{Go, Hold, Register, Drop, Port, Close, Fetch, Reply, Refuse, Revoke, Comes}
+use Rattle.calls.specs.declared.Call.the-variants.{Go, Hold, Register, Drop, Port, Close, Ask, Fetch, Reply, Refuse, Revoke, Comes}
 use Rattle.closing.specs.Closing.{closeRequest, closePort, dropRow}
-use Rattle.calls.specs.Loans.{handedOver}
+use Rattle.calls.specs.Loans.{itemsOf, withRequest, handedOver}
 use Rattle.calls.specs.Rules.{askedOf, withRecord, withNewRows}
 use Rattle.calls.specs.Calls.{goHome, goThrough, withHeld, withRegistered, withPort, done, made, fetchedAnswer, effect}
 use Rattle.calls.specs.contracts.Performs.{Answers, Agrees}
@@ -51,6 +52,15 @@ module _ {after : List ℕ} (st : State) (p e : ℕ) where
   pub made-port : (n : ℕ) → n ≡ st .next → Represents after (withPort st p e) → Answers after (Made n) (effect st (Port p e))
   unfolding effect made
   made-port n h rep = record { answer = ap Made h; words = rep }
+
+-- the request's number
+pub made-request : {after : List ℕ} (st : State) (p c : ℕ) (is : Items) (n : ℕ) → n ≡ st .next → Represents after (withRequest st p c (itemsOf is)) → Answers after (Made n) (effect st (Ask p c is))
+unfolding effect made
+made-request st p c is n h rep = record { answer = ap Made h; words = rep }
+
+pub ask-records : (st : State) (p c : ℕ) (is : Items) → effect st (Ask p c is) .after .processes ≡ st .processes
+unfolding effect made withRequest
+ask-records st p c is = refl
 
 module _ (st : State) (p e : ℕ) where
   pub hold-records : effect st (Hold p e) .after .processes ≡ st .processes

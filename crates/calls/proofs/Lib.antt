@@ -15,5 +15,11 @@ pub mod Refusing
 pub mod Effected
 -- whether a row is a source of another: the loop over all rows
 pub mod Used
+-- tests of several items joined
+pub mod Joined
 -- the ends that a request lists: busy, away; the tests of reply
 pub mod Replied
+-- items lent one after the other: slots kept, an end, a copy, all items
+pub mod Lent
+-- the items of an ask with their rows looked up; the tests of ask
+pub mod Asked

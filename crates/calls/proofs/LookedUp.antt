@@ -21,7 +21,7 @@ use Rattle.rows.proofs.Bools.{and-rf, pos-some}
 use Rattle.tables.proofs.Sound.{sound-open}
 use Rattle.tables.proofs.SoundFacts.{row-below}
 use Rattle.questions.proofs.Questions.{reaches-none, depth-falls}
-use Rattle.calls.specs.contracts.Lookups.{slotIn}
+use Rattle.calls.specs.contracts.Lookups.{slotIn, NotTooDeep}
 
 -- ---- a row in a place
 module _ (st : State) (place e : ℕ) where
@@ -61,7 +61,7 @@ module _ (t : List ℕ) (st : State) (e : ℕ) where
   depth-word (suc i) rep h ne = ap (λ (k : ℕ). getD t (8192 + k) 0) (omega arith) ∙ row-words rep e i h .depth
 
 -- no row is deeper than 12
-pub depth-most : (st : State) → sound st ≡ true → (e : ℕ) → rowOf (st .rows) e .depth ≤ 12
+pub depth-most : (st : State) → sound st ≡ true → (e : ℕ) → NotTooDeep st e
 depth-most st sd e = pick (rowSlot (st .rows) e) refl
   where
     pick : (s : ℕ) → rowSlot (st .rows) e ≡ s → rowOf (st .rows) e .depth ≤ 12
@@ -78,12 +78,10 @@ unfolding depthOver
 over-second st a b {x} {y} p q h = omega arith
 
 -- a depth of 12 under it gives 13
-pub over-deepest : (st : State) (a b : ℕ) → sound st ≡ true → {x y : ℕ} → x ≡ rowOf (st .rows) a .depth → y ≡ rowOf (st .rows) b .depth → 12 ≤ max x y → 13 ≡ depthOver (st .rows) a b
+pub over-deepest : (st : State) (a b : ℕ) → NotTooDeep st a → NotTooDeep st b → {x y : ℕ} → x ≡ rowOf (st .rows) a .depth → y ≡ rowOf (st .rows) b .depth → 12 ≤ max x y
+    → 13 ≡ depthOver (st .rows) a b
 unfolding depthOver
-over-deepest st a b sd {x} {y} p q h =
-    let f = depth-most st sd a in
-    let g = depth-most st sd b in
-    omega arith
+over-deepest st a b f g {x} {y} p q h = omega arith
 
 -- the first source of a row, as its words have it
 module _ {t : List ℕ} {st : State} (rep : Represents t st) (e i : ℕ) (s : rowSlot (st .rows) e ≡ suc i) where

@@ -134,23 +134,32 @@ pub close-rest : (st : State) (p c : ℕ) → notHeld st p c ≡ false
 unfolding refusalsClose lowest
 close-rest st p c h = rw h refl
 
+-- ---- the request open on a port
+module _ (st : State) (c : ℕ) where
+  pub open-none : openSlot (st .requests) c ≡ 0 → eqb (openOn (st .requests) c .number) 0 ≡ true
+  unfolding noRequest
+  open-none h = rw (open-absent (st .requests) c h) refl
+
+  pub open-some : {t : List ℕ} → Represents t st → (j : ℕ) → openSlot (st .requests) c ≡ suc j → eqb (openOn (st .requests) c .number) 0 ≡ false
+  open-some rep j h =
+      let up = represented-well rep .requests-rise in
+      let v = openOn (st .requests) c in
+      let there = request-found (st .requests) (v .number) j (open-number (st .requests) up c j h) .0 in
+      let (lo, hi) = rises-range (λ v. v .number) (st .requests) up (v .number) there in
+      ne-eqb (v .number) 0 (λ z. omega arith)
+
 -- ---- the request at a server end
 module _ (st : State) (e : ℕ) where
   abbrev pub portOf : ℕ
   portOf = rowOf (st .rows) e .object
 
   pub asked-none : openSlot (st .requests) portOf ≡ 0 → eqb (askedOf st e .number) 0 ≡ true
-  unfolding askedOf noRequest
-  asked-none h = rw (open-absent (st .requests) portOf h) refl
+  unfolding askedOf
+  asked-none h = open-none st portOf h
 
   pub asked-some : {t : List ℕ} → Represents t st → (j : ℕ) → openSlot (st .requests) portOf ≡ suc j → eqb (askedOf st e .number) 0 ≡ false
   unfolding askedOf
-  asked-some rep j h =
-      let up = represented-well rep .requests-rise in
-      let v = openOn (st .requests) portOf in
-      let there = request-found (st .requests) (v .number) j (open-number (st .requests) up portOf j h) .0 in
-      let (lo, hi) = rises-range (λ v. v .number) (st .requests) up (v .number) there in
-      ne-eqb (v .number) 0 (λ z. omega arith)
+  asked-some rep j h = open-some st portOf rep j h
 
   module _ (p : ℕ) (h : notHeld st p e ≡ false) where
     pub fetch-rest : lowest (refusalsFetch st p e)

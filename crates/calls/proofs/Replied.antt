@@ -18,6 +18,7 @@ use Rattle.rows.specs.Layout.{rowSlot, requestAt, requestsTo}
 use Rattle.rows.specs.contracts.Represents.{Represents}
 use Rattle.rows.specs.contracts.Slots.{foundSlot, openSlot}
 use Rattle.rows.proofs.Bools.{and-rf, any-eq, not-zero, zero-none}
+use Rattle.rows.proofs.Lists.{filter-filter}
 use Rattle.rows.proofs.LayoutRequests.{four}
 use Rattle.rows.proofs.Slots.{found-at, found-nothing, row-absent, represented-requests, open-absent}
 use Rattle.questions.proofs.Listed.{requests-read}
@@ -25,6 +26,7 @@ use Rattle.calls.specs.Rules.{lowest, notHeld, hasOpen, askedOf}
 use Rattle.calls.specs.Calls.{lentEnds, isAway, refusalsReply}
 use Rattle.calls.specs.contracts.Replies.{endSlot, endItem, listedNewer}
 use Rattle.calls.proofs.Refusing.{row-some}
+use Rattle.calls.proofs.Joined.{any-filter, four-tests}
 
 -- ---- one item
 module _ (st : State) (e : ℕ) where
@@ -88,27 +90,8 @@ and-first b p = rw p refl
 
 -- ---- all items
 any-ends : (f g : ℕ → Bool) (is : List ℕ) → any f (filter g (nonzero is)) ≡ any (λ e. (some e && g e) && f e) is
-unfolding any filter nonzero
-any-ends f g [] = refl
-any-ends f g (e ∷ is) = pick (any-ends f g is) (some e)
-  where
-    Rest : Bool
-    Rest = any (λ e. (some e && g e) && f e) is
-
-    inner : any f (filter g (filter some is)) ≡ Rest → (b : Bool) → any f (cond b (e ∷ filter g (filter some is)) (filter g (filter some is))) ≡ (b && f e) || Rest
-    inner ih true = ap (λ (x : Bool). f e || x) ih
-    inner ih false = ih
-
-    pick : any f (filter g (filter some is)) ≡ Rest → (s : Bool) → any f (filter g (cond s (e ∷ filter some is) (filter some is))) ≡ ((s && g e) && f e) || Rest
-    pick ih true = inner ih (g e)
-    pick ih false = ih
-
-four-tests : (a b c d : Bool) → a || b || c || d ≡ a || (b || (c || (d || false)))
-four-tests true b c d = refl
-four-tests false true c d = refl
-four-tests false false true d = refl
-four-tests false false false true = refl
-four-tests false false false false = refl
+unfolding nonzero
+any-ends f g is = ap (any f) (filter-filter g some (λ e. some e && g e) (λ e. refl) is) ∙ any-filter f (λ e. some e && g e) is
 
 -- the tests of the four items, joined
 pub any-of-four : (st : State) (v : Request) → length (v .items) ≡ 4 → (f : ℕ → Bool) {a b c d : Bool}

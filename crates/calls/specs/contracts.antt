@@ -4,3 +4,4 @@ pub mod Effects
 pub mod Loans
 pub mod Performs
 pub mod Replies
+pub mod Asks

@@ -69,9 +69,48 @@ pub struct NewPort {
     pub depth: u32,
 }
 
+// An item of an ask with its row looked up: the row's source word, 0 for no item; how many rows it takes, 1 for a copy.
+pub struct ItemRow {
+    pub item: Item,
+    pub word: u32,
+    pub copies: u32,
+}
+
+// The items of an ask with their rows.
+pub struct ItemRows {
+    pub first: ItemRow,
+    pub second: ItemRow,
+    pub third: ItemRow,
+    pub fourth: ItemRow,
+}
+
+// What the look-up of an item answers: its row, where the caller holds it; no item is held.
+pub enum Looked {
+    Held(ItemRow),
+    Missing,
+}
+
+// A new request: its number, its port's client end and the slot of that row, the process that asks.
+pub struct NewRequest {
+    pub number: u32,
+    pub port: u32,
+    pub slot: usize,
+    pub asker: u32,
+}
+
+// A loan as its items are lent one after the other: how many rows stand, the next number, the list and its length.
+pub struct Loan {
+    pub rows: usize,
+    pub next: u32,
+    pub items: [u32; 4],
+    pub count: usize,
+}
+
+pub mod ask;
 pub mod comes;
 pub mod directories;
 pub mod fetch;
+pub mod lend;
 pub mod loans;
 pub mod lookups;
 pub mod new_rows;

@@ -1,12 +1,16 @@
-// What the tests of several calls ask: room for new rows, lent rows.
+// What the tests of several calls ask: room for new rows and requests, open requests, lent rows.
+use crate::lookups;
 use questions::question;
+use rows::Found;
 use rows::codes::A_SUBDIRECTORY;
 use rows::codes::GREATEST_DEPTH;
 use rows::layout::KIND;
+use rows::layout::REQUESTS;
 use rows::layout::ROWS;
 ghost use Prim.Native.Nat.{_≤_, _<_};
-ghost use Rattle.rows.specs.contracts.Sizes.{ROWS, IsTables};
+ghost use Rattle.rows.specs.contracts.Sizes.{ROWS, REQUESTS, ITEMS, IsTables};
 ghost use Rattle.calls.specs.contracts.Performs.{RefusesRows, HasRoom, IsLentWord, TakesLent};
+ghost use Rattle.calls.specs.contracts.Asks.{TellsOpen, RefusesRequest, SpaceUnless};
 
 // the greatest next number
 pub const LAST_NEXT: u32 = 1000001;
@@ -28,6 +32,37 @@ pub fn rows_refusal(n: usize, next: u32, d: u32, k: u32) -> u32
         return 18;
     }
     0
+}
+
+// What refuses a request with k new rows: 16, 17, 18; 0 for nothing.
+// Ruled out: 17 with a slot free; the number of the request is not counted.
+pub fn request_refusal(n: usize, m: usize, next: u32, k: u32) -> u32
+    requires { ⌜ (n ≤ ROWS) × (m ≤ REQUESTS) × (k ≤ ITEMS) ⌝ }
+    ensures lowest { λ r. ⌜ RefusesRequest n m next k r ⌝ }
+    ensures room { λ r. ⌜ SpaceUnless r n m next k ⌝ }
+{
+    if ROWS < n + k as usize {
+        return 16;
+    }
+    if REQUESTS <= m {
+        return 17;
+    }
+    if LAST_NEXT - (k + 1) < next {
+        return 18;
+    }
+    0
+}
+
+// Whether the port whose client end is c has an open request.
+// Ruled out: yes for a port whose request is closed; the request of another port.
+pub fn has_open(t: &[u32], m: usize, c: u32) -> bool
+    requires { ⌜ IsTables (now t) × (m ≤ REQUESTS) ⌝ }
+    ensures { λ r. ⌜ TellsOpen (now (t .entry)) m c r ⌝ }
+{
+    let Found::At(_) = lookups::open_among(t, m, c) else {
+        return false;
+    };
+    true
 }
 
 // Whether the row at a source word is lent; 0 is none.

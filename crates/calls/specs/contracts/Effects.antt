@@ -29,6 +29,10 @@ IsProcess p = (0 < p) × (p ≤ PROCESSES)
 abbrev pub LAST-NUMBER : ℕ
 LAST-NUMBER = 1000000
 
+-- the greatest next number
+abbrev pub LAST-NEXT : ℕ
+LAST-NEXT = 1000001
+
 -- ---- go
 abbrev pub GoesHome : List Process → ℕ → List Process → Type 0
 GoesHome ps p r = (st : State) → st .processes ≡ ps → r ≡ goHome st p .processes

@@ -1,6 +1,5 @@
 -- What the look-ups that the calls share answer, over words that represent a state with so many rows or requests.
 use Prim.Native.Nat.{ℕ, suc, _≤_}
-use mathlib.Core.Bool.{true}
 use mathlib.Core.List.{List}
 use mathlib.Core.Path.{_≡_}
 use lib.Dec.{eqb}
@@ -9,7 +8,6 @@ use Rattle.rows.specs.declared.Found.{Found}
 use Rattle.rows.specs.declared.Found.the-variants.{Nothing}
 use Rattle.rows.specs.Lists.{if_then_else_}
 use Rattle.rows.specs.Tables.{State, rowOf, depthOver}
-use Rattle.rows.specs.Sound.{sound}
 use Rattle.rows.specs.Layout.{rowSlot}
 use Rattle.rows.specs.Codes.{inClist}
 use Rattle.rows.specs.contracts.Represents.{Represents}
@@ -59,8 +57,17 @@ IsSourceWord t n i r =
 abbrev pub IsDepth : List ℕ → ℕ → ℕ → Type 0
 IsDepth t s r = (st : State) (e : ℕ) → Represents t st → rowSlot (st .rows) e ≡ s → r ≡ rowOf (st .rows) e .depth
 
+-- the greatest depth of a row
+abbrev pub LAST-DEPTH : ℕ
+LAST-DEPTH = 12
+
+-- the row e is no deeper than a row may be
+abbrev pub NotTooDeep : State → ℕ → Type 0
+NotTooDeep st e = rowOf (st .rows) e .depth ≤ LAST-DEPTH
+
 -- r is the depth of a row whose sources are at two source words
 abbrev pub IsDepthOver : List ℕ → ℕ → ℕ → ℕ → Type 0
 IsDepthOver t s v r =
-    (st : State) (a b : ℕ) → sound st ≡ true → Represents t st → rowSlot (st .rows) a ≡ s → rowSlot (st .rows) b ≡ v
+    (st : State) (a b : ℕ) → Represents t st → rowSlot (st .rows) a ≡ s → rowSlot (st .rows) b ≡ v
+    → NotTooDeep st a → NotTooDeep st b
     → r ≡ depthOver (st .rows) a b

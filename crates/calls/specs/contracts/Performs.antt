@@ -22,6 +22,7 @@ use Rattle.calls.specs.declared.Call.the-variants.{Hold, Register, Port,
 use Rattle.calls.specs.Rules.{Out, _when_, lowest, tooDeep, rowsFull, numbersSpent}
 use Rattle.calls.specs.Calls.{refusalsHold, heldDepth, refusalsRegister, registeredDepth, refusalsPort, portDepth, refusalsClose, refusalsDrop, perform, callerOf}
 use Rattle.calls.specs.contracts.Lookups.{HasRows, HasRequests, StandsAt}
+use Rattle.calls.specs.contracts.Effects.{LAST-NEXT}
 
 -- ---- a call
 -- the answer, and the words after, are those of the definition
@@ -54,7 +55,7 @@ RefusesRows n next d k r =
 
 -- where nothing does there are slots and numbers left
 abbrev pub HasRoom : ℕ → ℕ → ℕ → ℕ → Type 0
-HasRoom n next k r = r ≡ 0 → (n + k ≤ ROWS) × (next + k ≤ 1000001)
+HasRoom n next k r = r ≡ 0 → (n + k ≤ ROWS) × (next + k ≤ LAST-NEXT)
 
 -- ---- hold
 -- r says whether the row at a source word is lent; 0 is none

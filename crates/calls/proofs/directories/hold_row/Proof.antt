@@ -5,6 +5,7 @@ use native.Mathlib.Numerals.{add-one}
 use mathlib.Core.Path.{sym, _∙_}
 use Rattle.rows.proofs.Slots.{represented-next}
 use Rattle.calls.specs.Calls.{refusals}
+use Rattle.calls.proofs.LookedUp.{depth-most}
 use Rattle.calls.proofs.Judging.{refused-answers, accepted-answers}
 use Rattle.rows.specs.Tables.{processAt}
 use Rattle.calls.specs.declared.Call.the-variants.{Hold}
@@ -42,7 +43,7 @@ returns c =
     let a = s .args in (
       (λ st e sd h m l.
           let x = processAt (st .processes) (a .p) .through in
-          let deep = over .ensures st e x sd (h .0) (m .0 ∙ sym (add-one (a .i))) (m .2) in
+          let deep = over .ensures st e x (h .0) (m .0 ∙ sym (add-one (a .i))) (m .2) (depth-most st sd e) (depth-most st sd x) in
           let number = next .ensures ∙ represented-next (h .0) in
           refused-answers st (Hold (a .p) e) (h .0) (no .result) (no .ensures .0 st (a .p) e sd h m (sym deep) (sym number)) (c .if1 .taken)),
       s .pre .0,
@@ -74,7 +75,7 @@ returns-2 c =
     let a = s .args in (
       (λ st e sd h m l.
           let x = processAt (st .processes) (a .p) .through in
-          let deep = over .ensures st e x sd (h .0) (m .0 ∙ sym (add-one (a .i))) (m .2) in
+          let deep = over .ensures st e x (h .0) (m .0 ∙ sym (add-one (a .i))) (m .2) (depth-most st sd e) (depth-most st sd x) in
           let number = next .ensures ∙ represented-next (h .0) in
           let none = sym (u .if1 .left) ∙ no .ensures .0 st (a .p) e sd h m (sym deep) (sym number) in
           accepted-answers st (Hold (a .p) e) none _ (held-row st (a .p) e (next .result) number (added .ensures .0 st e sd h (m .0) l (m .2) (sym deep) (sym number)))),

@@ -7,7 +7,7 @@ use Rattle.calls.specs.Calls.{refusals}
 use Rattle.calls.proofs.Judging.{refused-answers, accepted-answers}
 use Rattle.rows.specs.Tables.{rowOf}
 use Rattle.calls.specs.declared.Call.the-variants.{Register}
-use Rattle.calls.proofs.LookedUp.{zero-word}
+use Rattle.calls.proofs.LookedUp.{depth-most, zero-word}
 use Rattle.calls.proofs.Effected.{registered-row}
 use Rattle.calls.proofs.directories.register_row.Statement.{statement}
 use Rattle.calls.proofs.directories.register_row.Tie as tie
@@ -39,7 +39,7 @@ returns c =
     let s = b4 .before .before .before in
     let a = s .args in (
       (λ st p e sd h m node.
-          let deep = over .ensures st (rowOf (st .rows) e .source) 0 sd (h .0) (sym (source .ensures .1 st e h (m .0))) (zero-word (h .0)) in
+          let deep = over .ensures st (rowOf (st .rows) e .source) 0 (h .0) (sym (source .ensures .1 st e h (m .0))) (zero-word (h .0)) (depth-most st sd (rowOf (st .rows) e .source)) (depth-most st sd 0) in
           let number = next .ensures ∙ represented-next (h .0) in
           refused-answers st (Register p e) (h .0) (no .result) (no .ensures .0 st p e sd h m (sym deep) (sym number)) (c .if1 .taken)),
       s .pre .0,
@@ -73,7 +73,7 @@ returns-2 c =
     let a = s .args in (
       (λ st p e sd h m node.
           let word = sym (source .ensures .1 st e h (m .0)) in
-          let deep = over .ensures st (rowOf (st .rows) e .source) 0 sd (h .0) word (zero-word (h .0)) in
+          let deep = over .ensures st (rowOf (st .rows) e .source) 0 (h .0) word (zero-word (h .0)) (depth-most st sd (rowOf (st .rows) e .source)) (depth-most st sd 0) in
           let number = next .ensures ∙ represented-next (h .0) in
           let none = sym (u .if1 .left) ∙ no .ensures .0 st p e sd h m (sym deep) (sym number) in
           accepted-answers st (Register p e) none _ (registered-row st p e (next .result) number (added .ensures .0 st p e sd h (m .0) node word (sym deep) (sym number)))),

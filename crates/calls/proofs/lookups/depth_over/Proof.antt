@@ -22,7 +22,7 @@ returns : tie.Need-returns
 returns c =
     let x = c .before .before .depth-at in
     let y = c .before .depth-at2 in
-    λ st a b sd rep p q. over-deepest st a b sd (x .ensures st a rep p) (y .ensures st b rep q)
+    λ st a b rep p q f g. over-deepest st a b f g (x .ensures st a rep p) (y .ensures st b rep q)
     (⊎-elim (λ e. omega (arith, leb-true 12 (x .result) e)) (λ e. omega (arith, leb-true 12 (y .result) e)) (or-cases (leb 12 (x .result)) (leb 12 (y .result)) (c .if1 .taken)))
 
 add-result-2 : tie.Need-add-result-2
@@ -35,7 +35,7 @@ returns-2 : tie.Need-returns-2
 returns-2 c =
     let x = c .before .before .before .depth-at in
     let y = c .before .before .depth-at2 in
-    λ st a b sd rep p q. over-second st a b (x .ensures st a rep p) (y .ensures st b rep q) (omega (arith, c .if2 .taken))
+    λ st a b rep p q f g. over-second st a b (x .ensures st a rep p) (y .ensures st b rep q) (omega (arith, c .if2 .taken))
 
 add-result-3 : tie.Need-add-result-3
 add-result-3 c =
@@ -47,7 +47,7 @@ returns-3 : tie.Need-returns-3
 returns-3 c =
     let x = c .before .before .before .depth-at in
     let y = c .before .before .depth-at2 in
-    λ st a b sd rep p q. over-first st a b (x .ensures st a rep p) (y .ensures st b rep q) (omega (arith, c .if2 .left))
+    λ st a b rep p q f g. over-first st a b (x .ensures st a rep p) (y .ensures st b rep q) (omega (arith, c .if2 .left))
 
 pub depth-over-spec : {M : Type 1} → statement M
 depth-over-spec =

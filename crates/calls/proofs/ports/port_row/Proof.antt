@@ -7,7 +7,7 @@ use Rattle.rows.proofs.Slots.{represented-next}
 use Rattle.calls.specs.Calls.{refusals}
 use Rattle.calls.proofs.Judging.{refused-answers, accepted-answers}
 use Rattle.calls.specs.declared.Call.the-variants.{Port}
-use Rattle.calls.proofs.LookedUp.{zero-word}
+use Rattle.calls.proofs.LookedUp.{depth-most, zero-word}
 use Rattle.calls.proofs.Refusing.{port-operation}
 use Rattle.calls.proofs.Effected.{made-port, manager-few}
 use Rattle.calls.proofs.ports.port_row.Statement.{statement}
@@ -42,7 +42,7 @@ returns c =
     let s = b4 .before in
     let a = s .args in (
       (λ st e sd h m.
-          let deep = over .ensures st e 0 sd (h .0) (m .0 ∙ sym (add-one (a .i))) (zero-word (h .0)) in
+          let deep = over .ensures st e 0 (h .0) (m .0 ∙ sym (add-one (a .i))) (zero-word (h .0)) (depth-most st sd e) (depth-most st sd 0) in
           let number = next .ensures ∙ represented-next (h .0) in
           refused-answers st (Port (a .p) e) (h .0) (no .result) (no .ensures .0 st (a .p) e sd h m (sym deep) (sym number)) (c .if1 .taken)),
       s .pre .0,
@@ -73,7 +73,7 @@ returns-2 c =
     let s = b4 .before in
     let a = s .args in (
       (λ st e sd h m.
-          let deep = over .ensures st e 0 sd (h .0) (m .0 ∙ sym (add-one (a .i))) (zero-word (h .0)) in
+          let deep = over .ensures st e 0 (h .0) (m .0 ∙ sym (add-one (a .i))) (zero-word (h .0)) (depth-most st sd e) (depth-most st sd 0) in
           let number = next .ensures ∙ represented-next (h .0) in
           let none = sym (u .if1 .left) ∙ no .ensures .0 st (a .p) e sd h m (sym deep) (sym number) in
           let few = manager-few st sd e (a .i) (m .0) (port-operation st (a .p) e none) in
