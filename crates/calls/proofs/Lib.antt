@@ -23,3 +23,5 @@ pub mod Replied
 pub mod Lent
 -- the items of an ask with their rows looked up; the tests of ask
 pub mod Asked
+-- a refused call changes nothing; a call by its own function
+pub mod Carried

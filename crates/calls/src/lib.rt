@@ -114,6 +114,7 @@ pub mod lend;
 pub mod loans;
 pub mod lookups;
 pub mod new_rows;
+pub mod perform;
 pub mod ports;
 pub mod reply;
 pub mod tests;

@@ -16,13 +16,14 @@ use Rattle.rows.specs.contracts.Represents.{Represents}
 use Rattle.rows.specs.contracts.Slots.{foundSlot, openSlot}
 use Rattle.rows.specs.contracts.Sizes.{ROWS, PROCESSES}
 use Rattle.calls.specs.declared.Answer.{Answer}
+use Rattle.calls.specs.declared.Answer.the-variants.{Refused}
 use Rattle.calls.specs.declared.Performed.{Performed}
 use Rattle.calls.specs.declared.Call.{Call}
-use Rattle.calls.specs.declared.Call.the-variants.{Hold, Register, Port, Fetch, Refuse}
+use Rattle.calls.specs.declared.Call.the-variants.{Go, Hold, Register, Drop, Port, Close, Ask, Fetch, Reply, Refuse, Revoke, Comes}
 use Rattle.calls.specs.Rules.{Out, _when_, lowest, tooDeep, rowsFull, numbersSpent}
 use Rattle.calls.specs.Calls.{refusalsHold, heldDepth, refusalsRegister, registeredDepth, refusalsPort, portDepth, refusalsClose, refusalsDrop, perform, callerOf}
 use Rattle.calls.specs.contracts.Lookups.{HasRows, HasRequests, StandsAt}
-use Rattle.calls.specs.contracts.Effects.{LAST-NEXT}
+use Rattle.calls.specs.contracts.Effects.{IsProcess, LAST-NEXT}
 
 -- ---- a call
 -- the answer, and the words after, are those of the definition
@@ -45,6 +46,27 @@ abbrev pub Performs : List ℕ → List Process → Call → List ℕ → Perfor
 Performs t ps c after r =
     (st : State) → sound st ≡ true → Represents t st → st .processes ≡ ps → CallerListed st c
     → Agrees after r (perform st c)
+
+-- where it is refused, no word and no record changes
+abbrev pub StaysIfRefused : List ℕ → List Process → Call → List ℕ → Performed → Type 0
+StaysIfRefused t ps c after r =
+    (st : State) (k : ℕ) → sound st ≡ true → Represents t st → st .processes ≡ ps → CallerListed st c
+    → r .answer ≡ Refused k → (after ≡ t) × (r .records ≡ ps)
+
+-- what reading a line gives of a call: its caller is a process's number; comes has none
+unfoldable pub CallerInRange : Call → Type 0
+CallerInRange (Go p e) = IsProcess p
+CallerInRange (Hold p s) = IsProcess p
+CallerInRange (Register p e) = IsProcess p
+CallerInRange (Drop p e) = IsProcess p
+CallerInRange (Port p e) = IsProcess p
+CallerInRange (Close p c) = IsProcess p
+CallerInRange (Ask p c is) = IsProcess p
+CallerInRange (Fetch p e) = IsProcess p
+CallerInRange (Reply p e) = IsProcess p
+CallerInRange (Refuse p e) = IsProcess p
+CallerInRange (Revoke p q) = IsProcess p
+CallerInRange (Comes e q) = Unit {0}
 
 -- ---- what refuses new rows
 -- k rows of depth d: 15, 16, 18, 0 for nothing
