@@ -8,13 +8,16 @@ use lib.ListN.{length}
 use lib.Dec.{leb, ltb, eqb}
 use borrow.Author.Tests.{ltb-false, leb-true, lt-ltb}
 use Rattle.rows.specs.Lists.{all, distinct, between, some, filter}
-use Rattle.rows.specs.Limits.{allRights, greatestNumber, mostItems, mostBytes}
+use Rattle.rows.specs.Limits.{processes, allRights, greatestNumber, mostItems, mostBytes}
 use Rattle.rows.proofs.Bools.{and-l, and-r, all-mono}
+use Rattle.rows.proofs.Places.{between-range}
 use Rattle.calls.specs.declared.Item.{Item}
 use Rattle.calls.specs.declared.Call.{Call}
 use Rattle.calls.specs.declared.Call.the-variants.{Go, Hold, Register, Drop, Port, Close, Ask, Fetch, Reply, Refuse, Revoke, Comes}
 use Rattle.calls.specs.Rules.{isRefusal}
 use Rattle.calls.specs.Loans.{itemsOf}
+use Rattle.calls.specs.contracts.Effects.{IsProcess}
+use Rattle.calls.specs.contracts.Performs.{CallerInRange}
 use Rattle.text.specs.declared.Reading.{Reading}
 use Rattle.text.specs.declared.Reading.the-variants.{Asks, Crowded, Refused}
 use Rattle.text.specs.Patterns.{form, whole, wordOf, mostGroups}
@@ -185,3 +188,26 @@ reading-good line c e = subst Reads e (line-reads line)
 pub reading-refused : (line : List ℕ) (k : ℕ) → readingOf line ≡ Refused k → isRefusal k ≡ true
 unfolding Reads
 reading-refused line k e = subst Reads e (line-reads line)
+
+-- ---- what the tables' side asks of a call that is read
+process-range : (p : ℕ) → isProcess p ≡ true → IsProcess p
+unfolding isProcess processes
+process-range p t = let (lo, hi) = between-range 1 64 p t in (omega arith, hi)
+
+good-in-range : (c : Call) → Good c → CallerInRange c
+unfolding Good CallerInRange
+good-in-range (Go p e) g = process-range p (g .caller)
+good-in-range (Hold p s) g = process-range p (g .caller)
+good-in-range (Register p e) g = process-range p (g .caller)
+good-in-range (Drop p e) g = process-range p (g .caller)
+good-in-range (Port p e) g = process-range p (g .caller)
+good-in-range (Close p c) g = process-range p (g .caller)
+good-in-range (Ask p c is) g = process-range p (g .caller)
+good-in-range (Fetch p v) g = process-range p (g .caller)
+good-in-range (Reply p v) g = process-range p (g .caller)
+good-in-range (Refuse p v) g = process-range p (g .caller)
+good-in-range (Revoke p q) g = process-range p (g .caller)
+good-in-range (Comes e q) g = tt
+
+pub reading-in-range : (line : List ℕ) (c : Call) → readingOf line ≡ Asks c → CallerInRange c
+reading-in-range line c e = good-in-range c (reading-good line c e)
