@@ -1,20 +1,20 @@
--- At most 512 rows are opened: 16 for each node, and distinct numbers between 1 and n are at most n.
-use Prim.Native.Nat.{ℕ, zero, suc, _*_, _≤_}
+-- At most 96 forms are taken, and at most 512 rows opened: distinct numbers between 1 and n are at most n.
+use Prim.Native.Nat.{ℕ, zero, suc, _+_, _*_, _≤_}
 use native.Mathlib.Omega.{arith}
 use mathlib.Core.Path.{_≡_, refl, sym, ap, _∙_}
 use mathlib.Core.Bool.{Bool, true, false, not, cond}
 use mathlib.Core.List.{List, [], _∷_, map}
-use lib.ListN.{length}
+use lib.ListN.{length, length-map}
 use lib.Dec.{eqb}
-use borrow.Author.Tests.{eqb-true, eqb-false}
+use borrow.Author.Tests.{eqb-true, eqb-false, ne-eqb}
 use Rattle.rows.specs.Lists.{filter, any, all, each, member, distinct, between}
-use Rattle.rows.specs.Limits.{nodes, mostEntries}
+use Rattle.rows.specs.Limits.{nodes, processes, mostEntries}
 use Rattle.rows.specs.Tables.{empty}
 use Rattle.rows.proofs.Bools.{and-l, and-r, not-t, or-fl, or-fr, eqb-sym-f, all-and, all-filter}
 use Rattle.rows.proofs.Places.{between-range, range-between}
 use Rattle.rows.proofs.Lists.{map-same, distinct-filter, filter-passes}
-use Rattle.text.specs.Opening.{Form, nodeForm, processForm, givesNode, withForm, openedFrom}
-use Rattle.text.proofs.OpeningForms.{formPassed, node-passed}
+use Rattle.text.specs.Opening.{Form, nodeForm, processForm, givesNode, givesProcess, withForm, openedFrom}
+use Rattle.text.proofs.OpeningForms.{formPassed, node-passed, process-passed}
 use Rattle.text.proofs.OpeningRows.{entries-length}
 
 -- ---- distinct numbers between 1 and n
@@ -105,3 +105,64 @@ opened-few fs e =
     let l : length (nodesGiven fs) ≤ 32 = distinct-length nodes (nodesGiven fs) (given-distinct fs e) (given-ranged fs e) in
     let h = rows-of-nodes fs e in
     omega arith
+
+-- ---- the forms taken: each gives another node or another process
+slotOf : Form → ℕ
+slotOf (nodeForm n es) = n
+slotOf (processForm p n) = nodes + p
+
+older-passed : (f : Form) (fs : List Form) → each formPassed (f ∷ fs) ≡ true → (formPassed f fs ≡ true) × (each formPassed fs ≡ true)
+unfolding each
+older-passed f fs e = (and-l (formPassed f fs) (each formPassed fs) e, and-r (formPassed f fs) (each formPassed fs) e)
+
+node-fresh : (n : ℕ) → between 1 nodes n ≡ true → (fs : List Form) → each formPassed fs ≡ true → any (givesNode n) fs ≡ false → member n (map slotOf fs) ≡ false
+unfolding any givesNode member slotOf
+node-fresh n r [] e fresh = refl
+node-fresh n r (nodeForm m es ∷ fs) e fresh =
+    let h = older-passed (nodeForm m es) fs e in
+    rw (eqb-sym-f m n (or-fl (eqb m n) (any (givesNode n) fs) fresh)) (node-fresh n r fs (h .1) (or-fr (eqb m n) (any (givesNode n) fs) fresh))
+node-fresh n r (processForm p m ∷ fs) e fresh =
+    let h = older-passed (processForm p m) fs e in
+    let (lo, hi) = between-range 1 nodes n r in
+    let (low, high) = between-range 1 processes p (process-passed fs p m (h .0) .process) in
+    rw (ne-eqb n (nodes + p) (omega arith)) (node-fresh n r fs (h .1) fresh)
+
+process-fresh : (p : ℕ) → between 1 processes p ≡ true → (fs : List Form) → each formPassed fs ≡ true → any (givesProcess p) fs ≡ false → member (nodes + p) (map slotOf fs) ≡ false
+unfolding any givesProcess member slotOf
+process-fresh p r [] e fresh = refl
+process-fresh p r (nodeForm n es ∷ fs) e fresh =
+    let h = older-passed (nodeForm n es) fs e in
+    let (lo, hi) = between-range 1 nodes n (node-passed fs n es (h .0) .node) in
+    let (low, high) = between-range 1 processes p r in
+    rw (ne-eqb (nodes + p) n (omega arith)) (process-fresh p r fs (h .1) fresh)
+process-fresh p r (processForm q m ∷ fs) e fresh =
+    let h = older-passed (processForm q m) fs e in
+    let other : q ≡ p → ⊥ = eqb-false q p (or-fl (eqb q p) (any (givesProcess p) fs) fresh) in
+    rw (ne-eqb (nodes + p) (nodes + q) (λ same. other (omega arith))) (process-fresh p r fs (h .1) (or-fr (eqb q p) (any (givesProcess p) fs) fresh))
+
+slots-distinct : (fs : List Form) → each formPassed fs ≡ true → distinct (map slotOf fs) ≡ true
+unfolding distinct slotOf
+slots-distinct [] e = refl
+slots-distinct (nodeForm n es ∷ fs) e =
+    let h = older-passed (nodeForm n es) fs e in
+    let k = node-passed fs n es (h .0) in
+    rw (node-fresh n (k .node) fs (h .1) (k .fresh)) (slots-distinct fs (h .1))
+slots-distinct (processForm p n ∷ fs) e =
+    let h = older-passed (processForm p n) fs e in
+    let k = process-passed fs p n (h .0) in
+    rw (process-fresh p (k .process) fs (h .1) (k .fresh)) (slots-distinct fs (h .1))
+
+slots-ranged : (fs : List Form) → each formPassed fs ≡ true → all (between 1 (nodes + processes)) (map slotOf fs) ≡ true
+unfolding all slotOf
+slots-ranged [] e = refl
+slots-ranged (nodeForm n es ∷ fs) e =
+    let h = older-passed (nodeForm n es) fs e in
+    let (lo, hi) = between-range 1 nodes n (node-passed fs n es (h .0) .node) in
+    rw (range-between 1 (nodes + processes) n lo (omega arith)) (slots-ranged fs (h .1))
+slots-ranged (processForm p n ∷ fs) e =
+    let h = older-passed (processForm p n) fs e in
+    let (lo, hi) = between-range 1 processes p (process-passed fs p n (h .0) .process) in
+    rw (range-between 1 (nodes + processes) (nodes + p) (omega arith) (omega arith)) (slots-ranged fs (h .1))
+
+pub forms-few : (fs : List Form) → each formPassed fs ≡ true → length fs ≤ nodes + processes
+forms-few fs e = rw (length-map fs slotOf) at (distinct-length (nodes + processes) (map slotOf fs) (slots-distinct fs e) (slots-ranged fs e))

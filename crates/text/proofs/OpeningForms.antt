@@ -20,7 +20,7 @@ unfoldable pub entryShaped : Entry → Bool
 entryShaped e = isOperation (e .kind) || (isSubdirectory (e .kind) && eqb (e .operation) 0)
 
 -- a form that was read has shaped entries
-unfoldable Shaped : Line → Type 0
+unfoldable pub Shaped : Line → Type 0
 Shaped lastLine = Unit {0}
 Shaped (formLine f) = all entryShaped (entriesIn f) ≡ true
 Shaped badLine = Unit {0}
@@ -46,7 +46,7 @@ entries-shaped (suc n) s i =
     pick false true p q = q
     pick false false p q = refl
 
-line-shaped : (s : List ℕ) → Shaped (lineOf s)
+pub line-shaped : (s : List ℕ) → Shaped (lineOf s)
 unfolding lineOf nodeLine processLine openLine Shaped all entriesIn
 line-shaped s =
     let f = form s 0 "(node #" in

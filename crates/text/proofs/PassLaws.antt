@@ -26,7 +26,7 @@ use Rattle.text.specs.declared.Step.{Step}
 use Rattle.text.proofs.OpeningLaws.{line-split}
 
 -- ---- one line of the first pass, by what it is
-unfoldable byLine : List Form → ℕ → List (List ℕ) → Line → FirstPass
+unfoldable pub byLine : List Form → ℕ → List (List ℕ) → Line → FirstPass
 byLine fs n ls x =
     elim x [
       | lastLine ↦ readTo fs ls
@@ -34,17 +34,17 @@ byLine fs n ls x =
       | badLine ↦ stoppedBy 2 n
     ]
 
-by-line : (fs : List Form) (n : ℕ) (l : List ℕ) (ls : List (List ℕ)) → firstPass fs n (l ∷ ls) ≡ byLine fs n ls (lineOf l)
+pub by-line : (fs : List Form) (n : ℕ) (l : List ℕ) (ls : List (List ℕ)) → firstPass fs n (l ∷ ls) ≡ byLine fs n ls (lineOf l)
 unfolding firstPass byLine
 by-line fs n l ls = refl
 
 module _ (fs : List Form) (n : ℕ) (ls : List (List ℕ)) (f : Form) where
-  form-taken : formRefusal fs f ≡ 0 → byLine fs n ls (formLine f) ≡ firstPass (f ∷ fs) (suc n) ls
+  pub form-taken : formRefusal fs f ≡ 0 → byLine fs n ls (formLine f) ≡ firstPass (f ∷ fs) (suc n) ls
   unfolding byLine
   form-taken e =
       ap (λ (b : Bool). elim b [ true ↦ firstPass (f ∷ fs) (suc n) ls | false ↦ stoppedBy (formRefusal fs f) n ]) (eq-eqb (formRefusal fs f) 0 e)
 
-  form-refused : (formRefusal fs f ≡ 0 → ⊥) → byLine fs n ls (formLine f) ≡ stoppedBy (formRefusal fs f) n
+  pub form-refused : (formRefusal fs f ≡ 0 → ⊥) → byLine fs n ls (formLine f) ≡ stoppedBy (formRefusal fs f) n
   unfolding byLine
   form-refused e =
       ap (λ (b : Bool). elim b [ true ↦ firstPass (f ∷ fs) (suc n) ls | false ↦ stoppedBy (formRefusal fs f) n ]) (ne-eqb (formRefusal fs f) 0 e)

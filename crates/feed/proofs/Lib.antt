@@ -1,0 +1,6 @@
+-- Laws of feeding: lines and what is kept of them, openings line by line, replies, and the theorem.
+pub mod Lines
+pub mod Openings
+pub mod Replies
+pub mod Feeding
+pub mod Prints
