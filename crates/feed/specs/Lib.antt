@@ -1,3 +1,5 @@
--- Definitions of the program's reading: a session fed in parts, and that it prints what it must.
+-- Definitions of the program's reading: a session fed in parts, and what it promises; the tests are computed.
 pub mod Feeding
 pub mod Prints
+pub mod Computes
+pub mod tests

@@ -1,0 +1,2 @@
+-- Tests of the definitions that the prover computes: sessions fed in parts.
+pub mod Parts
