@@ -26,7 +26,7 @@ use Rattle.calls.specs.Calls.{goHome, goThrough, withHeld, withRegistere
 use Rattle.calls.specs.contracts.Performs.{Answers, Agrees}
 
 -- the words say nothing of the records
-records-apart : {t : List ℕ} (st : State) (ps : List Process) → Represents t st → Represents t (withProcesses ps st)
+pub records-apart : {t : List ℕ} (st : State) (ps : List Process) → Represents t st → Represents t (withProcesses ps st)
 unfolding laidWell wordsOf rowsRise requestsRise rowsFit requestsFit itemsFew
 records-apart st ps rep = record { well = rep .well; words = rep .words }
 

@@ -23,5 +23,11 @@ pub mod AskLaws
 pub mod ReplyLaws
 -- the lines of an opening text, the entries of a node form, what is given
 pub mod OpeningLaws
--- the two passes over an opening text
+-- the first pass over an opening text
 pub mod PassLaws
+-- what an opening text leaves in the lent words: none, rows, records
+pub mod WrittenLaws
+-- the second pass: what a line is, names and leaves
+pub mod SecondPass
+-- the forms written, then the lines left; the verdict
+pub mod WrittenForms

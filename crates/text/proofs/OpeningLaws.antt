@@ -81,7 +81,7 @@ pub record Entering (n : ℕ) (s : List ℕ) (at : ℕ) (r : EntriesRead) : Type
   pub whole : entriesFrom n s at ≡ entriesJoined read (entriesFrom (n - length (read .entries)) s (read .next))
 
 -- the entries from a position on, by the entry at it
-from-more : (n : ℕ) (s : List ℕ) (i : ℕ) (e : EntryRead) → entryRead s i ≡ e → e .good ≡ true → entriesFrom (suc n) s i ≡ addEntry (e .entry) (entriesFrom n s (e .next))
+pub from-more : (n : ℕ) (s : List ℕ) (i : ℕ) (e : EntryRead) → entryRead s i ≡ e → e .good ≡ true → entriesFrom (suc n) s i ≡ addEntry (e .entry) (entriesFrom n s (e .next))
 unfolding entriesFrom entryRead
 from-more n s i e is good =
     let sure : (entryRead s i) .good ≡ true = ap (λ (x : EntryRead). x .good) is ∙ good in
@@ -137,20 +137,6 @@ module _ (n : ℕ) (s : List ℕ) (at : ℕ) where
         let c = count-same in
         let q : n - length (k .read .entries) ≡ 0 = omega arith in
         k .told ∙ (rw (k .whole, q, append-nil))
-
--- ---- whether entries name only what is given
-module _ (fs : List Form) (n : ℕ) (s : List ℕ) (i : ℕ) (e : EntryRead) (is : e ≡ entryRead s i) where
-  pub listed-none : e .good ≡ false → listedFrom fs n s i ≡ true
-  unfolding listedFrom all
-  listed-none none = rw (from-none n s i e (sym is) none)
-
-  pub listed-more : (k : ℕ) → k < n → e .good ≡ true → listedFrom fs (n - k) s i ≡ entryListed fs (e .entry) && listedFrom fs (n - (k + 1)) s (e .next)
-  unfolding listedFrom all addEntry
-  listed-more k h good = let q : n - k ≡ suc (n - (k + 1)) = omega arith in rw (q, from-more (n - (k + 1)) s i e (sym is) good)
-
-pub listed-end : (fs : List Form) (n k : ℕ) (s : List ℕ) (i : ℕ) → n ≤ k → listedFrom fs (n - k) s i ≡ true
-unfolding listedFrom entriesFrom all
-listed-end fs n k s i h = let q : n - k ≡ 0 = omega arith in rw q
 
 -- ---- what is given
 none-in : (k n : ℕ) → getD (replicate k false) n false ≡ false

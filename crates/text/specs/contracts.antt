@@ -3,3 +3,4 @@ pub mod Sizes
 pub mod Asks
 pub mod Replies
 pub mod Openings
+pub mod Written

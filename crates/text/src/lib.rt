@@ -94,9 +94,9 @@ pub struct Passed {
     pub given: Given,
 }
 
-// Whether a line names only what is given; the second pass ends at the last line.
+// Whether a line names only what is given, and how many rows are written then; the second pass ends at the last line.
 pub enum Naming {
-    Listed,
+    Listed(usize),
     Missing,
     Ended,
 }
@@ -111,5 +111,6 @@ pub struct Verdict {
 pub mod call_line;
 pub mod opening_lines;
 pub mod opening_text;
+pub mod opening_words;
 pub mod patterns;
 pub mod replies;

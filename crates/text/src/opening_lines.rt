@@ -17,9 +17,9 @@ use rows::codes::is_node;
 ghost use mathlib.Core.Path.{_≡_};
 ghost use Prim.Native.Nat.{_+_, _≤_};
 ghost use lib.ListN.{length, drop};
-ghost use Rattle.text.specs.Opening.{entriesFrom, entryRanged, lineOf, processLine, openLine, badLine};
+ghost use Rattle.text.specs.Opening.{entriesFrom, entryRanged, lineOf, openLine, badLine};
 ghost use Rattle.text.specs.contracts.Sizes.{GROUPS};
-ghost use Rattle.text.specs.contracts.Openings.{firstLine, entryRead, entriesRead, lineRead};
+ghost use Rattle.text.specs.contracts.Openings.{firstLine, entryRead, entriesRead, otherLine, lineRead};
 
 // ---- lines
 // The position after the line that begins at a position, its line feed with it.
@@ -123,7 +123,7 @@ fn last_form(line: &[u8]) -> LineRead
 
 // `(process p n)`, else another form.
 fn process_form(line: &[u8]) -> LineRead
-    ensures { λ r. ⌜ r ≡ lineRead (processLine (now (line .entry)) (openLine (now (line .entry)) badLine)) ⌝ }
+    ensures { λ r. ⌜ r ≡ lineRead (otherLine (now (line .entry))) ⌝ }
 {
     let f = read_form(line, 0, b"(process # #)\n");
     if is_whole(line, f) {

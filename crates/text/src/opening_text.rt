@@ -1,32 +1,23 @@
-// An opening text of any bytes: accepted, or refused with a number at a line (specs/Opening.antt). Its lines are read
-// where they stand, in two passes.
-use crate::Entry;
+// The first pass over an opening text of any bytes: 2, 3, 4 and 6 (specs/Opening.antt).
 use crate::Given;
 use crate::LineRead;
-use crate::Naming;
 use crate::Passed;
 use crate::Step;
-use crate::Verdict;
-use crate::call_line::GROUPS;
 use crate::call_line::is_process;
-use crate::opening_lines::entry_at;
 use crate::opening_lines::line_end;
 use crate::opening_lines::read_line;
-use crate::patterns::read_form;
-use rows::codes::AN_OPERATION;
 use rows::codes::is_node;
 ghost use mathlib.Core.Path.{_≡_};
 ghost use mathlib.Core.Bool.{false};
 ghost use mathlib.Core.List.{List, [], _∷_};
 ghost use Prim.Native.Nat.{_≤_};
 ghost use lib.ListN.{getD};
-ghost use Rattle.text.specs.Opening.{linesOf, Form, nodeForm, processForm, lineOf, formRefusal, entryListed};
-ghost use Rattle.text.specs.Opening.{firstPass, openingOf};
-ghost use Rattle.text.specs.contracts.Sizes.{GROUPS, NODES};
+ghost use Rattle.text.specs.declared.Entry.{Entry};
+ghost use Rattle.text.specs.Opening.{linesOf, Form, nodeForm, processForm, lineOf, formRefusal, firstPass};
+ghost use Rattle.text.specs.contracts.Sizes.{NODES};
 ghost use Rattle.rows.specs.contracts.Sizes.{PROCESSES};
 ghost use Rattle.text.specs.contracts.Openings.{Gives, RefusesNode, StepsNode, FormSteps, Steps, stopped};
-ghost use Rattle.text.specs.contracts.Openings.{gone-on, Ends, listedFrom, nodeListed, namingOf, naming, Misses};
-ghost use Rattle.text.specs.contracts.Openings.{verdictOf};
+ghost use Rattle.text.specs.contracts.Openings.{gone-on, Ends};
 
 const MOST_ENTRIES: usize = 16;
 
@@ -41,7 +32,7 @@ fn none_given() -> Given
 }
 
 // Whether a number is given; no number past the run is.
-fn is_given(run: &[bool], n: u32) -> bool
+pub fn is_given(run: &[bool], n: u32) -> bool
     ensures { λ r. ⌜ r ≡ getD (now (run .entry)) n false ⌝ }
 {
     let i = n as usize;
@@ -167,7 +158,7 @@ fn pass_line(line: &[u8], g: Given) -> Step
 }
 
 // The first line with 2, 3, 4 or 6, with the lowest of its numbers; or what is given up to `(open)`.
-fn first_pass(text: &[u8]) -> Passed
+pub fn first_pass(text: &[u8]) -> Passed
     ensures { λ r. ⌜ Ends (firstPass [] 1 (linesOf (now (text .entry)))) r ⌝ }
 {
     let mut at = 0;
@@ -191,124 +182,5 @@ fn first_pass(text: &[u8]) -> Passed
         refusal: 2,
         line: n,
         given: g,
-    }
-}
-
-// ---- the second pass: 5
-// Whether the process or node that an entry names is given.
-fn entry_listed(g: Given, e: Entry) -> bool
-    ensures { λ r. ⌜ ((fs : List Form) → Gives g fs → r ≡ entryListed fs e) ⌝ }
-{
-    if e.kind == AN_OPERATION {
-        let processes = g.processes;
-        return is_given(&processes, e.object);
-    }
-    let nodes = g.nodes;
-    is_given(&nodes, e.object)
-}
-
-// Whether all that the entries from a position on name is given.
-fn entries_listed(line: &[u8], at: usize, g: Given) -> bool
-    ensures { λ r. ⌜ ((fs : List Form) → Gives g fs → r ≡ listedFrom fs GROUPS (now (line .entry)) at) ⌝ }
-{
-    let mut i = at;
-    for k in 0..GROUPS {
-        let e = entry_at(line, i);
-        if !e.good {
-            return true;
-        }
-        let entry = e.entry;
-        if !entry_listed(g, entry) {
-            return false;
-        }
-        i = e.next;
-    }
-    true
-}
-
-// Whether the entries of a node form name only what is given.
-fn node_listed(line: &[u8], g: Given) -> bool
-    ensures { λ r. ⌜ ((fs : List Form) → Gives g fs → r ≡ nodeListed fs (now (line .entry))) ⌝ }
-{
-    let f = read_form(line, 0, b"(node #");
-    let at = f.next;
-    entries_listed(line, at, g)
-}
-
-// Whether a flag says listed or missing.
-fn naming_of(listed: bool) -> Naming
-    ensures { λ r. ⌜ r ≡ namingOf listed ⌝ }
-{
-    if listed {
-        Naming::Listed
-    } else {
-        Naming::Missing
-    }
-}
-
-// Whether a line names only what is given.
-fn line_listed(line: &[u8], g: Given) -> Naming
-    ensures { λ r. ⌜ ((fs : List Form) → Gives g fs → r ≡ naming fs (lineOf (now (line .entry)))) ⌝ }
-{
-    let l = read_line(line);
-    match l {
-        LineRead::Node(_, _, _) => naming_of(node_listed(line, g)),
-        LineRead::Process(_, n) => {
-            let nodes = g.nodes;
-            naming_of(is_given(&nodes, n))
-        }
-        LineRead::Last => Naming::Ended,
-        LineRead::Bad => Naming::Ended,
-    }
-}
-
-// The first line that names what is not given, 0 for none.
-fn second_pass(text: &[u8], g: Given) -> usize
-    ensures { λ r. ⌜ Misses g (now (text .entry)) r ⌝ }
-{
-    let mut at = 0;
-    let mut n = 1;
-    while at < text.len() {
-        let e = line_end(text, at);
-        let named = line_listed(&text[at..e], g);
-        match named {
-            Naming::Listed => {
-                at = e;
-                n += 1;
-            }
-            Naming::Missing => {
-                return n;
-            }
-            Naming::Ended => {
-                return 0;
-            }
-        }
-    }
-    0
-}
-
-// Whether an opening text of any bytes is accepted, or its refusal and line.
-// Ruled out: 5 at a line before one with 2, 3, 4 or 6; a refusal for what follows `(open)`.
-pub fn read_opening(text: &[u8]) -> Verdict
-    ensures { λ r. ⌜ r ≡ verdictOf (openingOf (linesOf (now (text .entry)))) ⌝ }
-{
-    let p = first_pass(text);
-    if 0 < p.refusal {
-        return Verdict {
-            refusal: p.refusal,
-            line: p.line,
-        };
-    }
-    let given = p.given;
-    let n = second_pass(text, given);
-    if 0 < n {
-        return Verdict {
-            refusal: 5,
-            line: n,
-        };
-    }
-    Verdict {
-        refusal: 0,
-        line: 0,
     }
 }

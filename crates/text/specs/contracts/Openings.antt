@@ -1,5 +1,5 @@
 -- What the reader of an opening text tells of it: an entry, entries, a line, what is given, and how the passes end.
-use Prim.Native.Nat.{ℕ, suc, _<_}
+use Prim.Native.Nat.{ℕ, suc, _+_, _<_}
 use mathlib.Core.Path.{_≡_}
 use mathlib.Core.Bool.{Bool, true, false, _||_}
 use mathlib.Core.List.{List, [], _∷_}
@@ -18,7 +18,7 @@ use Rattle.text.specs.declared.Naming.{Naming}
 use Rattle.text.specs.declared.Naming.the-variants.{Listed, Missing, Ended}
 use Rattle.text.specs.declared.Verdict.{Verdict}
 use Rattle.text.specs.Patterns.{form}
-use Rattle.text.specs.Opening.{operationEntry, subdirectoryEntry, Entries, entryRanged, Form, nodeForm, processForm, Line, lastLine, formLine, badLine, linesOf, entriesFrom, givesNode, givesProcess, formRefusal, entryListed, formListed, missingAt, firstPass, FirstPass, readTo, stoppedBy, Opening, opens, refusedAt}
+use Rattle.text.specs.Opening.{operationEntry, subdirectoryEntry, Entries, entryRanged, Form, nodeForm, processForm, Line, lastLine, formLine, badLine, linesOf, processLine, openLine, entriesFrom, entriesIn, givesNode, givesProcess, formRefusal, entryListed, formListed, missingAt, firstPass, FirstPass, readTo, stoppedBy, Opening, opens, refusedAt}
 use Rattle.text.specs.contracts.Sizes.{GROUPS, NODES}
 use Rattle.rows.specs.contracts.Sizes.{PROCESSES}
 
@@ -44,6 +44,10 @@ unfoldable pub entriesRead : Entries → EntriesRead
 entriesRead g = record { next = g .next; count = length (g .entries); ranged = all entryRanged (g .entries) }
 
 -- ---- a line
+-- what a line is that is no node form
+abbrev pub otherLine : List ℕ → Line
+otherLine s = processLine s (openLine s badLine)
+
 unfoldable pub lineRead : Line → LineRead
 lineRead lastLine = Last
 lineRead badLine = Bad
@@ -101,18 +105,27 @@ listedFrom fs n s i = all (entryListed fs) (entriesFrom n s i .entries)
 unfoldable pub entriesAt : List ℕ → ℕ
 entriesAt s = form s 0 "(node #" .next
 
--- whether the entries of a node form do
-abbrev pub nodeListed : List Form → List ℕ → Bool
-nodeListed fs s = listedFrom fs GROUPS s (entriesAt s)
+-- the entries from a position on
+abbrev pub entriesHere : List ℕ → ℕ → List Entry
+entriesHere s at = entriesFrom GROUPS s at .entries
 
-unfoldable pub namingOf : Bool → Naming
-namingOf listed = if listed then Listed else Missing
+-- of a form after which so many rows are written
+unfoldable pub namingOf : Bool → ℕ → Naming
+namingOf listed rows = if listed then Listed rows else Missing
 
--- whether a line names only what the forms fs give
-unfoldable pub naming : List Form → Line → Naming
-naming fs lastLine = Ended
-naming fs badLine = Ended
-naming fs (formLine f) = namingOf (formListed fs f)
+-- whether a line, before which so many rows are written, names only what the forms fs give
+unfoldable pub naming : List Form → ℕ → Line → Naming
+naming fs rows lastLine = Ended
+naming fs rows badLine = Ended
+naming fs rows (formLine f) = namingOf (formListed fs f) (rows + length (entriesIn f))
+
+-- r says whether the entries from a position on, a line, names only what is given
+abbrev pub NamesEntries : Given → List ℕ → ℕ → ℕ → Naming → Type 0
+NamesEntries g s at rows r =
+    (fs : List Form) → Gives g fs → r ≡ namingOf (listedFrom fs GROUPS s at) (rows + length (entriesHere s at))
+
+abbrev pub NamesLine : Given → ℕ → Line → Naming → Type 0
+NamesLine g rows l r = (fs : List Form) → Gives g fs → r ≡ naming fs rows l
 
 -- the first pass reads the text up to `(open)`
 abbrev pub ReadTo : List ℕ → List Form → List (List ℕ) → Type 0

@@ -1,11 +1,11 @@
--- `opening_text::entry_listed` meets its contract.
+-- `opening_words::entry_listed` meets its contract.
 use mathlib.Core.Path.{_∙_}
 use borrow.Author.Tests.{ne-eqb}
 use Rattle.rows.specs.Codes.{isOperation, operation}
 use Rattle.text.specs.Opening.{entryListed}
 use borrow.Author.Needs.{needs}
-use Rattle.text.proofs.opening_text.entry_listed.Statement.{statement}
-use Rattle.text.proofs.opening_text.entry_listed.Tie as tie
+use Rattle.text.proofs.opening_words.entry_listed.Statement.{statement}
+use Rattle.text.proofs.opening_words.entry_listed.Tie as tie
 
 slice-aggregate-is-given : tie.Need-slice-aggregate-is-given
 slice-aggregate-is-given c = search needs

@@ -1,0 +1,174 @@
+-- Laws of the second pass over an opening text: what a line that the first pass took is, what it names and what it leaves in the
+-- lent words.
+use Prim.Native.Nat.{ℕ, suc, _+_, _≤_}
+use native.Mathlib.Omega.{arith}
+use mathlib.Core.Bool.{true, false, Bool, cond, _&&_}
+use mathlib.Core.List.{List, _∷_, []}
+use mathlib.Core.Path.{_≡_, refl, ap, subst, _∙_, sym}
+use lib.Dec.{eqb, ltb}
+use lib.ListN.{length, getD}
+use borrow.Author.Tests.{ne-eqb, eqb-true}
+use Rattle.rows.proofs.Bools.{clash, and-l, and-r}
+use Rattle.rows.specs.Limits.{mostBytes}
+use Rattle.rows.specs.Lists.{any, bytes}
+use Rattle.rows.specs.contracts.Sizes.{ROWS, PROCESSES}
+use Rattle.text.specs.Opening.{Line, lastLine, formLine, badLine, lineOf, nodeForm, processForm, processLine, openLine, entriesFrom, entriesIn, nodeLine, formListed, givesNode}
+use Rattle.text.specs.Patterns.{whole, form, mostGroups, pieces, piece, itself, began, passed, bad}
+use Rattle.text.specs.contracts.Openings.{naming, namingOf, listedFrom, otherLine, entriesHere, NamesEntries, NamesLine}
+use Rattle.text.specs.contracts.Written.{SetsRecord, LineFits, LineWritten, WritesEntries, WritesLine, WritesRecord}
+use Rattle.text.specs.contracts.Sizes.{GROUPS}
+use Rattle.text.specs.declared.Given.{Given}
+use Rattle.text.specs.declared.Naming.{Naming}
+use Rattle.text.specs.declared.Naming.the-variants.{Ended, Listed, Missing}
+use Rattle.text.specs.declared.Read.{Read}
+use Rattle.text.proofs.PatternLaws.{piece-bad}
+
+-- ---- two patterns that differ in their second byte
+stays-bad : (s : List ℕ) (r : Read) (ps : List ℕ) → r .good ≡ false → pieces s r ps .good ≡ false
+unfolding pieces
+stays-bad s r [] e = e
+stays-bad s r (p ∷ ps) e = ap (λ (x : Read). pieces s x ps .good) (piece-bad s r p e) ∙ stays-bad s r ps e
+
+-- the first byte was read, then the second
+second-byte : (s : List ℕ) (b : ℕ) (ps : List ℕ) → (b ≡ 35 → ⊥) → (b ≡ 64 → ⊥) → pieces s (began 0) (40 ∷ b ∷ ps) .good ≡ true → getD s 1 0 ≡ b
+unfolding pieces piece itself began passed bad
+second-byte s b ps h k e = pick (ltb 0 (length s) && eqb (getD s 0 0) 40) refl e
+  where
+    pick : (x : Bool) → ltb 0 (length s) && eqb (getD s 0 0) 40 ≡ x → pieces s (piece s (cond x (passed (began 0)) bad) b) ps .good ≡ true → getD s 1 0 ≡ b
+    pick false q g = clash g (stays-bad s bad ps refl)
+    pick true q g = then (ltb 1 (length s) && eqb (getD s 1 0) b) refl (rw (ne-eqb b 35 h, ne-eqb b 64 k) at g)
+      where
+        then : (y : Bool) → ltb 1 (length s) && eqb (getD s 1 0) b ≡ y → pieces s (cond y (passed (passed (began 0))) bad) ps .good ≡ true → getD s 1 0 ≡ b
+        then true r g = eqb-true (getD s 1 0) b (and-r (ltb 1 (length s)) (eqb (getD s 1 0) b) r)
+        then false r g = clash g (stays-bad s bad ps refl)
+
+-- a line that begins as a node form is no other form
+node-alone : (s : List ℕ) → form s 0 "(node #" .good ≡ true → otherLine s ≡ badLine
+unfolding processLine openLine form bytes whole
+node-alone s e = pick (whole s (form s 0 "(process # #)\n")) refl (whole s (form s 0 "(open)\n")) refl
+  where
+    n : getD s 1 0 ≡ 110
+    n = second-byte s 110 (111 ∷ 100 ∷ 101 ∷ 32 ∷ 35 ∷ []) (λ z. omega arith) (λ z. omega arith) e
+
+    good : (f : Read) → whole s f ≡ true → f .good ≡ true
+    good f h = and-l (f .good) (eqb (f .next) (length s)) h
+
+    pick : (x : Bool) → whole s (form s 0 "(process # #)\n") ≡ x → (y : Bool) → whole s (form s 0 "(open)\n") ≡ y
+        → cond x (formLine (processForm (form s 0 "(process # #)\n" .b) (form s 0 "(process # #)\n" .c))) (cond y lastLine badLine) ≡ badLine
+    pick true h y k =
+        let p : getD s 1 0 ≡ 112 = second-byte s 112 (bytes "rocess # #)\n") (λ z. omega arith) (λ z. omega arith) (good (form s 0 "(process # #)\n") h) in
+        absurd (omega (arith, n))
+    pick false h true k =
+        let o : getD s 1 0 ≡ 111 = second-byte s 111 (bytes "pen)\n") (λ z. omega arith) (λ z. omega arith) (good (form s 0 "(open)\n") k) in
+        absurd (omega (arith, n))
+    pick false h false k = refl
+
+-- ---- a line that the first pass took, by how it begins: what it is, names and leaves
+module _ (s : List ℕ) (f : Read) (is : f ≡ form s 0 "(node #") (rows : ℕ) (fits : LineFits rows (lineOf s)) where
+  node-line : f .good ≡ true → lineOf s ≡ formLine (nodeForm (f .c) (entriesHere s (f .next)))
+  unfolding lineOf nodeLine mostGroups LineFits
+  node-line good = rw is (pick (ltb (suc mostBytes) (length s)) (whole s (form s (entriesFrom GROUPS s (begins .next) .next) ")\n")) fits)
+    where
+      begins : Read
+      begins = form s 0 "(node #"
+
+      node : Line
+      node = formLine (nodeForm (begins .c) (entriesHere s (begins .next)))
+
+      good-here : begins .good ≡ true
+      good-here = ap (λ (x : Read). x .good) (sym is) ∙ good
+
+      pick : (l w : Bool) → LineFits rows (cond l badLine (cond (begins .good && w) node (otherLine s))) → cond l badLine (cond (begins .good && w) node (otherLine s)) ≡ node
+      pick true w h = absurd h
+      pick false true h = rw good-here
+      pick false false h = absurd (rw (good-here, node-alone s good-here) at h)
+
+  other-line : f .good ≡ false → lineOf s ≡ otherLine s
+  unfolding lineOf nodeLine LineFits
+  other-line none = pick (ltb (suc mostBytes) (length s)) (whole s (form s (entriesFrom mostGroups s (begins .next) .next) ")\n")) fits
+    where
+      begins : Read
+      begins = form s 0 "(node #"
+
+      node : Line
+      node = formLine (nodeForm (begins .c) (entriesFrom mostGroups s (begins .next) .entries))
+
+      none-here : begins .good ≡ false
+      none-here = ap (λ (x : Read). x .good) (sym is) ∙ none
+
+      pick : (l w : Bool) → LineFits rows (cond l badLine (cond (begins .good && w) node (otherLine s))) → cond l badLine (cond (begins .good && w) node (otherLine s)) ≡ otherLine s
+      pick true w h = absurd h
+      pick false w h = rw none-here
+
+  module _ (good : f .good ≡ true) where
+    pub node-fits : rows + length (entriesHere s (f .next)) ≤ ROWS
+    unfolding LineFits
+    node-fits = subst (LineFits rows) (node-line good) fits
+
+    pub node-named : (g : Given) (r : Naming) → NamesEntries g s (f .next) rows r → NamesLine g rows (lineOf s) r
+    unfolding naming formListed listedFrom entriesIn
+    node-named g r named fs k = named fs k ∙ sym (ap (naming fs rows) (node-line good))
+
+    pub node-written : (t u p : List ℕ) (r : Naming) → WritesEntries t u s (f .next) (f .c) rows r → WritesLine t p u p rows (lineOf s) r
+    unfolding LineWritten
+    node-written t u p r adds h = subst (LineWritten t p u p rows) (sym (node-line good)) (adds h, refl)
+
+  module _ (none : f .good ≡ false) where
+    pub other-fits : LineFits rows (otherLine s)
+    other-fits = subst (LineFits rows) (other-line none) fits
+
+    pub other-named : (g : Given) (r : Naming) → NamesLine g rows (otherLine s) r → NamesLine g rows (lineOf s) r
+    other-named g r named fs k = named fs k ∙ sym (ap (naming fs rows) (other-line none))
+
+    pub other-written : (t p q : List ℕ) (r : Naming) → WritesRecord p q rows (otherLine s) r → WritesLine t p t q rows (lineOf s) r
+    other-written t p q r writes h = subst (LineWritten t p t q rows) (sym (other-line none)) (writes t h)
+
+module _ (s : List ℕ) (f : Read) (is : f ≡ form s 0 "(process # #)\n") (rows : ℕ) where
+  process-line : whole s f ≡ true → otherLine s ≡ formLine (processForm (f .b) (f .c))
+  unfolding processLine
+  process-line e = let w : whole s (form s 0 "(process # #)\n") ≡ true = ap (whole s) (sym is) ∙ e in rw (w, is)
+
+  open-line : whole s f ≡ false → otherLine s ≡ openLine s badLine
+  unfolding processLine
+  open-line e = let w : whole s (form s 0 "(process # #)\n") ≡ false = ap (whole s) (sym is) ∙ e in rw w
+
+  pub open-named : whole s f ≡ false → (g : Given) → NamesLine g rows (otherLine s) Ended
+  unfolding openLine naming
+  open-named e g fs k = sym (ap (naming fs rows) (open-line e) ∙ pick (whole s (form s 0 "(open)\n")))
+    where
+      pick : (b : Bool) → naming fs rows (cond b lastLine badLine) ≡ Ended
+      pick true = refl
+      pick false = refl
+
+  pub open-written : whole s f ≡ false → (p : List ℕ) → WritesRecord p p rows (otherLine s) Ended
+  unfolding openLine LineWritten
+  open-written e p t h = subst (LineWritten t p t p rows) (sym (open-line e)) (pick (whole s (form s 0 "(open)\n")))
+    where
+      pick : (b : Bool) → LineWritten t p t p rows (cond b lastLine badLine)
+      pick true = (refl, refl)
+      pick false = tt
+
+  module _ (e : whole s f ≡ true) where
+    pub process-fits : LineFits rows (otherLine s) → (1 ≤ f .b) × (f .b ≤ PROCESSES)
+    unfolding LineFits
+    process-fits h = subst (LineFits rows) (process-line e) h
+
+    module _ (g : Given) (b : Bool) (told : b ≡ getD (g .nodes) (f .c) false) where
+      process-named : NamesLine g rows (otherLine s) (namingOf b rows)
+      unfolding naming formListed entriesIn
+      process-named fs k =
+          let q : rows + 0 ≡ rows = omega arith in
+          let given : b ≡ any (givesNode (f .c)) fs = told ∙ k .node (f .c) in
+          sym (ap (naming fs rows) (process-line e) ∙ rw (given, q))
+
+      pub process-missing : b ≡ false → NamesLine g rows (otherLine s) Missing
+      unfolding namingOf
+      process-missing q fs k = sym (rw q) ∙ process-named fs k
+
+      pub process-listed : b ≡ true → NamesLine g rows (otherLine s) (Listed rows)
+      unfolding namingOf
+      process-listed q fs k = sym (rw q) ∙ process-named fs k
+
+    pub process-written : (p q : List ℕ) → SetsRecord p q (f .b) (f .c) → WritesRecord p q rows (otherLine s) (Listed rows)
+    unfolding LineWritten
+    process-written p q sets t h = subst (LineWritten t p t q rows) (sym (process-line e)) (refl, sets)
