@@ -1,18 +1,16 @@
--- Runs of words moved down in one column, and what that does to the words passed; eight marks looked at at once.
+-- Runs of words moved down in one column, and what that does to the words passed.
 use Prim.Native.Nat.{ℕ, zero, suc, _+_, _-_, _<_, _≤_, zero-le}
-use mathlib.Core.Bool.{Bool, true, false, not, _||_, false≢true}
+use mathlib.Core.Bool.{Bool, true, false, not, false≢true}
 use mathlib.Core.List.{List, [], _∷_, _++_, append-assoc, append-nil}
 use mathlib.Core.Path.{_≡_, refl, ap, sym, subst, _∙_}
 use mathlib.Core.Logic.{⊎-elim}
 use native.Mathlib.Nat.{add-zero, le-refl, eq-or-lt-of-le}
 use native.Mathlib.Numerals.{add-one}
 use native.Mathlib.Omega.{arith}
-use native.Mathlib.Decide.{decLt}
 use lib.ListN.{length, getD, take, drop, set, length-append, length-drop, take-append-drop}
 use lib.Seq.{take-suc, take-at, drop-at, drop-cons, drop-drop, getD-drop, set-at, length-take-le}
 use Rattle.rows.specs.Lists.{pad}
 use Rattle.changes.specs.contracts.Marks.{keep, compacted, slid, cleared, NoneMarked, AllMarked, EndsClear, EndsMarked}
-use Rattle.rows.proofs.Bools.{not-t, or-fl, or-fr}
 use Rattle.changes.proofs.Keep.{length-pad, keep-skip, keep-take, keep-unmarked}
 
 -- ---- a run moved down
@@ -163,33 +161,3 @@ run-forth ms n i a e h marked clear =
     (eq-or-lt-of-le (marked .within)))
     (λ (lt : a < e). omega (arith, marked .after))
     (eq-or-lt-of-le (clear .after))
-
--- ---- eight marks at once
-module _ (f : ℕ → Bool) where
-  here-or-on : (i k : ℕ) → f i ≡ false → i ≤ k → (i < k → f k ≡ false) → f k ≡ false
-  here-or-on i k here h more = ⊎-elim (λ (e : i ≡ k). sym (ap f e) ∙ here) more (eq-or-lt-of-le h)
-
-  -- of four positions one after the other none passes the test
-  clear-four : (i a b c : ℕ) → a ≡ i + 1 → b ≡ i + 2 → c ≡ i + 3 → f i || (f a || (f b || f c)) ≡ false → (k : ℕ) → i ≤ k → k ≤ c → f k ≡ false
-  clear-four i a b c ea eb ec none k h g =
-      let one : f a || (f b || f c) ≡ false = or-fr (f i) (f a || (f b || f c)) none in
-      let two : f b || f c ≡ false = or-fr (f a) (f b || f c) one in
-      here-or-on i k (or-fl (f i) (f a || (f b || f c)) none) h
-      (λ h1. here-or-on a k (or-fl (f a) (f b || f c) one) (omega arith)
-      (λ h2. here-or-on b k (or-fl (f b) (f c) two) (omega arith)
-      (λ h3. here-or-on c k (or-fr (f b) (f c) two) (omega arith) (λ h4. absurd (omega arith)))))
-
-  pub clear-eight : (i : ℕ) → not ((f i || (f (i + 1) || (f (i + 2) || f (i + 3)))) || (f (i + 4) || (f (i + 5) || (f (i + 6) || f (i + 7))))) ≡ true
-      → (k : ℕ) → i ≤ k → k < i + 8 → f k ≡ false
-  clear-eight i e k h g =
-      let low : Bool = f i || (f (i + 1) || (f (i + 2) || f (i + 3))) in
-      let high : Bool = f (i + 4) || (f (i + 5) || (f (i + 6) || f (i + 7))) in
-      let none : low || high ≡ false = not-t (low || high) e in
-      elim (decLt k (i + 4)) [
-        | yes lt ↦ clear-four i (i + 1) (i + 2) (i + 3) refl refl refl (or-fl low high none) k h (omega arith)
-        | no ge ↦ clear-four (i + 4) (i + 5) (i + 6) (i + 7) (omega arith) (omega arith) (omega arith) (or-fr low high none) k (omega arith) (omega arith)
-      ]
-
-pub clear-on : (ms : List Bool) (from i : ℕ) → ((k : ℕ) → k < i → from ≤ k → getD ms k false ≡ false) → NoneMarked ms i (i + 8)
-    → (k : ℕ) → k < i + 8 → from ≤ k → getD ms k false ≡ false
-clear-on ms from i old new k h g = elim (decLt k i) [ yes lt ↦ old k lt g | no ge ↦ new k (omega arith) h ]

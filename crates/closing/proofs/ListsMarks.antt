@@ -15,6 +15,7 @@ use Rattle.rows.specs.Layout.{rowSlot}
 use Rattle.rows.proofs.Bools.{eqb-sym-f, or-fl, or-fr, and-false}
 use Rattle.rows.proofs.Keyed.{rises-rest, rises-fresh}
 use Rattle.rows.proofs.KeySlots.{slot-le, slot-none}
+use Rattle.rows.proofs.LayoutColumns.{getD-pad}
 use Rattle.changes.specs.contracts.Marks.{tested}
 use Rattle.changes.proofs.Keep.{length-tested}
 use Rattle.rows.specs.contracts.Sizes.{ROWS}
@@ -22,14 +23,6 @@ use Rattle.closing.specs.contracts.Lists.{slotMarks, among}
 
 -- ---- marks that are padded
 module _ (d : Bool) where
-  pub getD-pad : (k : ℕ) (l : List Bool) (i : ℕ) → getD (pad d k l) i d ≡ getD l i d
-  unfolding pad
-  getD-pad zero l i = refl
-  getD-pad (suc k) [] zero = refl
-  getD-pad (suc k) [] (suc i) = getD-pad k [] i
-  getD-pad (suc k) (x ∷ l) zero = refl
-  getD-pad (suc k) (x ∷ l) (suc i) = getD-pad k l i
-
   set-pad : (k : ℕ) (l : List Bool) (i : ℕ) (b : Bool) → i < length l → set (pad d k l) i b ≡ pad d k (set l i b)
   unfolding pad
   set-pad k [] i b h = absurd (not-suc-le-zero h)
@@ -62,7 +55,7 @@ module _ {A : Type 0} (key : A → ℕ) (b : ℕ → Bool) (n : ℕ) where
   abbrev in-more : A → Bool
   in-more x = b (key x) || eqb (key x) n
 
-  mark-at : (xs : List A) (i : ℕ) → slotWith key xs n ≡ suc i → getD (tested in-it xs) i false ≡ b n
+  pub mark-at : (xs : List A) (i : ℕ) → slotWith key xs n ≡ suc i → getD (tested in-it xs) i false ≡ b n
   unfolding slotWith tested
   mark-at [] i e = absurd (omega arith)
   mark-at (x ∷ xs) i e = pick (mark-at xs i) (eqb (key x) n) refl e

@@ -31,7 +31,8 @@ use Rattle.closing.specs.Closing.{oldestListing, returned, listedIn, lea
 use Rattle.closing.specs.contracts.Marks.{RowCount, RowsMarked, RequestsMarked}
 use Rattle.closing.specs.contracts.Lists.{slotMarks, among, backRow, itemsBack, WentBack, itemsOut, trimmedAll, partlySettled, SettledTo, listsSettled, SlotsMarked, InSlot, ItemsStand, SendsBack, ItemsLeave}
 use Rattle.closing.proofs.Lookups.{returned-keeps, returned-same}
-use Rattle.closing.proofs.ListsMarks.{getD-pad, tested-at}
+use Rattle.closing.proofs.ListsMarks.{tested-at}
+use Rattle.rows.proofs.LayoutColumns.{getD-pad}
 use Rattle.closing.proofs.ListsBack.{marks-map}
 
 -- ---- what sound tables tell of a request

@@ -15,13 +15,21 @@ use rows::layout::RequestMarks;
 use rows::layout::RowMarks;
 use rows::layout::SOURCE;
 use rows::layout::VIA;
+ghost use mathlib.Core.Bool.{false};
 ghost use mathlib.Core.Path.{_≡_};
-ghost use Prim.Native.Nat.{_≤_, _<_};
+ghost use Prim.Native.Nat.{_%_, _≤_, _<_};
+ghost use lib.ListN.{getD};
 ghost use Rattle.rows.specs.Lists.{member};
 ghost use Rattle.rows.specs.Layout.{rawRow};
 ghost use Rattle.rows.specs.contracts.Sizes.{ROWS, REQUESTS, IsTables};
-ghost use Rattle.closing.specs.contracts.Seeds.{seedOf, closesOf, markAt};
-ghost use Rattle.closing.specs.contracts.Marks.{MarksRows, TellsMark, MarksRequests};
+ghost use Rattle.closing.specs.contracts.Seeds.{seedOf, closesOf};
+ghost use Rattle.closing.specs.contracts.Marks.{WORDS, MarksWords, MarksRows, TellsMark, MarksRequests};
+
+// Marks by the word of a source: that of a slot stands at the slot plus 1, and nothing is marked at 0. There are more
+// of them than words that a source can have, so that a word is looked up without a test.
+const WORDS: usize = 2 * ROWS;
+
+type WordMarks = [bool; WORDS];
 
 // Whether the row in slot i is a seed.
 // Ruled out: an operation row whose manager's number is the port's; a row that bears the number of another request.
@@ -36,33 +44,41 @@ fn is_seed(t: &[u32], i: usize, s: Seed) -> bool
     }
 }
 
-// The mark at source word s: a slot plus 1, 0 for none.
-fn mark_at(marks: &[bool], s: u32) -> bool
-    ensures { λ r. ⌜ r ≡ markAt (now (marks .entry)) s ⌝ }
+// The mark at the word s of a source.
+fn mark_at(by: &WordMarks, s: u32) -> bool
+    ensures { λ r. ⌜ r ≡ getD (now (by .entry)) (s % WORDS) false ⌝ }
 {
-    let at = s as usize;
-    if at == 0 {
-        return false;
-    }
-    if marks.len() < at {
-        return false;
-    }
-    marks[at - 1]
+    by[s as usize % WORDS]
 }
 
-// The rows that are removed: the seeds and all that comes from them, in one pass from the oldest row on.
+// The seeds and all that comes from them, in one pass from the oldest row on.
+fn mark_words(t: &[u32], n: usize, s: Seed) -> WordMarks
+    requires { ⌜ IsTables (now t) × (n ≤ ROWS) ⌝ }
+    ensures { λ r. ⌜ MarksWords (now (t .entry)) n s r ⌝ }
+{
+    let mut by = [false; WORDS];
+    let mut i = 0;
+    while i < n {
+        let seed = is_seed(t, i, s);
+        let source = mark_at(&by, t[SOURCE + i]);
+        let via = mark_at(&by, t[VIA + i]);
+        by[i + 1] = seed | source | via;
+        i += 1;
+    }
+    by
+}
+
+// The rows that are removed: the seeds and all that comes from them.
 // Ruled out: a copy whose second source alone is removed stays; a row of which nothing is removed goes.
 pub fn mark_rows(t: &[u32], n: usize, s: Seed) -> RowMarks
     requires { ⌜ IsTables (now t) × (n ≤ ROWS) ⌝ }
     ensures { λ r. ⌜ MarksRows (now (t .entry)) n s r ⌝ }
 {
+    let by = mark_words(t, n, s);
     let mut removed = [false; ROWS];
     let mut i = 0;
     while i < n {
-        let seed = is_seed(t, i, s);
-        let source = mark_at(&removed, t[SOURCE + i]);
-        let via = mark_at(&removed, t[VIA + i]);
-        removed[i] = seed | source | via;
+        removed[i] = by[i + 1];
         i += 1;
     }
     removed

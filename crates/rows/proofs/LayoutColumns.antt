@@ -48,7 +48,7 @@ run-is a k t l few room at =
 
 -- ---- laid
 module _ {A : Type 0} (f : A → List A → ℕ) where
-  length-laid : (xs : List A) → length (laid f xs) ≡ length xs
+  pub length-laid : (xs : List A) → length (laid f xs) ≡ length xs
   unfolding laid
   length-laid [] = refl
   length-laid (x ∷ xs) = omega (arith, length-append (laid f xs) (f x xs ∷ []), length-laid xs)

@@ -1,19 +1,24 @@
 -- What the searches of the lent words find, where they represent a state: the slots of its rows and requests.
-use Prim.Native.Nat.{ℕ, _+_}
+use Prim.Native.Nat.{ℕ, _+_, _*_, _<_, _≤_}
 use mathlib.Core.Bool.{true}
 use mathlib.Core.List.{List}
 use mathlib.Core.Path.{_≡_, ap, sym, subst, _∙_}
+use native.Mathlib.Decide.{decLt}
 use native.Mathlib.Omega.{arith}
-use lib.ListN.{length, getD, take, drop}
+use lib.ListN.{length, getD, take, drop, List·getD-eq-default}
+use lib.Seq.{getD-take, length-take-le}
 use Rattle.rows.specs.declared.Found.{Found}
-use Rattle.rows.specs.Lists.{rises, slotWith}
+use Rattle.rows.specs.declared.Found.the-variants.{At, Nothing}
+use Rattle.rows.specs.Lists.{rises, slotWith, laid}
 use Rattle.rows.specs.Tables.{State}
 use Rattle.rows.specs.contracts.Represents.{Represents}
 use Rattle.rows.specs.contracts.Slots.{foundSlot, requestSlot, openSlot}
-use Rattle.rows.specs.Layout.{rowSlot}
-use Rattle.rows.specs.contracts.Searches.{Ascending, LastAt, LastAtIfAscending}
-use Rattle.rows.proofs.Searches.{Keys, last-slot, keys-rise, keys-part}
-use Rattle.rows.proofs.Slots.{represented-well, row-words-at, request-words-at}
+use Rattle.rows.specs.Layout.{rowSlot, rowWord}
+use Rattle.rows.specs.contracts.Searches.{Ascending, LastAt, LastAtIfAscending, LastUpToIfFront}
+use Rattle.rows.proofs.Keyed.{rises-range}
+use Rattle.rows.proofs.LayoutColumns.{length-laid}
+use Rattle.rows.proofs.Searches.{Keys, last-slot, keys-rise, keys-member, keys-part, Numbers, numbers-front, half-hit, last-none}
+use Rattle.rows.proofs.Slots.{represented-well, represented-length, represented-row, row-words-at, request-words-at}
 
 module _ {st : State} {t : List ℕ} (rep : Represents t st) where
   -- ---- the columns of keys
@@ -35,10 +40,49 @@ module _ {st : State} {t : List ℕ} (rep : Represents t st) where
   halves key l xs ks up k n r e p =
       last-slot key l n xs r ks (subst (λ (m : ℕ). LastAt l m n r) e (p (subst (λ (m : ℕ). Ascending m l) (sym e) (keys-rise key l xs ks up))))
 
-  pub row-search : (k n : ℕ) (r : Found) → k ≡ length (st .rows) → LastAtIfAscending (take 1024 (drop 0 t)) k n r
-      → r ≡ foundSlot (rowSlot (st .rows) n)
-  unfolding rowSlot
-  row-search = halves (λ r. r .number) (take 1024 (drop 0 t)) (st .rows) row-keys (represented-well rep .rows-rise)
+  -- by steps, over the numbers of the rows
+  abbrev numbers-in : List ℕ
+  numbers-in = take 1024 (drop 0 t)
+
+  unused-zero : (i : ℕ) → length (st .rows) ≤ i → getD numbers-in i 0 ≡ 0
+  unused-zero i h =
+      elim (decLt i 1024) [
+        | yes lt ↦
+            getD-take 1024 (drop 0 t) i 0 lt
+            ∙ (let first : 0 * 1024 + i ≡ i = omega arith in ap (λ (j : ℕ). getD t j 0) (sym first))
+            ∙ represented-row rep 0 i (omega arith) lt
+            ∙ List·getD-eq-default (laid (rowWord 0) (st .rows)) 0 (omega (arith, length-laid (rowWord 0) (st .rows)))
+        | no ge ↦ List·getD-eq-default numbers-in 0 (omega (arith, length-take-le 1024 (drop 0 t) (omega (arith, represented-length rep))))
+      ]
+
+  row-numbers : Numbers numbers-in (length (st .rows))
+  row-numbers =
+      record {
+        rise = keys-rise (λ r. r .number) numbers-in (st .rows) row-keys (represented-well rep .rows-rise);
+        used = λ i h. rises-range (λ r. r .number) (st .rows) (represented-well rep .rows-rise) (getD numbers-in i 0) (keys-member (λ r. r .number) numbers-in (st .rows) row-keys i h) .0;
+        unused = unused-zero;
+      }
+
+  -- what the last number up to n tells of the row numbered n
+  module _ (k n last : ℕ) (counted : k ≡ length (st .rows)) (found : LastUpToIfFront numbers-in n last) where
+    few : k ≤ 1024
+    few = omega (arith, represented-well rep .rows-fit)
+
+    is-slot : (r : Found) → LastAt numbers-in (length (st .rows)) n r → r ≡ foundSlot (rowSlot (st .rows) n)
+    unfolding rowSlot
+    is-slot r p = last-slot (λ r. r .number) numbers-in n (st .rows) r row-keys p
+
+    same-word : last < k → getD numbers-in last 0 ≡ getD t (0 + last) 0
+    same-word h = getD-take 1024 (drop 0 t) last 0 (omega (arith, few)) ∙ (let first : last ≡ 0 + last = omega arith in ap (λ (j : ℕ). getD t j 0) first)
+
+    pub row-hit : last < k → getD t (0 + last) 0 ≡ n → At last ≡ foundSlot (rowSlot (st .rows) n)
+    row-hit h e = is-slot (At last) (half-hit numbers-in (length (st .rows)) n (row-numbers .rise) last (omega arith) (same-word h ∙ e))
+
+    pub row-missed : (last < k → getD t (0 + last) 0 ≡ n → ⊥) → Nothing ≡ foundSlot (rowSlot (st .rows) n)
+    row-missed other =
+        is-slot Nothing
+        (last-none numbers-in n (length (st .rows)) row-numbers last (found (numbers-front numbers-in n (length (st .rows)) row-numbers))
+        (λ h e. other (omega arith) (sym (same-word (omega arith)) ∙ e)))
 
   pub request-search : (k q : ℕ) (r : Found) → k ≡ length (st .requests) → LastAtIfAscending (take 128 (drop 10240 t)) k q r
       → r ≡ foundSlot (requestSlot (st .requests) q)

@@ -1,24 +1,24 @@
--- Searches of a column: by halves over numbers that rise, and from the last word back. What is found is the slot of the element.
-use Prim.Native.Nat.{ℕ, zero, suc, _+_, _-_, _<_, _≤_, zero-le, suc-le-suc}
-use mathlib.Core.Bool.{Bool, true, false, cond}
+-- Searches of a column: by halves or by steps over numbers that rise, and from the last word back. What is found is the slot of the element.
+use Prim.Native.Nat.{ℕ, zero, suc, _+_, _-_, _%_, _^_, _<_, _≤_, zero-le, suc-le-suc}
+use mathlib.Core.Bool.{Bool, true, false, cond, false≢true}
 use mathlib.Core.List.{List, [], _∷_, _++_, append-assoc, map}
 use mathlib.Core.Path.{_≡_, refl, ap, sym, subst, _∙_}
 use mathlib.Core.Logic.{_⊎_, inl, inr, ⊎-elim}
 use native.Mathlib.Nat.{eq-or-lt-of-le, le-of-suc-le-suc}
 use native.Mathlib.Decide.{decLt}
 use native.Mathlib.Omega.{arith}
-use borrow.Author.Tests.{eqb-true, eqb-false}
+use borrow.Author.Tests.{eqb-true, eqb-false, leb-true, le-leb, ltb-true, lt-ltb}
 use borrow.Author.Count.{below-more}
-use lib.Dec.{eqb}
-use lib.ListN.{length, getD, take, drop, length-append}
+use lib.Dec.{eqb, leb, ltb}
+use lib.ListN.{length, getD, take, drop, length-append, List·getD-eq-default}
 use lib.Seq.{getD-take, getD-drop}
 use Rattle.rows.specs.declared.Found.{Found}
 use Rattle.rows.specs.declared.Found.the-variants.{At, Nothing}
 use Rattle.rows.specs.Lists.{rises, member, some, slotWith}
 use Rattle.rows.specs.Layout.{leading}
 use Rattle.rows.specs.contracts.Slots.{foundSlot}
-use Rattle.rows.specs.contracts.Searches.{Ascending, LastAt}
-use Rattle.rows.proofs.Bools.{pos-some, member-here, member-there}
+use Rattle.rows.specs.contracts.Searches.{Ascending, LastAt, isUpTo, stepTo, UpToInFront, LastUpTo}
+use Rattle.rows.proofs.Bools.{clash, bool-eq, and-l, and-r, and-i, some-pos, pos-some, member-here, member-there}
 use Rattle.rows.proofs.Keyed.{rises-rest, rises-older}
 
 lt-or-ge : (a b : ℕ) → (a < b) ⊎ (b ≤ a)
@@ -73,6 +73,89 @@ module _ (l : List ℕ) (k n : ℕ) where
   unfolding LastAt
   back-none i h free = λ j. free j (omega arith)
 
+-- ---- numbers that rise, with 0 after them
+pub record Numbers (l : List ℕ) (k : ℕ) : Type 0 where
+  pub rise : Ascending k l
+  pub used : (i : ℕ) → i < k → 0 < getD l i 0
+  pub unused : (i : ℕ) → k ≤ i → getD l i 0 ≡ 0
+
+-- ---- by steps: the last number up to n is at a position, or after it and before the width's end
+pub record Stepped (l : List ℕ) (n at width : ℕ) : Type 0 where
+  pub here : 0 < at → isUpTo n (getD l at 0) ≡ true
+  pub after : (j : ℕ) → at + width ≤ j → isUpTo n (getD l j 0) ≡ true → ⊥
+
+module _ (l : List ℕ) (n : ℕ) where
+  pub steps-start : Stepped l n 0 (length l)
+  unfolding isUpTo some
+  steps-start =
+      record {
+        here = λ h. absurd (omega arith);
+        after = λ j h e. false≢true (sym (ap (λ (x : ℕ). isUpTo n x) (List·getD-eq-default l 0 (omega arith))) ∙ e);
+      }
+
+  pub steps-turn : UpToInFront l n → (at width half : ℕ) → half + half ≤ width → Stepped l n at width → Stepped l n (stepTo l n at half) (width - half)
+  unfolding stepTo
+  steps-turn front at width half h p = pick (isUpTo n (getD l (at + half) 0)) refl
+    where
+      pick : (b : Bool) → isUpTo n (getD l (at + half) 0) ≡ b → Stepped l n (cond b (at + half) at) (width - half)
+      pick true e = record { here = λ g. e; after = λ j g. p .after j (omega arith) }
+      pick false e =
+          record {
+            here = p .here;
+            after = λ j g d. ⊎-elim (λ (q : at + half ≡ j). clash (rw q d) e) (λ (lt : at + half < j). clash (front (at + half) j lt d) e) (eq-or-lt-of-le (omega arith));
+          }
+
+  -- a step stays within the width
+  pub step-le : (at half : ℕ) → (at ≤ stepTo l n at half) × (stepTo l n at half ≤ at + half)
+  unfolding stepTo
+  step-le at half = pick (isUpTo n (getD l (at + half) 0))
+    where
+      pick : (b : Bool) → (at ≤ cond b (at + half) at) × (cond b (at + half) at ≤ at + half)
+      pick true = (omega arith, omega arith)
+      pick false = (omega arith, omega arith)
+
+  pub steps-end : (at width : ℕ) → width ≤ 1 → Stepped l n at width → LastUpTo l n at
+  steps-end at width h p = record { here = p .here; after = λ j g. p .after j (omega arith) }
+
+  up-to-open : (x : ℕ) → isUpTo n x ≡ true → (0 < x) × (x ≤ n)
+  unfolding isUpTo
+  up-to-open x e = (some-pos x (and-l (some x) (leb x n) e), leb-true x n (and-r (some x) (leb x n) e))
+
+  up-to-close : (x : ℕ) → 0 < x → x ≤ n → isUpTo n x ≡ true
+  unfolding isUpTo
+  up-to-close x h g = and-i (some x) (leb x n) (pos-some x h) (le-leb x n g)
+
+  module _ (k : ℕ) (p : Numbers l k) where
+    in-use : (j : ℕ) → 0 < getD l j 0 → j < k
+    in-use j h = ⊎-elim (λ lt. lt) (λ ge. let e : getD l j 0 ≡ 0 = p .unused j ge in absurd (omega arith)) (lt-or-ge j k)
+
+    pub numbers-front : UpToInFront l n
+    unfolding Ascending
+    numbers-front i j lt e =
+        let (some-j, up) = up-to-open (getD l j 0) e in
+        let below : j < k = in-use j some-j in
+        let less : getD l i 0 < getD l j 0 = p .rise i j lt below in
+        up-to-close (getD l i 0) (p .used i (omega arith)) (omega arith)
+
+    -- where the last number up to n is not n, n is not there
+    pub last-none : (last : ℕ) → LastUpTo l n last → (last < k → getD l last 0 ≡ n → ⊥) → LastAt l k n Nothing
+    unfolding LastAt Ascending
+    last-none last q other j h e =
+        let some-j : 0 < getD l j 0 = p .used j h in
+        let up : isUpTo n (getD l j 0) ≡ true = up-to-close (getD l j 0) some-j (omega arith) in
+        ⊎-elim (λ (lt : last < j). q .after j lt up)
+        (λ (ge : j ≤ last).
+        ⊎-elim (λ (same : j ≡ last). other (rw (← same) h) (rw (← same) e))
+        (λ (less : j < last).
+        let (some-last, at-most) = up-to-open (getD l last 0) (q .here (omega arith)) in
+        let more : getD l j 0 < getD l last 0 = p .rise j last less (in-use last some-last) in omega arith) (eq-or-lt-of-le ge)) (lt-or-ge last j)
+
+-- a difference that wraps: one comparison tells a number up to n
+pub wraps-up-to : (x n w : ℕ) → n < 2 ^ 32 → w < 2 ^ 32 → (w + 1) % 2 ^ 32 ≡ x → ltb w n ≡ isUpTo n x
+wraps-up-to x n w h g e =
+    bool-eq (ltb w n) (isUpTo n x) (λ t. let less : w < n = ltb-true w n t in up-to-close [] n x (omega arith) (omega arith))
+    (λ t. let up = up-to-open [] n x t in lt-ltb w n (omega arith))
+
 -- ---- the words before the first 0
 pub leading-is : (l : List ℕ) (i : ℕ) → ((j : ℕ) → j < i → getD l j 0 ≡ 0 → ⊥) → getD l i 0 ≡ 0 → leading l ≡ i
 unfolding leading some
@@ -121,7 +204,7 @@ module _ {A : Type 0} (key : A → ℕ) where
       pick ih false q = ih (λ j h. p j (omega arith))
 
   -- each of these words is a key
-  keys-member : (l : List ℕ) (xs : List A) → Keys l xs → (i : ℕ) → i < length xs → member (getD l i 0) (map key xs) ≡ true
+  pub keys-member : (l : List ℕ) (xs : List A) → Keys l xs → (i : ℕ) → i < length xs → member (getD l i 0) (map key xs) ≡ true
   keys-member l [] ks i h = absurd (omega arith)
   keys-member l (x ∷ xs) ks i h =
       ⊎-elim

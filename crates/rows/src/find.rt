@@ -6,14 +6,17 @@ use crate::layout::Q_ASKER;
 use crate::layout::Q_NUMBER;
 use crate::layout::Q_PORT;
 ghost use mathlib.Core.Path.{_≡_};
-ghost use Prim.Native.Nat.{_≤_};
+ghost use mathlib.Core.Bool.{true};
+ghost use Prim.Native.Nat.{_+_, _<_, _≤_};
 ghost use lib.ListN.{length};
 ghost use Rattle.rows.specs.Layout.{leading, rowsIn, requestsIn};
 ghost use Rattle.rows.specs.contracts.Slots.{Within};
-ghost use Rattle.rows.specs.contracts.Searches.{LastAt, LastAtIfAscending};
+ghost use Rattle.rows.specs.contracts.Searches.{LastAt, LastAtIfAscending, NoneZero};
+ghost use Rattle.rows.specs.contracts.Searches.{isUpTo, stepTo, LastUpToIfFront};
 ghost use Rattle.rows.specs.contracts.Finds.{FindsRowAmong, FindsRow, FindsRequest, FindsOpen};
 ghost use Rattle.rows.specs.contracts.Sizes.{ROWS, REQUESTS, IsTables};
 
+// ---- searches of a column
 // The position of n among the first words of a column, which rise: by halves.
 // Ruled out: a position at or past the count; nothing where n is there.
 pub fn search(column: &[u32], count: usize, n: u32) -> Found
@@ -55,13 +58,42 @@ pub fn search_back(column: &[u32], count: usize, n: u32) -> Found
     Found::Nothing
 }
 
+// ---- how many slots are in use
+// Whether none of eight words is 0: without a branch, so that the processor looks at all of them at once.
+fn eight_used(column: &[u32], i: usize) -> bool
+    requires { ⌜ i + 8 ≤ length (now column) ⌝ }
+    ensures { λ r. ⌜ (r ≡ true → NoneZero (now (column .entry)) i (i + 8)) ⌝ }
+{
+    let low = (column[i] == 0)
+        | ((column[i + 1] == 0) | ((column[i + 2] == 0) | (column[i + 3] == 0)));
+    let high = (column[i + 4] == 0)
+        | ((column[i + 5] == 0) | ((column[i + 6] == 0) | (column[i + 7] == 0)));
+    !(low | high)
+}
+
+// Passes words that are not 0, eight at a time.
+fn skip_used(column: &[u32]) -> usize
+    ensures within { λ r. ⌜ r ≤ length (now (column .entry)) ⌝ }
+    ensures used { λ r. ⌜ NoneZero (now (column .entry)) 0 r ⌝ }
+{
+    let mut i = 0;
+    while 8 <= column.len() - i {
+        let used = eight_used(column, i);
+        if !used {
+            return i;
+        }
+        i += 8;
+    }
+    i
+}
+
 // How many words stand before the first 0.
 // Ruled out: a count that stops at a word that is not 0; one that passes a 0.
 pub fn leading_in(column: &[u32]) -> usize
     ensures counted { λ r. ⌜ r ≡ leading (now (column .entry)) ⌝ }
     ensures within { λ r. ⌜ r ≤ length (now (column .entry)) ⌝ }
 {
-    let mut i = 0;
+    let mut i = skip_used(column);
     while i < column.len() {
         if column[i] == 0 {
             return i;
@@ -91,6 +123,44 @@ pub fn requests_in(t: &[u32]) -> usize
     leading_in(&t[Q_NUMBER..Q_PORT])
 }
 
+// ---- the slot of a row
+// Whether x is a number in use, and at most n: one comparison, since 0 becomes the greatest word.
+fn is_up_to(x: u32, n: u32) -> bool
+    ensures { λ r. ⌜ r ≡ isUpTo n x ⌝ }
+{
+    std::num::wrapping_sub_u32(x, 1) < n
+}
+
+// A step of the search: to a position that is further on, if the number there is up to n.
+fn step(column: &[u32], n: u32, at: usize, half: usize) -> usize
+    requires { ⌜ at + half < length (now column) ⌝ }
+    ensures { λ r. ⌜ r ≡ stepTo (now (column .entry)) n at half ⌝ }
+{
+    let mid = at + half;
+    if is_up_to(column[mid], n) {
+        return mid;
+    }
+    at
+}
+
+// The last position of a number up to n, where such numbers stand in front; 0 if there is none. As many steps for each
+// n, and none that the processor has to guess: the compiler unrolls the loop and picks each step without a branch.
+// Ruled out: a position at or past the end; a number up to n further on.
+fn last_up_to(column: &[u32], n: u32) -> usize
+    requires { ⌜ 0 < length (now column) ⌝ }
+    ensures within { λ r. ⌜ r < length (now (column .entry)) ⌝ }
+    ensures last { λ r. ⌜ LastUpToIfFront (now (column .entry)) n r ⌝ }
+{
+    let mut at = 0;
+    let mut width = column.len();
+    while 1 < width {
+        let half = width / 2;
+        at = step(column, n, at, half);
+        width -= half;
+    }
+    at
+}
+
 // The slot of the row numbered n among so many rows: for callers that look up several.
 // Ruled out: the slot of another row; one at or past the count.
 pub fn row_among(t: &[u32], count: usize, n: u32) -> Found
@@ -98,7 +168,11 @@ pub fn row_among(t: &[u32], count: usize, n: u32) -> Found
     ensures within { λ r. ⌜ Within count r ⌝ }
     ensures found { λ r. ⌜ FindsRowAmong (now (t .entry)) count n r ⌝ }
 {
-    search(&t[NUMBER..KIND], count, n)
+    let last = last_up_to(&t[NUMBER..KIND], n);
+    if (last < count) & (t[NUMBER + last] == n) {
+        return Found::At(last);
+    }
+    Found::Nothing
 }
 
 // The slot of the row numbered n.
@@ -112,6 +186,7 @@ pub fn row_slot(t: &[u32], n: u32) -> Found
     row_among(t, count, n)
 }
 
+// ---- the slot of a request
 // The slot of the request numbered q.
 // Ruled out: the slot of another request; one past the requests in use.
 pub fn request_slot(t: &[u32], q: u32) -> Found

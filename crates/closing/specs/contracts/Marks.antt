@@ -1,7 +1,7 @@
 -- Marks of what a closing takes: the rows that are removed and the requests that close; and what the functions that make or read marks say.
 use Prim.Native.Nat.{ℕ}
 use mathlib.Core.Bool.{Bool, true, false}
-use mathlib.Core.List.{List}
+use mathlib.Core.List.{List, _∷_}
 use mathlib.Core.Path.{_≡_}
 use lib.ListN.{length}
 use Rattle.rows.specs.declared.Request.{Request}
@@ -30,11 +30,23 @@ Stands st e = member e (numbers (st .rows)) ≡ true
 abbrev pub RowsMarked : List Bool → List ℕ → State → Type 0
 RowsMarked removed g st = removed ≡ pad false ROWS (marksOf g (st .rows))
 
+-- marks by the word of a source: more than there are such words
+abbrev pub WORDS : ℕ
+WORDS = 2048
+
+-- the mark of each slot is at the slot plus 1, that of none, which is 0, is not set
+abbrev pub WordsMarked : List Bool → List ℕ → State → Type 0
+WordsMarked by g st = by ≡ pad false WORDS (false ∷ marksOf g (st .rows))
+
 -- the marks are at the slots of the requests that pass the test, and at no other slot
 abbrev pub RequestsMarked : List Bool → (Request → Bool) → State → Type 0
 RequestsMarked closed f st = closed ≡ pad false REQUESTS (tested f (st .requests))
 
 -- ---- what the functions say, of every state that the words t represent and that has n rows (and m requests)
+-- r marks the seeds and the rows that come from them, by the word of a source
+abbrev pub MarksWords : List ℕ → ℕ → Seed → List Bool → Type 0
+MarksWords t n s r = (st : State) → Represents t st → RowCount n st → WordsMarked r (marked (seedOf s) (st .rows)) st
+
 -- r marks the seeds and the rows that come from them
 abbrev pub MarksRows : List ℕ → ℕ → Seed → List Bool → Type 0
 MarksRows t n s r = (st : State) → Represents t st → RowCount n st → RowsMarked r (marked (seedOf s) (st .rows)) st

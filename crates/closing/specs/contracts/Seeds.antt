@@ -1,8 +1,7 @@
 -- What a closing starts from, as the code names it.
-use Prim.Native.Nat.{ℕ, zero, suc}
-use mathlib.Core.Bool.{Bool, false}
+use Prim.Native.Nat.{ℕ}
+use mathlib.Core.Bool.{Bool}
 use mathlib.Core.List.{List, [], _∷_}
-use lib.ListN.{getD}
 use Rattle.rows.specs.declared.Row.{Row}
 use Rattle.rows.specs.Tables.{State, bears}
 use Rattle.closing.specs.declared.Seed.{Seed}
@@ -24,8 +23,3 @@ closesOf (Only e) = []
 -- the closing from its seeds
 unfoldable pub closingFrom : Seed → State → State
 closingFrom s st = closing (seedOf s) (closesOf s) st
-
--- the mark at a slot plus 1; 0 has none
-unfoldable pub markAt : List Bool → ℕ → Bool
-markAt ms zero = false
-markAt ms (suc i) = getD ms i false

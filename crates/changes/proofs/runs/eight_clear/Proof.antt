@@ -4,7 +4,7 @@ use Prim.Native.Nat.{ℕ}
 use mathlib.Core.Bool.{false}
 use denote.Ref.{now}
 use lib.ListN.{getD}
-use Rattle.changes.proofs.Slide.{clear-eight}
+use Rattle.rows.proofs.Eights.{none-of-eight}
 use Rattle.changes.proofs.runs.eight_clear.Statement.{statement}
 use Rattle.changes.proofs.runs.eight_clear.Tie as tie
 
@@ -54,7 +54,7 @@ shared-slice-read-high-4 : tie.Need-shared-slice-read-high-4
 shared-slice-read-high-4 c = search needs
 
 returns : tie.Need-returns
-returns c = let s = c .before .before .before .before .before .before .before .before in clear-eight (λ (k : ℕ). getD (now (s .args .marks)) k false) (s .args .i)
+returns c = let s = c .before .before .before .before .before .before .before .before in none-of-eight (λ (k : ℕ). getD (now (s .args .marks)) k false) (s .args .i)
 
 pub eight-clear-spec : {M : Type 1} → statement M
 eight-clear-spec =

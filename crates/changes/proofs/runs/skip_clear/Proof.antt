@@ -7,7 +7,7 @@ use mathlib.Core.Path.{_≡_}
 use borrow.Author.Tests.{not-false}
 use denote.Ref.{now}
 use lib.ListN.{getD}
-use Rattle.changes.proofs.Slide.{clear-on}
+use Rattle.rows.proofs.Eights.{eight-on}
 use Rattle.changes.proofs.runs.skip_clear.Statement.{statement}
 use Rattle.changes.proofs.runs.skip_clear.Tie as tie
 
@@ -41,7 +41,7 @@ loop-again c =
     let s = b .before .before in
     let marks = now (s .args .marks) in
     let room : b .loop .i + 8 ≤ s .args .count = omega (arith, c .before .before .loop-test .taken, b .loop .inv .1) in
-    (omega (arith, b .loop .inv .0), room, clear-on marks (s .args .from) (b .loop .i) (b .loop .inv .2) (c .before .eight-clear .ensures (not-false _ (c .if1 .left))))
+    (omega (arith, b .loop .inv .0), room, eight-on (λ (k : ℕ). getD marks k false ≡ false) (s .args .from) (b .loop .i) (b .loop .inv .2) (c .before .eight-clear .ensures (not-false _ (c .if1 .left))))
 
 returns-2 : tie.Need-returns-2 Inv-loop μ-loop
 returns-2 c = let b = c .before in ((b .loop .inv .0, b .loop .inv .1), (λ j h k. b .loop .inv .2 j k h))

@@ -1,4 +1,4 @@
--- `marks::mark_rows`: the invariant is that the i oldest rows are marked, however the list is cut there.
+-- `marks::mark_rows`: the slots passed have the marks that the words of their rows have.
 use borrow.Author.Needs.{needs}
 use Prim.Native.Nat.{_≤_, _-_}
 use native.Mathlib.Omega.{arith}
@@ -7,54 +7,33 @@ use lib.ListN.{length}
 use Rattle.rows.specs.Tables.{State}
 use Rattle.rows.specs.contracts.Sizes.{ROWS}
 use Rattle.rows.specs.contracts.Represents.{Represents}
-use Rattle.closing.specs.contracts.Marks.{RowCount}
+use Rattle.closing.specs.declared.Seed.{Seed}
+use Rattle.closing.specs.contracts.Marks.{RowCount, MarksWords}
 use Rattle.closing.proofs.MarksPass.{MarkedTo, marked-start}
 use Rattle.closing.proofs.MarksRows.{Gone, rows-turn, rows-end}
 use Rattle.closing.proofs.marks.mark_rows.Statement.{statement}
 use Rattle.closing.proofs.marks.mark_rows.Tie as tie
 
 abbrev Inv-loop : tie.InvT-loop
-Inv-loop t n s removed₀ i₀ removed i =
-    (i ≤ n) × (length removed ≡ ROWS) × ((st : State) (rep : Represents t st) → RowCount n st → MarkedTo (Gone rep s) ROWS (st .rows) i removed)
+Inv-loop t n by removed₀ i₀ removed i =
+    (i ≤ n)
+    × (length removed ≡ ROWS)
+    × ((s : Seed) → MarksWords t n s by → (st : State) (rep : Represents t st) → RowCount n st → MarkedTo (Gone rep s) ROWS (st .rows) i removed)
 
 abbrev μ-loop : tie.MeasureT-loop
-μ-loop t n s removed₀ i₀ removed i = n - i
+μ-loop t n by removed₀ i₀ removed i = n - i
+
+mark-words-requires : tie.Need-mark-words-requires Inv-loop μ-loop
+mark-words-requires c κs = search needs
 
 loop-holds : tie.Need-loop-holds Inv-loop μ-loop
-loop-holds c = (search needs, search needs, (λ st rep count. marked-start (Gone rep (c .before .args .s)) ROWS (st .rows)))
+loop-holds c = (search needs, search needs, (λ s words st rep count. marked-start (Gone rep s) ROWS (st .rows)))
 
-is-seed-requires : tie.Need-is-seed-requires Inv-loop μ-loop
-is-seed-requires c κs = search needs
+add-removed : tie.Need-add-removed Inv-loop μ-loop
+add-removed c = search needs
 
-slice-aggregate-mark-at : tie.Need-slice-aggregate-mark-at Inv-loop μ-loop
-slice-aggregate-mark-at c = search needs
-
-add-mark-at : tie.Need-add-mark-at Inv-loop μ-loop
-add-mark-at c = search needs
-
-mul-mark-at : tie.Need-mul-mark-at Inv-loop μ-loop
-mul-mark-at c = search needs
-
-shared-slice-read-mark-at : tie.Need-shared-slice-read-mark-at Inv-loop μ-loop
-shared-slice-read-mark-at c = search needs
-
-mark-at-requires : tie.Need-mark-at-requires Inv-loop μ-loop
-mark-at-requires c κs = search needs
-
-slice-aggregate-mark-at-2 : tie.Need-slice-aggregate-mark-at-2 Inv-loop μ-loop
-slice-aggregate-mark-at-2 c = search needs
-
-add-mark-at-2 : tie.Need-add-mark-at-2 Inv-loop μ-loop
-add-mark-at-2 c = search needs
-
-mul-mark-at-2 : tie.Need-mul-mark-at-2 Inv-loop μ-loop
-mul-mark-at-2 c = search needs
-
-shared-slice-read-mark-at-2 : tie.Need-shared-slice-read-mark-at-2 Inv-loop μ-loop
-shared-slice-read-mark-at-2 c = search needs
-
-mark-at-requires-2 : tie.Need-mark-at-requires-2 Inv-loop μ-loop
-mark-at-requires-2 c κs = search needs
+array-read-removed : tie.Need-array-read-removed Inv-loop μ-loop
+array-read-removed c = search needs
 
 array-write-removed : tie.Need-array-write-removed Inv-loop μ-loop
 array-write-removed c = search needs
@@ -67,27 +46,21 @@ loop-less c = search needs
 
 loop-again : tie.Need-loop-again Inv-loop μ-loop
 loop-again c =
-    let by-source = c .before .before .before in
-    let as-seed = by-source .before .before .before in
-    let turn = as-seed .before in
-    let looped = turn .before in
-    let start = looped .before .before in
-    let l = looped .loop in
-    let seed = as-seed .is-seed in
-    let source = by-source .mark-at in
-    let via = c .mark-at2 in (
+    let l = c .before .loop in
+    let start = c .before .before .before .before in (
       search needs,
       search needs,
-      (λ st rep count.
-          rows-turn rep (start .args .s) (l .i) (l .removed) (seed .result) (source .result) (via .result)
-          (omega (arith, turn .loop-test .taken, start .pre .1)) (l .inv .2 st rep count) (seed .ensures) (source .ensures) (via .ensures)),
+      (λ s words st rep count.
+          rows-turn rep s 2047 (l .i) (c .before .before .mark-words .result) (l .removed) (omega (arith, c .loop-test .taken, start .pre .1)) (words st rep count)
+          (l .inv .2 s words st rep count)),
     )
 
 returns : tie.Need-returns Inv-loop μ-loop
-returns c =
+returns c = λ st rep count.
     let l = c .before .loop in
-    λ st rep count.
-    rows-end rep (c .before .before .before .args .s) (l .i) (l .removed) (omega (arith, c .loop-test .left, l .inv .0)) (l .inv .2 st rep count)
+    let made = c .before .before in
+    let s = made .before .before .args .s in
+    rows-end rep s (l .i) (l .removed) (omega (arith, c .loop-test .left, l .inv .0)) (l .inv .2 s (made .mark-words .ensures) st rep count)
 
 pub mark-rows-spec : {M : Type 1} → statement M
 mark-rows-spec =
@@ -95,18 +68,10 @@ mark-rows-spec =
     (tie.spec
     Inv-loop
     μ-loop
+    mark-words-requires
     loop-holds
-    is-seed-requires
-    slice-aggregate-mark-at
-    add-mark-at
-    mul-mark-at
-    shared-slice-read-mark-at
-    mark-at-requires
-    slice-aggregate-mark-at-2
-    add-mark-at-2
-    mul-mark-at-2
-    shared-slice-read-mark-at-2
-    mark-at-requires-2
+    add-removed
+    array-read-removed
     array-write-removed
     add-i
     loop-less

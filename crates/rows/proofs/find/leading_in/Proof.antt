@@ -1,6 +1,6 @@
 -- `find::leading_in` meets its contract: before the loop's position no word is 0.
 use borrow.Author.Needs.{needs}
-use Prim.Native.Nat.{ℕ, _≤_, _<_, _-_}
+use Prim.Native.Nat.{ℕ, _≤_, _<_, _-_, zero-le}
 use mathlib.Core.Path.{_≡_, sym}
 use borrow.Author.Count.{below-more}
 use denote.Ref.{now}
@@ -15,8 +15,11 @@ Inv-loop column i₀ i = (i ≤ length column) × ((j : ℕ) → j < i → getD 
 abbrev μ-loop : tie.MeasureT-loop
 μ-loop column i₀ i = length column - i
 
+skip-used-requires : tie.Need-skip-used-requires Inv-loop μ-loop
+skip-used-requires c κs = search needs
+
 loop-holds : tie.Need-loop-holds Inv-loop μ-loop
-loop-holds c = search needs
+loop-holds c = (search needs, (λ j h. c .skip-used .ensures .1 j zero-le h))
 
 mul-if1 : tie.Need-mul-if1 Inv-loop μ-loop
 mul-if1 c = search needs
@@ -41,7 +44,7 @@ loop-again c = (search needs, below-more _ _ (c .before .before .before .loop .i
 returns-2 : tie.Need-returns-2 Inv-loop μ-loop
 returns-2 c =
     let b = c .before in
-    (sym (leading-is _ (b .loop .i) (b .loop .inv .1) (List·getD-eq-default (now (b .before .args .column)) 0 (c .loop-test .left))), b .loop .inv .0)
+    (sym (leading-is _ (b .loop .i) (b .loop .inv .1) (List·getD-eq-default (now (b .before .before .before .args .column)) 0 (c .loop-test .left))), b .loop .inv .0)
 
 pub leading-in-spec : {M : Type 1} → statement M
 leading-in-spec =
@@ -49,6 +52,7 @@ leading-in-spec =
     (tie.spec
     Inv-loop
     μ-loop
+    skip-used-requires
     loop-holds
     mul-if1
     shared-slice-read-if1
