@@ -27,8 +27,8 @@ ghost use Rattle.calls.specs.declared.Call.{Call};
 ghost use Rattle.calls.specs.contracts.Performs.{Performs};
 ghost use Rattle.calls.specs.contracts.Effects.{IsProcess};
 ghost use Rattle.calls.specs.contracts.Asks.{LookedFits, LooksUp, ItemFits, ItemsFit, LacksRight, AnyLacks};
-ghost use Rattle.calls.specs.contracts.Asks.{ItemBusy, AnyItemBusy, CopyDeep, AnyDeep, RefusesAsk, SpaceUnless, copiesIn};
-ghost use Rattle.calls.specs.contracts.Asks.{AsksHeld, AsksItems};
+ghost use Rattle.calls.specs.contracts.Asks.{ItemBusy, AnyItemBusy, CopyDeep, AnyDeep, RefusesAsk};
+ghost use Rattle.calls.specs.contracts.Asks.{SpaceUnless, copiesIn, AsksHeld, AsksItems};
 
 // The item with its row, where p holds it; no item has no row.
 fn item_row(t: &[u32], n: usize, p: u32, item: Item) -> Looked

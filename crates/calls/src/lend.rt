@@ -10,11 +10,11 @@ use changes::change;
 use rows::Request;
 use rows::codes::THE_SYSTEM;
 use rows::layout::ITEMS;
-ghost use Prim.Native.Nat.{_≤_, _<_, _+_};
-ghost use Rattle.rows.specs.contracts.Sizes.{ROWS, REQUESTS, ITEMS, IsTables};
-ghost use Rattle.calls.specs.contracts.Effects.{LAST-NEXT};
-ghost use Rattle.calls.specs.contracts.Asks.{ItemFits, ItemsFit, copiesIn, HasSpace, LoanGrows, LendsEnd};
-ghost use Rattle.calls.specs.contracts.Asks.{LendsCopy, LendsItem, LendsItems, RequestMade};
+ghost use mathlib.Core.Path.{_≡_};
+ghost use Prim.Native.Nat.{_≤_, _<_};
+ghost use Rattle.rows.specs.contracts.Sizes.{ROWS, ITEMS, IsTables};
+ghost use Rattle.calls.specs.contracts.Asks.{ItemFits, ItemsFit, copiesIn, HasSpace, HasPlaces, LoanGrows};
+ghost use Rattle.calls.specs.contracts.Asks.{LendsEnd, LendsCopy, LendsItem, LendsItems, RequestMade};
 
 // An end goes to the system, and its number into the list.
 fn lend_end(t: &mut [u32], k: Loan, x: ItemRow) -> Loan
@@ -38,8 +38,7 @@ fn lend_end(t: &mut [u32], k: Loan, x: ItemRow) -> Loan
 
 // A copy of the item's row, with the next number, which goes into the list.
 fn lend_copy(t: &mut [u32], k: Loan, w: NewRequest, x: ItemRow) -> Loan
-    requires { ⌜ IsTables (now t) × (k .rows < ROWS) × (k .next < LAST-NEXT) × (k .count < ITEMS)
-        × (w .slot < k .rows) × (0 < x .word) × (x .word ≤ k .rows) ⌝ }
+    requires { ⌜ IsTables (now t) × HasPlaces k 1 × (w .slot < k .rows) × (0 < x .word) × (x .word ≤ k .rows) ⌝ }
     ensures lent { λ r. ⌜ LendsCopy (now (t .entry)) k w x (now (t .exit)) r ⌝ }
     ensures grows { λ r. ⌜ LoanGrows k 1 r ⌝ }
     ensures long { λ _. ⌜ IsTables (now (t .exit)) ⌝ }
@@ -68,8 +67,7 @@ fn lend_copy(t: &mut [u32], k: Loan, w: NewRequest, x: ItemRow) -> Loan
 
 // One item: nothing, an end, or a copy.
 fn lend_item(t: &mut [u32], k: Loan, w: NewRequest, x: ItemRow) -> Loan
-    requires { ⌜ IsTables (now t) × (k .rows + x .copies ≤ ROWS) × (k .next + x .copies ≤ LAST-NEXT)
-        × (k .count < ITEMS) × (w .slot < k .rows) × ItemFits (k .rows) x ⌝ }
+    requires { ⌜ IsTables (now t) × HasPlaces k (x .copies) × (w .slot < k .rows) × ItemFits (k .rows) x ⌝ }
     ensures lent { λ r. ⌜ LendsItem (now (t .entry)) k w x (now (t .exit)) r ⌝ }
     ensures grows { λ r. ⌜ LoanGrows k (x .copies) r ⌝ }
     ensures long { λ _. ⌜ IsTables (now (t .exit)) ⌝ }
@@ -85,8 +83,8 @@ fn lend_item(t: &mut [u32], k: Loan, w: NewRequest, x: ItemRow) -> Loan
 
 // The items in order.
 fn lend_items(t: &mut [u32], k: Loan, w: NewRequest, items: ItemRows) -> Loan
-    requires { ⌜ IsTables (now t) × (k .rows + copiesIn items ≤ ROWS) × (k .next + copiesIn items ≤ LAST-NEXT)
-        × (k .count < 1) × (w .slot < k .rows) × ItemsFit (k .rows) items ⌝ }
+    requires { ⌜ IsTables (now t) × HasPlaces k (copiesIn items) × (k .count ≡ 0) × (w .slot < k .rows)
+        × ItemsFit (k .rows) items ⌝ }
     ensures lent { λ r. ⌜ LendsItems (now (t .entry)) k w items (now (t .exit)) r ⌝ }
     ensures long { λ _. ⌜ IsTables (now (t .exit)) ⌝ }
 {
@@ -99,8 +97,7 @@ fn lend_items(t: &mut [u32], k: Loan, w: NewRequest, items: ItemRows) -> Loan
 // The request takes its number, then the copies theirs in order; it is stored with its list.
 // Ruled out: copies numbered before the request; an end that stays with the asker.
 pub fn add_request(t: &mut [u32], n: usize, m: usize, w: NewRequest, items: ItemRows)
-    requires { ⌜ IsTables (now t) × (w .slot < n) × ItemsFit n items
-        × HasSpace n m (w .number) (copiesIn items) ⌝ }
+    requires { ⌜ IsTables (now t) × (w .slot < n) × ItemsFit n items × HasSpace n m (w .number) (copiesIn items) ⌝ }
     ensures made { λ _. ⌜ RequestMade (now (t .entry)) n m w items (now (t .exit)) ⌝ }
     ensures long { λ _. ⌜ IsTables (now (t .exit)) ⌝ }
 {

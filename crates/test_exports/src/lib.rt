@@ -5,5 +5,6 @@ pub mod asking;
 pub mod changing;
 pub mod closings;
 pub mod lookups;
+pub mod performing;
 pub mod reading;
 pub mod rights;

@@ -151,6 +151,10 @@ pub record LentTo (t : List ℕ) (k : Loan) (st : State) (l : Lending) : Type 0 
   pub kept : KeepsSlots st l
   pub top : topOf (λ r. r .number) (l .rows) < l .next
 
+-- there are slots and numbers for c rows more, and a position in the list
+abbrev pub HasPlaces : Loan → ℕ → Type 0
+HasPlaces k c = (k .rows + c ≤ ROWS) × (k .next + c ≤ LAST-NEXT) × (k .count < ITEMS)
+
 -- c rows more at most, and one item more at most
 abbrev pub LoanGrows : Loan → ℕ → Loan → Type 0
 LoanGrows k c r = (k .rows ≤ r .rows) × (r .rows ≤ k .rows + c) × (r .next ≤ k .next + c) × (r .count ≤ k .count + 1)

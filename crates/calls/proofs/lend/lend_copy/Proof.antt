@@ -62,7 +62,7 @@ returns c =
     let x = s .args .x in
     let i = x .word - 1 in
     let e = x .item .row in
-    let word-at : x .word ≡ suc i = omega (arith, s .pre .5) in
+    let word-at : x .word ≡ suc i = omega (arith, s .pre .3) in
     let made : NewCopy =
     record { number = k .next; rights = x .item .rights; place = 200; source = x .word; via = w .slot + 1; depth = over .result; request = w .number } in (
       (λ st l sd h port word.
@@ -77,7 +77,7 @@ returns c =
           let first = ap (numberOfSlot (l .rows)) word-at ∙ number-of-row (l .rows) e i row′ in
           let second = ap (numberOfSlot (l .rows)) (add-one (w .slot)) ∙ number-of-row (l .rows) (w .port) (w .slot) port′ in
           let rep = copied .ensures .0 mid e e (w .port) (h .words, h .rows) row′ (omega (arith, h .top, h .next)) first second in
-          copy-lent k st l h (s .pre .3) (x .item) (w .port) (w .number)
+          copy-lent k st l h (s .pre .1 .2) (x .item) (w .port) (w .number)
           (subst (λ (r : Row). Represents (copied .last .0) (withRows (r ∷ l .rows) st))
           (copy-kept st l (h .kept) e i (w .port) (w .slot) at port (x .item) refl made (w .number) (h .next) refl refl deep refl) rep)),
       (search needs, copied .ensures .1),

@@ -27,11 +27,9 @@ lend-item-requires-4 c κs =
     let g2 = two .ensures .1 .0 in
     let g3 = three .ensures .1 .0 in (
       three .ensures .1 .1,
-      omega (arith, s .pre .1, g1 .1, g2 .1, g3 .1),
-      omega (arith, s .pre .2, g1 .2, g2 .2, g3 .2),
-      omega (arith, s .pre .3, g1 .3, g2 .3, g3 .3),
-      omega (arith, s .pre .4, g1 .0, g2 .0, g3 .0),
-      (omega (arith, s .pre .5 .3 .0, g1 .0, g2 .0, g3 .0), s .pre .5 .3 .1),
+      (omega (arith, s .pre .1 .0, g1 .1, g2 .1, g3 .1), omega (arith, s .pre .1 .1, g1 .2, g2 .2, g3 .2), omega (arith, s .pre .2, g1 .3, g2 .3, g3 .3)),
+      omega (arith, s .pre .3, g1 .0, g2 .0, g3 .0),
+      (omega (arith, s .pre .4 .3 .0, g1 .0, g2 .0, g3 .0), s .pre .4 .3 .1),
     )
 
 same-length : tie.Need-same-length

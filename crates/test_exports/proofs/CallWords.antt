@@ -1,0 +1,54 @@
+-- The call of its words: a code above all others is that of comes, and a caller that fits is in range.
+use Prim.Native.Nat.{ℕ, _≤_}
+use mathlib.Core.Bool.{Bool, true, false, cond, _||_}
+use mathlib.Core.Path.{_≡_, refl, subst}
+use mathlib.Core.Logic.{⊎-elim}
+use native.Mathlib.Omega.{arith}
+use borrow.Author.Tests.{ne-eqb, leb-true}
+use lib.Dec.{leb, eqb}
+use Rattle.rows.specs.Lists.{between}
+use Rattle.rows.proofs.Bools.{or-cases}
+use Rattle.rows.proofs.Places.{between-range}
+use Rattle.calls.specs.declared.Items.{Items}
+use Rattle.calls.specs.declared.Call.{Call}
+use Rattle.calls.specs.declared.Call.the-variants.{Go, Hold, Register, Drop, Port, Close, Ask, Fetch, Reply, Refuse, Revoke, Comes}
+use Rattle.calls.specs.contracts.Effects.{IsProcess}
+use Rattle.calls.specs.contracts.Performs.{CallerInRange}
+use Rattle.test_exports.specs.contracts.Calls.{callOfCode}
+
+either-in-range : (b : Bool) (x y : Call) → CallerInRange x → CallerInRange y → CallerInRange (cond b x y)
+either-in-range true x y h k = h
+either-in-range false x y h k = k
+
+module _ (k p e : ℕ) (is : Items) where
+  pub last-code : 11 ≤ k → Comes p e ≡ callOfCode k p e is
+  unfolding callOfCode
+  last-code h =
+      rw (
+        ne-eqb k 0 (λ z. omega arith),
+        ne-eqb k 1 (λ z. omega arith),
+        ne-eqb k 2 (λ z. omega arith),
+        ne-eqb k 3 (λ z. omega arith),
+        ne-eqb k 4 (λ z. omega arith),
+        ne-eqb k 5 (λ z. omega arith),
+        ne-eqb k 6 (λ z. omega arith),
+        ne-eqb k 7 (λ z. omega arith),
+        ne-eqb k 8 (λ z. omega arith),
+        ne-eqb k 9 (λ z. omega arith),
+        ne-eqb k 10 (λ z. omega arith),
+      ) refl
+
+  process-in-range : IsProcess p → CallerInRange (callOfCode k p e is)
+  unfolding callOfCode CallerInRange
+  process-in-range h =
+      either-in-range (eqb k 0) (Go p e) _ h (either-in-range (eqb k 1) (Hold p e) _ h (either-in-range (eqb k 2) (Register p e) _ h
+      (either-in-range (eqb k 3) (Drop p e) _ h (either-in-range (eqb k 4) (Port p e) _ h (either-in-range (eqb k 5) (Close p e) _ h
+      (either-in-range (eqb k 6) (Ask p e is) _ h (either-in-range (eqb k 7) (Fetch p e) _ h (either-in-range (eqb k 8) (Reply p e) _ h
+      (either-in-range (eqb k 9) (Refuse p e) _ h (either-in-range (eqb k 10) (Revoke p e) (Comes p e) h tt))))))))))
+
+  pub fits-in-range : leb 11 k || between 1 64 p ≡ true → CallerInRange (callOfCode k p e is)
+  unfolding CallerInRange
+  fits-in-range h =
+      ⊎-elim (λ q. subst CallerInRange (last-code (leb-true 11 k q)) tt)
+      (λ q. let (lo, hi) = between-range 1 64 p q in process-in-range (omega arith, hi))
+      (or-cases (leb 11 k) (between 1 64 p) h)

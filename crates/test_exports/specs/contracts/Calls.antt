@@ -1,0 +1,87 @@
+-- What the exported call says: the call of its words, the words of its answer, and both runs after it.
+use Prim.Native.Nat.{ℕ, suc}
+use mathlib.Core.Bool.{Bool, true, _||_}
+use mathlib.Core.List.{List, [], _∷_}
+use mathlib.Core.Path.{_≡_}
+use lib.Dec.{leb, eqb}
+use lib.ListN.{getD}
+use Rattle.rows.specs.Lists.{if_then_else_, between}
+use Rattle.rows.specs.Tables.{State}
+use Rattle.rows.specs.Sound.{sound}
+use Rattle.rows.specs.Layout.{recordsIn, recordsOf}
+use Rattle.rows.specs.contracts.Represents.{Represents}
+use Rattle.rows.specs.contracts.Sizes.{PROCESSES, IsTables, IsRecords}
+use Rattle.calls.specs.declared.Item.{Item}
+use Rattle.calls.specs.declared.Items.{Items}
+use Rattle.calls.specs.declared.Answer.{Answer}
+use Rattle.calls.specs.declared.Answer.the-variants.{Done, Made, Fetched, Told, Refused}
+use Rattle.calls.specs.declared.Call.{Call}
+use Rattle.calls.specs.declared.Call.the-variants.{Go, Hold, Register, Drop, Port, Close, Ask, Fetch, Reply, Refuse, Revoke, Comes}
+use Rattle.calls.specs.Rules.{Out}
+use Rattle.calls.specs.Calls.{perform}
+use Rattle.calls.specs.contracts.Performs.{CallerListed}
+use Rattle.test_exports.specs.contracts.Exports.{Unless}
+
+-- ---- a call in words: its code, its two numbers, row and rights of each item of an ask
+abbrev itemOfWords : List ℕ → ℕ → Item
+itemOfWords w k = record { row = getD w k 0; rights = getD w (suc k) 0 }
+
+abbrev pub itemsOfWords : List ℕ → Items
+itemsOfWords w = record { first = itemOfWords w 3; second = itemOfWords w 5; third = itemOfWords w 7; fourth = itemOfWords w 9 }
+
+-- the calls in the order of their type; any other code is that of comes
+unfoldable pub callOfCode : ℕ → ℕ → ℕ → Items → Call
+callOfCode k p e is =
+    if eqb k 0 then Go p e
+    else if eqb k 1 then Hold p e
+    else if eqb k 2 then Register p e
+    else if eqb k 3 then Drop p e
+    else if eqb k 4 then Port p e
+    else if eqb k 5 then Close p e
+    else if eqb k 6 then Ask p e is
+    else if eqb k 7 then Fetch p e
+    else if eqb k 8 then Reply p e
+    else if eqb k 9 then Refuse p e
+    else if eqb k 10 then Revoke p e
+    else Comes p e
+
+abbrev pub callOfWords : List ℕ → Call
+callOfWords w = callOfCode (getD w 0 0) (getD w 1 0) (getD w 2 0) (itemsOfWords w)
+
+-- it has no caller, or a process's number for it
+abbrev pub callFits : List ℕ → Bool
+callFits w = leb 11 (getD w 0 0) || between 1 PROCESSES (getD w 1 0)
+
+-- ---- an answer in words: its code, its numbers, 0 after them
+unfoldable pub wordsOfAnswer : Answer → List ℕ
+wordsOfAnswer Done = 0 ∷ 0 ∷ 0 ∷ 0 ∷ 0 ∷ 0 ∷ []
+wordsOfAnswer (Made n) = 1 ∷ n ∷ 0 ∷ 0 ∷ 0 ∷ 0 ∷ []
+wordsOfAnswer (Fetched v a b c d) = 2 ∷ v ∷ a ∷ b ∷ c ∷ d ∷ []
+wordsOfAnswer (Told b) = 3 ∷ (if b then 1 else 0) ∷ 0 ∷ 0 ∷ 0 ∷ 0 ∷ []
+wordsOfAnswer (Refused k) = 4 ∷ k ∷ 0 ∷ 0 ∷ 0 ∷ 0 ∷ []
+
+-- ---- the call on both runs
+-- both runs after it are those of the definition
+abbrev pub RunsAfter : List ℕ → List ℕ → Out → Type 0
+RunsAfter u v o = Represents u (o .after) × (v ≡ recordsOf (o .after .processes))
+
+-- the sound tables t with the records p become u with the records v, and r is answered
+abbrev pub PerformsOn : List ℕ → List ℕ → Call → List ℕ → List ℕ → Answer → Type 0
+PerformsOn t p c u v r =
+    (st : State) → sound st ≡ true → Represents t st → st .processes ≡ recordsIn p → CallerListed st c
+    → RunsAfter u v (perform st c) × (r ≡ perform st c .answer)
+
+-- lengths and caller fit
+abbrev pub Fits : List ℕ → List ℕ → List ℕ → Type 0
+Fits t p w = IsTables t × IsRecords p × (callFits w ≡ true)
+
+-- the same by the words of the call, and of the answer
+abbrev pub PerformsWords : List ℕ → List ℕ → List ℕ → List ℕ → List ℕ → List ℕ → Type 0
+PerformsWords t p w u v out =
+    Fits t p w → (st : State) → sound st ≡ true → Represents t st → st .processes ≡ recordsIn p
+    → CallerListed st (callOfWords w)
+    → RunsAfter u v (perform st (callOfWords w)) × (out ≡ wordsOfAnswer (perform st (callOfWords w) .answer))
+
+-- unless they fit, all stay
+abbrev pub AllStay : List ℕ → List ℕ → List ℕ → List ℕ → List ℕ → List ℕ → List ℕ → Type 0
+AllStay t p w out u v out′ = Unless (Fits t p w) ((u ≡ t) × (v ≡ p) × (out′ ≡ out))

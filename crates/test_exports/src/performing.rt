@@ -1,0 +1,136 @@
+// A call on both runs, the call and its answer in words. Where a length or the caller does not fit, nothing changes.
+use calls::Answer;
+use calls::Call;
+use calls::Item;
+use calls::Items;
+use calls::perform;
+use rows::codes::LAST_PROCESS;
+use rows::layout::RECORDS;
+use rows::layout::TABLES;
+use rows::records;
+ghost use mathlib.Core.Path.{_≡_};
+ghost use Rattle.rows.specs.contracts.Sizes.{IsTables, IsRecords};
+ghost use Rattle.calls.specs.contracts.Performs.{CallerInRange};
+ghost use Rattle.test_exports.specs.contracts.Calls.{itemsOfWords, callOfWords, callFits, wordsOfAnswer};
+ghost use Rattle.test_exports.specs.contracts.Calls.{PerformsOn, PerformsWords, AllStay};
+
+// a call: its code, its two numbers, row and rights of each item of an ask; an answer: its code and its numbers
+pub const CALL_WORDS: usize = 11;
+
+pub const ANSWER_WORDS: usize = 6;
+
+// the code of comes, which has no caller
+const COMES: u32 = 11;
+
+fn items_of(w: &[u32; CALL_WORDS]) -> Items
+    ensures { λ r. ⌜ r ≡ itemsOfWords (now (w .entry)) ⌝ }
+{
+    let first = Item {
+        row: w[3],
+        rights: w[4],
+    };
+    let second = Item {
+        row: w[5],
+        rights: w[6],
+    };
+    let third = Item {
+        row: w[7],
+        rights: w[8],
+    };
+    let fourth = Item {
+        row: w[9],
+        rights: w[10],
+    };
+    Items {
+        first: first,
+        second: second,
+        third: third,
+        fourth: fourth,
+    }
+}
+
+// The call of its words; a code above that of comes stands for comes too.
+fn call_of(w: &[u32; CALL_WORDS]) -> Call
+    ensures { λ r. ⌜ r ≡ callOfWords (now (w .entry)) ⌝ }
+{
+    let code = w[0];
+    let p = w[1];
+    let e = w[2];
+    match code {
+        0 => Call::Go(p, e),
+        1 => Call::Hold(p, e),
+        2 => Call::Register(p, e),
+        3 => Call::Drop(p, e),
+        4 => Call::Port(p, e),
+        5 => Call::Close(p, e),
+        6 => Call::Ask(p, e, items_of(w)),
+        7 => Call::Fetch(p, e),
+        8 => Call::Reply(p, e),
+        9 => Call::Refuse(p, e),
+        10 => Call::Revoke(p, e),
+        _ => Call::Comes(p, e),
+    }
+}
+
+// Whether the call has no caller, or a process's number for it.
+fn caller_fits(w: &[u32; CALL_WORDS]) -> bool
+    ensures { λ r. ⌜ r ≡ callFits (now (w .entry)) ⌝ }
+{
+    let p = w[1];
+    (COMES <= w[0]) | ((1 <= p) & (p <= LAST_PROCESS))
+}
+
+fn words_of(a: Answer) -> [u32; ANSWER_WORDS]
+    ensures { λ r. ⌜ r ≡ wordsOfAnswer a ⌝ }
+{
+    match a {
+        Answer::Done => [0, 0, 0, 0, 0, 0],
+        Answer::Made(n) => [1, n, 0, 0, 0, 0],
+        Answer::Fetched(v, e, f, g, h) => [2, v, e, f, g, h],
+        Answer::Told(b) => {
+            if b {
+                [3, 1, 0, 0, 0, 0]
+            } else {
+                [3, 0, 0, 0, 0, 0]
+            }
+        }
+        Answer::Refused(k) => [4, k, 0, 0, 0, 0],
+    }
+}
+
+fn perform_on(t: &mut [u32], p: &mut [u32], c: Call) -> Answer
+    requires { ⌜ IsTables (now t) × IsRecords (now p) × CallerInRange c ⌝ }
+    ensures { λ r. ⌜ PerformsOn (now (t .entry)) (now (p .entry)) c (now (t .exit)) (now (p .exit)) r ⌝ }
+{
+    let ps = records::load(p);
+    let done = perform::perform(t, ps, c);
+    let left = done.records;
+    records::store(left, p);
+    done.answer
+}
+
+#[no_mangle]
+pub extern "C" fn kernel_perform(
+    t: &mut [u32],
+    p: &mut [u32],
+    w: &[u32; CALL_WORDS],
+    out: &mut [u32; ANSWER_WORDS],
+)
+    ensures done { λ _. ⌜ PerformsWords (now (t .entry)) (now (p .entry)) (now (w .entry))
+        (now (t .exit)) (now (p .exit)) (now (out .exit)) ⌝ }
+    ensures other { λ _. ⌜ AllStay (now (t .entry)) (now (p .entry)) (now (w .entry)) (now (out .entry))
+        (now (t .exit)) (now (p .exit)) (now (out .exit)) ⌝ }
+{
+    if t.len() != TABLES {
+        return;
+    }
+    if p.len() != RECORDS {
+        return;
+    }
+    if !caller_fits(w) {
+        return;
+    }
+    let c = call_of(w);
+    let answer = perform_on(t, p, c);
+    *out = words_of(answer);
+}
