@@ -7,7 +7,6 @@ use native.Mathlib.Omega.{arith}
 use lib.Dec.{eqb}
 use Rattle.rows.specs.declared.Process.{Process}
 use Rattle.rows.specs.Tables.{State}
-use Rattle.rows.specs.Layout.{wordsOf}
 use Rattle.rows.specs.contracts.Represents.{Represents}
 use Rattle.rows.specs.contracts.Sizes.{IsTables}
 use Rattle.calls.specs.declared.Answer.the-variants.{Refused}

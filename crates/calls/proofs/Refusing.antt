@@ -9,7 +9,7 @@ use lib.Dec.{eqb}
 use lib.ListN.{length}
 use Rattle.rows.specs.Lists.{any, member, some}
 use Rattle.rows.specs.Limits.{greatestNumber, rowSlots, greatestDepth}
-use Rattle.rows.specs.Codes.{subdirectory, operation, clientEnd, serverEnd, isSubdirectory, isOperation, isClient, isServer, isEnd, inClist, inNode, mayHold, mayRegister}
+use Rattle.rows.specs.Codes.{subdirectory, clientEnd, serverEnd, isSubdirectory, isOperation, isClient, isServer, isEnd, inClist, inNode, mayHold, mayRegister}
 use Rattle.rows.specs.Tables.{State, noRow, noRequest, rowOf, requestOf, openOn, numbers, processAt, sources, onLoan, isLent}
 use Rattle.rows.specs.Sound.{isFetched}
 use Rattle.rows.specs.Layout.{rowSlot}

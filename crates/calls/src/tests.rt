@@ -34,20 +34,20 @@ pub fn rows_refusal(n: usize, next: u32, d: u32, k: u32) -> u32
     0
 }
 
-// What refuses a request with k new rows: 16, 17, 18; 0 for nothing.
+// What refuses a request with so many copies: 16, 17, 18; 0 for nothing.
 // Ruled out: 17 with a slot free; the number of the request is not counted.
-pub fn request_refusal(n: usize, m: usize, next: u32, k: u32) -> u32
-    requires { ⌜ (n ≤ ROWS) × (m ≤ REQUESTS) × (k ≤ ITEMS) ⌝ }
-    ensures lowest { λ r. ⌜ RefusesRequest n m next k r ⌝ }
-    ensures room { λ r. ⌜ SpaceUnless r n m next k ⌝ }
+pub fn request_refusal(n: usize, m: usize, next: u32, copies: u32) -> u32
+    requires { ⌜ (n ≤ ROWS) × (m ≤ REQUESTS) × (copies ≤ ITEMS) ⌝ }
+    ensures lowest { λ r. ⌜ RefusesRequest n m next copies r ⌝ }
+    ensures room { λ r. ⌜ SpaceUnless r n m next copies ⌝ }
 {
-    if ROWS < n + k as usize {
+    if ROWS < n + copies as usize {
         return 16;
     }
     if REQUESTS <= m {
         return 17;
     }
-    if LAST_NEXT - (k + 1) < next {
+    if LAST_NEXT - (copies + 1) < next {
         return 18;
     }
     0

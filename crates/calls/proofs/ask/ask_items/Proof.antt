@@ -1,13 +1,11 @@
 -- `ask::ask_items`: an item that is missing, or what the items give.
 use borrow.Author.Needs.{needs}
 use native.Mathlib.Omega.{arith}
-use mathlib.Core.Path.{_≡_, subst}
+use mathlib.Core.Path.{subst}
 use Rattle.calls.specs.declared.Items.{Items}
-use Rattle.calls.specs.declared.ItemRows.{ItemRows}
 use Rattle.calls.specs.declared.Call.the-variants.{Ask}
 use Rattle.calls.specs.Calls.{refusals, perform}
 use Rattle.calls.specs.contracts.Performs.{Answers}
-use Rattle.calls.specs.contracts.Asks.{itemsIn}
 use Rattle.calls.proofs.Judging.{refused-answers}
 use Rattle.calls.proofs.Asked.{looked-found, looked-nothing, held-fits, first-seven, second-seven, third-seven, fourth-seven}
 use Rattle.calls.proofs.ask.ask_items.Statement.{statement}

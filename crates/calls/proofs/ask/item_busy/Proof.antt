@@ -2,7 +2,6 @@
 use borrow.Author.Needs.{needs}
 use native.Mathlib.Omega.{arith}
 use mathlib.Core.Path.{_≡_, sym}
-use Prim.Native.Nat.{ℕ}
 use Rattle.rows.specs.Lists.{some}
 use Rattle.rows.proofs.Bools.{and-rf}
 use Rattle.rows.proofs.Slots.{represented-well, row-words}

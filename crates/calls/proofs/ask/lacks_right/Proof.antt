@@ -1,7 +1,6 @@
 -- `ask::lacks_right`: no item, or the tests of its row.
 use borrow.Author.Needs.{needs}
-use native.Mathlib.Omega.{arith}
-use mathlib.Core.Path.{refl, sym}
+use mathlib.Core.Path.{refl}
 use Rattle.rows.proofs.Slots.{represented-well, row-words}
 use Rattle.calls.specs.Loans.{itemRow}
 use Rattle.calls.proofs.Replied.{and-both, and-first}

@@ -11,12 +11,12 @@ add-if1 c = search needs
 returns : tie.Need-returns
 returns c =
     let a = c .before .args in
-    ((λ st rows requests next. no-rows st (a .n) (a .m) (a .next) (a .k) rows requests next (c .if1 .taken)), (λ z. absurd (omega arith)))
+    ((λ st rows requests next. no-rows st (a .n) (a .m) (a .next) (a .copies) rows requests next (c .if1 .taken)), (λ z. absurd (omega arith)))
 
 returns-2 : tie.Need-returns-2
 returns-2 c =
     let a = c .before .before .args in
-    ((λ st rows requests next. no-requests st (a .n) (a .m) (a .next) (a .k) rows requests next (c .before .if1 .left) (c .if2 .taken)), (λ z. absurd (omega arith)))
+    ((λ st rows requests next. no-requests st (a .n) (a .m) (a .next) (a .copies) rows requests next (c .before .if1 .left) (c .if2 .taken)), (λ z. absurd (omega arith)))
 
 add-if3 : tie.Need-add-if3
 add-if3 c = search needs
@@ -29,7 +29,7 @@ returns-3 c =
     let b = c .before .before .before in
     let a = b .args in (
       (λ st rows requests next.
-          no-numbers st (a .n) (a .m) (a .next) (a .k) rows requests next (c .before .before .if1 .left) (c .before .if2 .left) (omega (arith, b .pre .2, c .if3 .taken))),
+          no-numbers st (a .n) (a .m) (a .next) (a .copies) rows requests next (c .before .before .if1 .left) (c .before .if2 .left) (omega (arith, b .pre .2, c .if3 .taken))),
       (λ z. absurd (omega arith)),
     )
 
@@ -38,7 +38,7 @@ returns-4 c =
     let b = c .before .before .before in
     let a = b .args in (
       (λ st rows requests next.
-          has-space st (a .n) (a .m) (a .next) (a .k) rows requests next (c .before .before .if1 .left) (c .before .if2 .left) (omega (arith, b .pre .2, c .if3 .left))),
+          has-space st (a .n) (a .m) (a .next) (a .copies) rows requests next (c .before .before .if1 .left) (c .before .if2 .left) (omega (arith, b .pre .2, c .if3 .left))),
       (λ z. (c .before .before .if1 .left, c .before .if2 .left, omega (arith, b .pre .2, c .if3 .left))),
     )
 

@@ -1,6 +1,5 @@
 -- `performing::words_of` meets its contract: an arm an answer.
 use borrow.Author.Needs.{needs}
-use mathlib.Core.Bool.{Bool, cond}
 use mathlib.Core.Path.{ap, sym, _∙_}
 use Rattle.calls.specs.declared.Answer.the-variants.{Told}
 use Rattle.test_exports.specs.contracts.Calls.{wordsOfAnswer}
