@@ -35,7 +35,7 @@ words-sound t p e =
     sound-open (stateOf t p) (and-r (sameList (wordsOf (stateOf t p)) t) (sound (stateOf t p)) (and-r (rightLengths t p) (sameList (wordsOf (stateOf t p)) t && sound (stateOf t p)) e))
 
 -- ---- the entry points by cases
-opening-fits : (t p text : List ℕ) → rightLengths t p ≡ true → openEntry t p text ≡ openedBy (openingOf (linesOf text))
+pub opening-fits : (t p text : List ℕ) → rightLengths t p ≡ true → openEntry t p text ≡ openedBy (openingOf (linesOf text))
 unfolding openEntry
 opening-fits t p text l = rw l refl
 

@@ -17,7 +17,7 @@ use Rattle.kept.proofs.Ask.{ask-kept}
 use Rattle.text.specs.Entry.{callOn}
 use Rattle.history.proofs.Allowed.{Allowed, line-has}
 
-effect-kept : (st : State) → Sound st → (c : Call) → Allowed st c → Sound (effect st c .after)
+pub effect-kept : (st : State) → Sound st → (c : Call) → Allowed st c → Sound (effect st c .after)
 unfolding Allowed effect done made
 effect-kept st s (Go p e) a = go-kept st s p e a
 effect-kept st s (Hold p e) a = hold-kept st s p e a

@@ -23,7 +23,7 @@ asked-sound st s p c is a =
     }
 
 -- the definition's tables are those of the closed form
-closed-form : (st : State) (p c : ℕ) (is : List Item) → withRequest st p c is ≡ askedState st p c is
+pub closed-form : (st : State) (p c : ℕ) (is : List Item) → withRequest st p c is ≡ askedState st p c is
 unfolding withRequest lent
 closed-form st p c is =
     let l : Lending = record { rows = st .rows; items = []; next = suc (st .next) } in

@@ -61,9 +61,9 @@ module _ (st : State) (s : Sound st) where
         port = eqb-true _ _ (and-l (eqb (r .object) (o .object)) (eqb (r .source) (o .source)) (and-r (isEnd (o .kind)) (eqb (r .object) (o .object) && eqb (r .source) (o .source)) p));
       }
 
-  pub close-request-kept : (q : ℕ) → some q ≡ true → Sound (closeRequest q st)
-  unfolding closeRequest bears member
-  close-request-kept q h = closing-kept (bears q) (q ∷ []) st s (record { pairs = pairs; bearing = bearing })
+  pub request-closable : (q : ℕ) → some q ≡ true → Closable (bears q) (q ∷ []) st
+  unfolding bears member
+  request-closable q h = record { pairs = pairs; bearing = bearing }
     where
       no-end : (n : ℕ) → Stands st n → isEnd (rowOf (st .rows) n .kind) ≡ true → bears q (rowOf (st .rows) n) ≡ false
       no-end n t k = let z : rowOf (st .rows) n .request ≡ 0 = end-at st s n t k .no-request in let p : 0 < q = some-pos q h in ne-eqb (rowOf (st .rows) n .request) q (λ e. omega arith)
@@ -74,21 +74,33 @@ module _ (st : State) (s : Sound st) where
       bearing : (n : ℕ) → Stands st n → member (rowOf (st .rows) n .request) (q ∷ []) ≡ true → bears q (rowOf (st .rows) n) ≡ true
       bearing n t m = ⊎-elim (eq-eqb (rowOf (st .rows) n .request) q) (λ u. clash u refl) (member-cases (rowOf (st .rows) n .request) q [] m)
 
-  pub close-port-kept : (c : ℕ) → Sound (closePort c st)
-  unfolding closePort isEndOf member
-  close-port-kept c = closing-kept (isEndOf c) [] st s (record { pairs = pairs; bearing = λ n t m. clash m refl })
+  pub port-closable : (c : ℕ) → Closable (isEndOf c) [] st
+  unfolding isEndOf member
+  port-closable c = record { pairs = pairs; bearing = λ n t m. clash m refl }
     where
       pairs : (n : ℕ) → Stands st n → isEnd (rowOf (st .rows) n .kind) ≡ true → isEndOf c (rowOf (st .rows) n) ≡ isEndOf c (rowOf (st .rows) (otherEnd (rowOf (st .rows) n)))
       pairs n t k =
           ap (λ b. b && eqb (rowOf (st .rows) n .object) c) (k ∙ sym (pair-at n t k .is-end))
           ∙ ap (λ m. isEnd (rowOf (st .rows) (otherEnd (rowOf (st .rows) n)) .kind) && eqb m c) (pair-at n t k .port)
 
-  pub drop-kept : (e : ℕ) → isEnd (rowOf (st .rows) e .kind) ≡ false → Sound (dropRow e st)
-  unfolding dropRow isRow member
-  drop-kept e h = closing-kept (isRow e) [] st s (record { pairs = pairs; bearing = λ n t m. clash m refl })
+  pub row-closable : (e : ℕ) → isEnd (rowOf (st .rows) e .kind) ≡ false → Closable (isRow e) [] st
+  unfolding isRow member
+  row-closable e h = record { pairs = pairs; bearing = λ n t m. clash m refl }
     where
       other : (n : ℕ) → Stands st n → isEnd (rowOf (st .rows) n .kind) ≡ true → isRow e (rowOf (st .rows) n) ≡ false
       other n t k = ne-eqb (rowOf (st .rows) n .number) e (λ z. clash (ap (λ m. isEnd (rowOf (st .rows) m .kind)) (sym z ∙ row-number (st .rows) n t) ∙ k) h)
 
       pairs : (n : ℕ) → Stands st n → isEnd (rowOf (st .rows) n .kind) ≡ true → isRow e (rowOf (st .rows) n) ≡ isRow e (rowOf (st .rows) (otherEnd (rowOf (st .rows) n)))
       pairs n t k = other n t k ∙ sym (other (otherEnd (rowOf (st .rows) n)) (pair-at n t k .stands) (pair-at n t k .is-end))
+
+  pub close-request-kept : (q : ℕ) → some q ≡ true → Sound (closeRequest q st)
+  unfolding closeRequest
+  close-request-kept q h = closing-kept (bears q) (q ∷ []) st s (request-closable q h)
+
+  pub close-port-kept : (c : ℕ) → Sound (closePort c st)
+  unfolding closePort
+  close-port-kept c = closing-kept (isEndOf c) [] st s (port-closable c)
+
+  pub drop-kept : (e : ℕ) → isEnd (rowOf (st .rows) e .kind) ≡ false → Sound (dropRow e st)
+  unfolding dropRow
+  drop-kept e h = closing-kept (isRow e) [] st s (row-closable e h)

@@ -28,7 +28,7 @@ use Rattle.closing.proofs.Facts.{copy-at}
 
 -- ---- what is settled depends on the test only at the requests of the tables
 module _ (f g : Request → Bool) where
-  oldest-agree : (e : ℕ) (vs : List Request) → Agree f g vs → oldestListing f e vs ≡ oldestListing g e vs
+  pub oldest-agree : (e : ℕ) (vs : List Request) → Agree f g vs → oldestListing f e vs ≡ oldestListing g e vs
   unfolding oldestListing
   oldest-agree e [] a = refl
   oldest-agree e (v ∷ vs) a =
@@ -36,7 +36,7 @@ module _ (f g : Request → Bool) where
       let w = oldest-agree e vs (a .1) i in
       if some (w .number) then w else (if a .0 i && lists e v then v else w)
 
-  returned-agree : (vs : List Request) → Agree f g vs → (r : Row) → returned f vs r ≡ returned g vs r
+  pub returned-agree : (vs : List Request) → Agree f g vs → (r : Row) → returned f vs r ≡ returned g vs r
   unfolding returned
   returned-agree vs a r =
       ap (λ (w : Request). if some (w .number) then withPlace (inClist (w .asker)) r else r) (oldest-agree (r .number) vs a)

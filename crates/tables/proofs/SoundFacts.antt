@@ -192,7 +192,7 @@ placed-none : (rs : List Row) (p : ℕ) → processPlaced rs p noProcess ≡ tru
 unfolding processPlaced noProcess
 placed-none rs p = refl
 
-placed-from : (rs : List Row) (xs : List Process) (k : ℕ) → placedFrom rs k xs ≡ true → (i q : ℕ) → q ≡ k + i → processPlaced rs q (getD xs i noProcess) ≡ true
+pub placed-from : (rs : List Row) (xs : List Process) (k : ℕ) → placedFrom rs k xs ≡ true → (i q : ℕ) → q ≡ k + i → processPlaced rs q (getD xs i noProcess) ≡ true
 unfolding placedFrom
 placed-from rs [] k t i q e = placed-none rs q
 placed-from rs (x ∷ xs) k t zero q e =

@@ -1,0 +1,13 @@
+-- The proofs of the security theorems. In reading order, a line a file:
+-- an accepted call had its effect; what an opening has and every accepted call keeps, every session has
+pub mod Sessions
+-- the states that sessions reach are those after any lines, by the entry points on words
+pub mod Entries
+-- calls that close: what is removed, and what closes with it
+pub mod Closings
+-- one row of sound tables: the five kinds; the request open on a port
+pub mod Rows
+-- the effects of accepted calls, of six kinds
+pub mod Effects
+-- what a call touches, by the kinds of effects
+pub mod Touches

@@ -1,0 +1,5 @@
+-- The security theorems, each a statement about every session. In reading order, a line a file:
+-- sessions: an accepted opening, then accepted calls; who fetched which request
+pub mod Sessions
+-- what a call does, row by row and request by request: what goes, what stays and where
+pub mod Changes

@@ -1,0 +1,1 @@
+// No function: the security theorems stand in specs/, their proofs in proofs/.
