@@ -40,15 +40,15 @@ use Rattle.history.proofs.StepClose.{revoke-inv}
 
 -- ---- the oldest of the requests that pass a test and list e
 module _ (f : Request → Bool) (e : ℕ) where
-  abbrev takes : Request → Bool
+  abbrev pub takes : Request → Bool
   takes v = f v && lists e v
 
-  record Oldest (vs : List Request) (w : Request) : Type 0 where
-    there : member (w .number) (map (λ v. v .number) vs) ≡ true
-    found : requestOf vs (w .number) ≡ w
-    passes : takes w ≡ true
+  pub record Oldest (vs : List Request) (w : Request) : Type 0 where
+    pub there : member (w .number) (map (λ v. v .number) vs) ≡ true
+    pub found : requestOf vs (w .number) ≡ w
+    pub passes : takes w ≡ true
 
-  oldest-is : (vs : List Request) → rises (λ v. v .number) vs ≡ true → some (oldestListing f e vs .number) ≡ true → Oldest vs (oldestListing f e vs)
+  pub oldest-is : (vs : List Request) → rises (λ v. v .number) vs ≡ true → some (oldestListing f e vs .number) ≡ true → Oldest vs (oldestListing f e vs)
   unfolding oldestListing
   oldest-is [] u z = clash z (unfold some noRequest in refl)
   oldest-is (v ∷ vs) u z = pick (some (oldestListing f e vs .number)) refl (oldest-is vs (rises-rest (λ v. v .number) v vs u)) (takes v) refl z
@@ -73,7 +73,7 @@ module _ (f : Request → Bool) (e : ℕ) where
           }
       pick false p ih false q z = clash z p
 
-  oldest-least : (vs : List Request) → rises (λ v. v .number) vs ≡ true → (n : ℕ) → member n (map (λ v. v .number) vs) ≡ true → takes (requestOf vs n) ≡ true
+  pub oldest-least : (vs : List Request) → rises (λ v. v .number) vs ≡ true → (n : ℕ) → member n (map (λ v. v .number) vs) ≡ true → takes (requestOf vs n) ≡ true
       → (some (oldestListing f e vs .number) ≡ true) × (oldestListing f e vs .number ≤ n)
   unfolding oldestListing requestOf firstWith member
   oldest-least [] u n t z = clash t refl

@@ -47,6 +47,7 @@ go-allowed st p e l w =
 -- ---- hold
 pub record HoldAllowed (st : State) (p s : ℕ) : Type 0 where
   pub caller : isListed (st .processes) p ≡ true
+  pub active : rowOf (st .rows) s .place ≡ inNode (processAt (st .processes) p .active)
   pub node : isNode (rowOf (st .rows) s .place) ≡ true
   pub there : member s (numbers (st .rows)) ≡ true
   pub right : mayHold (rowOf (st .rows) s .rights) ≡ true
@@ -59,9 +60,11 @@ pub hold-allowed : (st : State) → Sound st → (p s : ℕ) → isListed (st .p
 unfolding refusalsHold Passed inNode
 hold-allowed st sound p s l w =
     let r = rowOf (st .rows) s in
-    let n : isNode (r .place) ≡ true = ap isNode (eqb-true (r .place) (processAt (st .processes) p .active) (not-f _ (w .0))) ∙ active-node st (sound .placed) p l in
+    let here : r .place ≡ processAt (st .processes) p .active = eqb-true (r .place) (processAt (st .processes) p .active) (not-f _ (w .0)) in
+    let n : isNode (r .place) ≡ true = ap isNode here ∙ active-node st (sound .placed) p l in
     record {
       caller = l;
+      active = here;
       node = n;
       there = node-there (st .rows) s n;
       right = not-f (mayHold (r .rights)) (w .1 .0);

@@ -281,11 +281,11 @@ module _ (st : State) (s : Sound st) (p : ℕ) (v : Request) (found : requestOf 
   fetched-sound = record { numbers = numbers-fetched; rows = rows-fetched; loans = loans-fetched; holders = holders-fetched; placed = processes-fetched }
 
 -- the request open on a port is found by its number
-open-found : (vs : List Request) (c : ℕ) → rises (λ v. v .number) vs ≡ true → some (openOn vs c .number) ≡ true → requestOf vs (openOn vs c .number) ≡ openOn vs c
+pub open-found : (vs : List Request) (c : ℕ) → rises (λ v. v .number) vs ≡ true → some (openOn vs c .number) ≡ true → requestOf vs (openOn vs c .number) ≡ openOn vs c
 unfolding openOn requestOf
 open-found vs c r t = other-same (λ v. v .number) noRequest (λ v. v .port) (unfold noRequest in refl) vs r c t
 
-open-there : (vs : List Request) (c : ℕ) → some (openOn vs c .number) ≡ true → member (openOn vs c .number) (map (λ v. v .number) vs) ≡ true
+pub open-there : (vs : List Request) (c : ℕ) → some (openOn vs c .number) ≡ true → member (openOn vs c .number) (map (λ v. v .number) vs) ≡ true
 unfolding openOn
 open-there vs c t = other-there (λ v. v .number) noRequest (λ v. v .port) (unfold noRequest in refl) vs c t
 
@@ -294,7 +294,7 @@ pub asked-found : (st : State) → rises (λ v. v .number) (st .requests) ≡ tr
 unfolding askedOf
 asked-found st r e t = open-found (st .requests) (rowOf (st .rows) e .object) r t
 
-asked-there : (st : State) (e : ℕ) → some (askedOf st e .number) ≡ true → member (askedOf st e .number) (map (λ v. v .number) (st .requests)) ≡ true
+pub asked-there : (st : State) (e : ℕ) → some (askedOf st e .number) ≡ true → member (askedOf st e .number) (map (λ v. v .number) (st .requests)) ≡ true
 unfolding askedOf
 asked-there st e t = open-there (st .requests) (rowOf (st .rows) e .object) t
 

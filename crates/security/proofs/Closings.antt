@@ -32,8 +32,9 @@ use Rattle.calls.specs.declared.Call.the-variants.{Drop, Close}
 use Rattle.calls.specs.Calls.{inUse}
 use Rattle.kept.proofs.Closing.{request-closable, port-closable, row-closable}
 use Rattle.kept.proofs.Allowed.{DropAllowed}
+use Rattle.kept.proofs.Fetch.{open-there, open-found}
 use Rattle.security.specs.Sessions.{IsRow, IsOpen}
-use Rattle.security.proofs.Rows.{sources-cases, IsCopy, source-no-end, via-end, open-at, open-there, open-found, open-key, port-client, source-listed, request-low}
+use Rattle.security.proofs.Rows.{sources-cases, IsCopy, source-no-end, via-end, open-at, open-key, port-client, source-listed, request-low}
 use Rattle.security.specs.Changes.{closedBy, discards, falls, goes, shuts}
 
 -- the rows g are removed: just those that go; the requests that pass f close: just those that the call shuts
@@ -129,7 +130,7 @@ module _ (st : State) (s : Sound st) (p k : ℕ) (client : isClient (rowOf (st .
   same-port m t e = ap (λ x. openOn (st .requests) x .number) (sym e) ∙ ap (λ v. v .number) (open-at st s m t) ∙ request-number st m t
 
   open-port : some q ≡ true → (IsOpen st q) × (requestOf (st .requests) q .port ≡ k)
-  open-port h = (open-there (st .requests) k h, ap (λ v. v .port) (open-found (st .requests) k (s .numbers .requests-rise) h) ∙ open-key (st .requests) k h)
+  open-port h = (open-there (st .requests) k h, ap (λ v. v .port) (open-found (st .requests) k (unfold requestsRise in s .numbers .requests-rise) h) ∙ open-key (st .requests) k h)
 
   -- a copy that bears that request has the client end for its second source, so that it falls with it
   bearer-falls : some q ≡ true → (n : ℕ) → IsRow st n → bears q (R n) ≡ true → member n ends ≡ true

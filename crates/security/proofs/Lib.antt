@@ -11,3 +11,7 @@ pub mod Rows
 pub mod Effects
 -- what a call touches, by the kinds of effects
 pub mod Touches
+-- the rows that a call makes
+pub mod NewRows
+-- authority moves only by the rules
+pub mod Moves

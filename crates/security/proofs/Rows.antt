@@ -17,11 +17,13 @@ use Rattle.rows.specs.Tables.{State, noRequest, noProcess, rowOf, requestOf, op
 use Rattle.rows.specs.Sound.{isOpening, isRegistered, isHeld, isPortEnd, isLentCopy, requestsRise, onePerPort, portsStand, portStands, copyListed, mayBeListed, processPlaced, processesPlaced, sourceOf, viaOf}
 use Rattle.rows.proofs.Bools.{clash, false-of, and-l, and-r, or-cases, or-l, or-r, or-false, not-t, some-pos, pos-some, zero-none, eqb-sym, eqb-self, member-here, member-there}
 use Rattle.rows.proofs.Keyed.{first-key, first-there, all-first, rises-range}
-use Rattle.kept.proofs.Lists.{other-there, other-same}
+use Rattle.kept.proofs.Loans.{no-request-lists}
+use Rattle.calls.specs.Rules.{askedOf}
+use Rattle.kept.proofs.Fetch.{asked-found, asked-there}
 use Rattle.rows.proofs.Places.{copied-no-end, subdirectory-no-end, no-row-listed}
 use Rattle.rows.proofs.RowSources.{row-there, Shape, opening, registered, held, port-end, lent-copy, node-there, end-there, client-there, subdirectory-there}
 use Rattle.tables.proofs.Sound.{Sound}
-use Rattle.tables.proofs.SoundFacts.{row-number, in-node-copied, placed-from}
+use Rattle.tables.proofs.SoundFacts.{row-number, in-node-copied, placed-from, requests-between}
 use Rattle.closing.proofs.Facts.{listed-right}
 use Rattle.tables.proofs.Standing.{standing-shape}
 use Rattle.security.specs.Sessions.{IsRow, IsOpen}
@@ -203,14 +205,6 @@ module _ {A : Type 0} (key by : A → ℕ) (none : A) where
           (rw other same, or-r (eqb (by found) (by x)) (member (by found) (map by xs)) there)
 
 -- what a port has open is an open request, of that port
-pub open-there : (vs : List Request) (c : ℕ) → some (openOn vs c .number) ≡ true → member (openOn vs c .number) (map (λ v. v .number) vs) ≡ true
-unfolding openOn
-open-there vs c t = other-there (λ v. v .number) noRequest (λ v. v .port) (unfold noRequest in refl) vs c t
-
-pub open-found : (vs : List Request) (c : ℕ) → requestsRise vs ≡ true → some (openOn vs c .number) ≡ true → requestOf vs (openOn vs c .number) ≡ openOn vs c
-unfolding openOn requestOf requestsRise
-open-found vs c r t = other-same (λ v. v .number) noRequest (λ v. v .port) (unfold noRequest in refl) vs r c t
-
 pub open-key : (vs : List Request) (c : ℕ) → some (openOn vs c .number) ≡ true → openOn vs c .port ≡ c
 unfolding openOn noRequest
 open-key vs c t = first-key (λ v. v .port) noRequest vs c (first-there (λ v. v .port) noRequest (λ v. some (v .number)) (unfold some in refl) vs c t)
@@ -244,6 +238,30 @@ module _ (st : State) (s : Sound st) where
   -- what an open request lists is a row
   pub item-row : (q : ℕ) → IsOpen st q → (e : ℕ) → lists e (requestOf (st .requests) q) ≡ true → IsRow st e
   item-row q t e l = row-there (mayBeListed (requestOf (st .requests) q)) (no-row-listed (requestOf (st .requests) q)) (st .rows) e (listed-right st s q t e l)
+
+  -- an item is an end or bears a request's number
+  pub item-moves : (q : ℕ) → IsOpen st q → (n : ℕ) → lists n (requestOf (st .requests) q) ≡ true → (isEnd (rowOf (st .rows) n .kind) ≡ true) ⊎ (some (rowOf (st .rows) n .request) ≡ true)
+  unfolding mayBeListed
+  item-moves q t n l =
+      let r = rowOf (st .rows) n in
+      let v = requestOf (st .requests) q in
+      ⊎-elim (λ e. inl (and-l (isEnd (r .kind)) _ e)) (λ e. inr (and-l (some (r .request)) _ e))
+      (or-cases (isEnd (r .kind) && ltb (r .number) (v .number)) (some (r .request) && eqb (r .request) (v .number)) (listed-right st s q t n l))
+
+  -- what the server of a port sees listed, an open request lists
+  pub asked-open : (e n : ℕ) → lists n (askedOf st e) ≡ true → some (askedOf st e .number) ≡ true
+  unfolding askedOf openOn
+  asked-open e n l =
+      let c = rowOf (st .rows) e .object in
+      and-l (some (openOn (st .requests) c .number)) _
+      (all-first (λ v. v .port) noRequest (λ v. some (v .number) && ltb (v .number) (st .next)) (st .requests) c (requests-between st (s .numbers))
+      (first-there (λ v. v .port) noRequest (lists n) (no-request-lists n) (st .requests) c l))
+
+  pub asked-lists : (e n : ℕ) → lists n (askedOf st e) ≡ true → (IsOpen st (askedOf st e .number)) × (lists n (requestOf (st .requests) (askedOf st e .number)) ≡ true)
+  unfolding requestsRise
+  asked-lists e n l =
+      let h = asked-open e n l in
+      (asked-there st e h, ap (lists n) (asked-found st (s .numbers .requests-rise) e h) ∙ l)
 
 -- ---- c-lists and records
 pub clist-apart : (p q : ℕ) → inClist p ≡ inClist q → p ≡ q

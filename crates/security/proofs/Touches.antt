@@ -77,11 +77,11 @@ module _ (st : State) (c : Call) (x : Quiet st c) where
   quiet-request v = ap (λ is. withItems is (fetchedBy st c v)) (map-same (λ e. if leavesList st c v e then 0 else e) (λ e. rw (quiet-leaves v e) refl) (v .items))
 
 -- a quiet call that also fetches nothing, and leaves every place and record
-record Still (st : State) (c : Call) : Type 0 where
-  quiet : Quiet st c
-  unfetched : (v : Request) → fetchedBy st c v ≡ v
-  placed : (r : Row) → placeAfter st c r ≡ r .place
-  recorded : (p : ℕ) → recordAfter st c p ≡ processAt (st .processes) p
+pub record Still (st : State) (c : Call) : Type 0 where
+  pub quiet : Quiet st c
+  pub unfetched : (v : Request) → fetchedBy st c v ≡ v
+  pub placed : (r : Row) → placeAfter st c r ≡ r .place
+  pub recorded : (p : ℕ) → recordAfter st c p ≡ processAt (st .processes) p
 
 still-row : (st : State) (c : Call) → Still st c → (n : ℕ) → withPlace (placeAfter st c (rowOf (st .rows) n)) (rowOf (st .rows) n) ≡ rowOf (st .rows) n
 still-row st c x n = ap (λ p. withPlace p (rowOf (st .rows) n)) (x .placed (rowOf (st .rows) n)) ∙ place-own (rowOf (st .rows) n)
@@ -95,7 +95,7 @@ unfolding closedBy discards fetchedBy placeAfter recordAfter
 comes-still st e q = record { quiet = record { closes-none = refl; discards-none = λ r. refl }; unfetched = λ v. refl; placed = λ r. refl; recorded = λ p. refl }
 
 -- ---- new rows
-adds-still : (st : State) (c : Call) (rs : List Row) → Adds st c rs → Still st c
+pub adds-still : (st : State) (c : Call) (rs : List Row) → Adds st c rs → Still st c
 unfolding closedBy discards fetchedBy placeAfter recordAfter
 adds-still st c rs (holds p s a) = record { quiet = record { closes-none = refl; discards-none = λ r. refl }; unfetched = λ v. refl; placed = λ r. refl; recorded = λ p. refl }
 adds-still st c rs (registers p e a) = record { quiet = record { closes-none = refl; discards-none = λ r. refl }; unfetched = λ v. refl; placed = λ r. refl; recorded = λ p. refl }

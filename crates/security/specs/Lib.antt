@@ -3,3 +3,5 @@
 pub mod Sessions
 -- what a call does, row by row and request by request: what goes, what stays and where
 pub mod Changes
+-- authority moves only by the rules
+pub mod Authority

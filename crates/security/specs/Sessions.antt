@@ -4,7 +4,9 @@ use mathlib.Core.List.{List, [], _∷_, map}
 use mathlib.Core.Bool.{true}
 use mathlib.Core.Path.{_≡_}
 use Rattle.rows.specs.Lists.{if_then_else_, firstWith, member}
-use Rattle.rows.specs.Tables.{State, numbers}
+use Rattle.rows.specs.Codes.{inClist}
+use Rattle.rows.specs.Tables.{State, rowOf, numbers}
+use Rattle.rows.specs.Sound.{sound}
 use Rattle.rows.specs.Layout.{rightLengths}
 use Rattle.calls.specs.declared.Call.{Call}
 use Rattle.calls.specs.declared.Call.the-variants.{Go, Hold, Register, Drop, Port, Close, Ask, Fetch, Reply, Refuse, Revoke, Comes}
@@ -24,6 +26,10 @@ IsRow st n = member n (numbers (st .rows)) ≡ true
 
 abbrev pub IsOpen : State → ℕ → Type 0
 IsOpen st q = member q (map (λ v. v .number) (st .requests)) ≡ true
+
+-- row n is in the c-list of process p
+abbrev pub Has : State → ℕ → ℕ → Type 0
+Has st p n = rowOf (st .rows) n .place ≡ inClist p
 
 -- ---- a call that is accepted: a line asks for it, the answer is no refusal, and the line leaves st′
 pub record Step (st : State) (c : Call) (st′ : State) : Type 0 where
@@ -68,6 +74,13 @@ fetcherOf log q = firstWith (λ x. x .request) nobody log q .process
 pub data Session (fs : List Form) : Log → State → Type 0 where
   opened : (text : List ℕ) (rest : List (List ℕ)) → openingOf (linesOf text) ≡ opens fs rest → Session fs [] (stateOpened fs)
   called : (log : Log) (st st′ : State) (c : Call) → Session fs log st → Step st c st′ → Session fs (logged st c log) st′
+
+-- of every accepted call on sound tables; the tables of sessions are sound
+abbrev pub EveryStep : (State → Call → State → Type 0) → Type 0
+EveryStep P = (st st′ : State) (c : Call) → sound st ≡ true → Step st c st′ → P st c st′
+
+abbrev pub EverySession : (List Form → Log → State → Type 0) → Type 0
+EverySession P = (fs : List Form) (log : Log) (st : State) → Session fs log st → P fs log st
 
 -- ---- the log by the history: it notes of each accepted `(p fetch v)` the request answered, and reads no table
 unfoldable pub noteFetchCall : Call → ℕ → Log → Log
