@@ -47,7 +47,7 @@ module _ (h : History) (st : State) (i : Inv h st) where
       let top = i .rows-below in (lo, omega arith)
 
 -- ---- rows found
-server-other : (r : Row) → isServer (r .kind) ≡ true → otherEnd r ≡ pred (r .number)
+pub server-other : (r : Row) → isServer (r .kind) ≡ true → otherEnd r ≡ pred (r .number)
 unfolding otherEnd isServer isClient clientEnd serverEnd
 server-other r k = rw (eqb-true (r .kind) 4 k) refl
 

@@ -15,3 +15,9 @@ pub mod Touches
 pub mod NewRows
 -- authority moves only by the rules
 pub mod Moves
+-- these laws for an accepted call
+pub mod Steps
+-- rows of nodes stay; ports have both ends or none
+pub mod Nodes
+-- numbers are never given again
+pub mod Numbers

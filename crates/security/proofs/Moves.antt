@@ -240,7 +240,7 @@ module _ (st : State) (s : Sound st) where
   stays-or c st′ (shuts-off c′ g f x k) n t t′ r z = back-or c g f x k n t (left-not-gone g f st n t′) r z
 
   -- a row that was there and moves is an end, or a copy from the system
-  old-moves : (c : Call) (n : ℕ) (r : Row) → IsRow st n → Arrives st n r c
+  pub old-moves : (c : Call) (n : ℕ) (r : Row) → IsRow st n → Arrives st n r c
       → (isEnd (rowOf (st .rows) n .kind) ≡ true) ⊎ ((some (rowOf (st .rows) n .request) ≡ true) × (rowOf (st .rows) n .place ≡ withSystem))
   old-moves c n r t (held p e k) = let lt = row-below st (s .numbers) n t .1 in let z = k .number in absurd (omega arith)
   old-moves c n r t (registered p e k) = let lt = row-below st (s .numbers) n t .1 in let z = k .number in absurd (omega arith)

@@ -21,7 +21,7 @@ use Rattle.text.proofs.Opening.{opened-sound}
 use Rattle.text.proofs.Readings.{reading-good}
 use Rattle.history.proofs.Allowed.{Allowed, call-has}
 use Rattle.history.proofs.KeptCalls.{effect-kept}
-use Rattle.security.specs.Sessions.{Step, Log, logged, Session, opened, called}
+use Rattle.security.specs.Sessions.{Step, Log, logged, Session, opened, called, Later, now, after}
 
 -- ---- one accepted call
 pub record Taken (st : State) (c : Call) (o : Out) : Type 0 where
@@ -69,3 +69,15 @@ session-has P fs start step log st (called log′ st′ st″ c x k) =
     let s = session-sound fs log′ st′ x in
     let ih = session-has P fs start step log′ st′ x in
     step-has (P (logged st′ c log′)) st′ st c s (λ a. step log′ st′ c s a ih) k
+
+-- ---- further calls
+pub later-sound : (st st′ : State) → Sound st → Later st st′ → Sound st′
+later-sound st st′ s now = s
+later-sound st st′ s (after st₁ st₂ c x k) =
+    let s₁ = later-sound st st₁ s x in
+    step-has Sound st₁ st′ c s₁ (effect-kept st₁ s₁ c) k
+
+-- what holds now and is kept by every accepted call holds ever after
+pub later-has : (P : State → Type 0) → ((st st′ : State) (c : Call) → Sound st → Step st c st′ → P st → P st′) → (st st′ : State) → Sound st → Later st st′ → P st → P st′
+later-has P step st st′ s now p = p
+later-has P step st st′ s (after st₁ st₂ c x k) p = step st₁ st′ c (later-sound st st₁ s x) k (later-has P step st st₁ s x p)

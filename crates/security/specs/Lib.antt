@@ -5,3 +5,7 @@ pub mod Sessions
 pub mod Changes
 -- authority moves only by the rules
 pub mod Authority
+-- a number that is gone is never again given
+pub mod Numbers
+-- rows of nodes stay; ports have both ends or none
+pub mod Nodes

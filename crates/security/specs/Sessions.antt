@@ -75,6 +75,11 @@ pub data Session (fs : List Form) : Log → State → Type 0 where
   opened : (text : List ℕ) (rest : List (List ℕ)) → openingOf (linesOf text) ≡ opens fs rest → Session fs [] (stateOpened fs)
   called : (log : Log) (st st′ : State) (c : Call) → Session fs log st → Step st c st′ → Session fs (logged st c log) st′
 
+-- st′ is left by further accepted calls
+pub data Later (st : State) : State → Type 0 where
+  now : Later st st
+  after : (st′ st″ : State) (c : Call) → Later st st′ → Step st′ c st″ → Later st st″
+
 -- of every accepted call on sound tables; the tables of sessions are sound
 abbrev pub EveryStep : (State → Call → State → Type 0) → Type 0
 EveryStep P = (st st′ : State) (c : Call) → sound st ≡ true → Step st c st′ → P st c st′
