@@ -102,7 +102,7 @@ returned-keeps F h f vs r = pick (some (oldestListing f (r .number) vs .number))
     pick true = h _ r
     pick false = refl
 
-oldest-none : (f : Request → Bool) (e : ℕ) (vs : List Request) → listedIn f vs e ≡ false → oldestListing f e vs ≡ noRequest
+pub oldest-none : (f : Request → Bool) (e : ℕ) (vs : List Request) → listedIn f vs e ≡ false → oldestListing f e vs ≡ noRequest
 unfolding oldestListing listedIn any
 oldest-none f e [] h = refl
 oldest-none f e (v ∷ vs) h =
@@ -159,7 +159,7 @@ module _ (g : List ℕ) (f : Request → Bool) (st : State) where
   pub left-stood : (n : ℕ) → Stands (settled g f st) n → Stands st n
   left-stood n t = and-l (member n (numbers (st .rows))) (not (member n g)) (sym (left-keys n) ∙ t)
 
-  left-not-gone : (n : ℕ) → Stands (settled g f st) n → member n g ≡ false
+  pub left-not-gone : (n : ℕ) → Stands (settled g f st) n → member n g ≡ false
   left-not-gone n t = not-t (member n g) (and-r (member n (numbers (st .rows))) (not (member n g)) (sym (left-keys n) ∙ t))
 
   pub row-after : (n : ℕ) → member n g ≡ false → rowOf (settled g f st .rows) n ≡ returned f (st .requests) (rowOf (st .rows) n)

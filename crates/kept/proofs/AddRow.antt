@@ -45,7 +45,7 @@ module _ (b : ℕ) (rs : List Row) where
       let le : b ≤ r .number = leb-true b (r .number) (and-l (leb b (r .number)) (all (λ r. leb b (r .number)) new) a) in
       rw (ne-eqb (r .number) n (λ q. omega arith)) (row-before new (and-r (leb b (r .number)) (all (λ r. leb b (r .number)) new) a) n h)
 
-  number-before : (new : List Row) → all (λ r. leb b (r .number)) new ≡ true → (n : ℕ) → n < b → member n (numbers (new ++ rs)) ≡ member n (numbers rs)
+  pub number-before : (new : List Row) → all (λ r. leb b (r .number)) new ≡ true → (n : ℕ) → n < b → member n (numbers (new ++ rs)) ≡ member n (numbers rs)
   unfolding numbers member all
   number-before [] a n h = refl
   number-before (r ∷ new) a n h =

@@ -48,11 +48,11 @@ still-fetched q v e = pick (eqb (v .number) q)
     pick true = refl
     pick false = e
 
-now-fetched : (q : ℕ) (v : Request) → eqb (v .number) q ≡ true → isFetched (nowFetched q v) ≡ true
+pub now-fetched : (q : ℕ) (v : Request) → eqb (v .number) q ≡ true → isFetched (nowFetched q v) ≡ true
 unfolding nowFetched isFetched
 now-fetched q v e = rw e refl
 
-now-other : (q : ℕ) (v : Request) → eqb (v .number) q ≡ false → nowFetched q v ≡ v
+pub now-other : (q : ℕ) (v : Request) → eqb (v .number) q ≡ false → nowFetched q v ≡ v
 unfolding nowFetched
 now-other q v e = rw e refl
 

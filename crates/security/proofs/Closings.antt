@@ -24,7 +24,7 @@ use Rattle.tables.proofs.Sound.{Sound}
 use Rattle.tables.proofs.SoundFacts.{row-number, row-below, row-object, client-object}
 use Rattle.tables.proofs.Standing.{sources-older, via-listed}
 use Rattle.tables.proofs.Marking.{marked-stands, marked-reaches, marked-closed, marked-least, marked-seed, marked-source}
-use Rattle.closing.specs.Closing.{closes, oldestListing, isEndOf, isRow}
+use Rattle.closing.specs.Closing.{closes, isEndOf, isRow}
 use Rattle.closing.proofs.Facts.{end-at, copy-at, copy-listed, lists-open, request-number}
 use Rattle.closing.proofs.RemovedRows.{Closed, closable-closed}
 use Rattle.calls.specs.declared.Call.{Call}
@@ -56,12 +56,6 @@ any-eq-member e (n ∷ ns) t = rw (eqb-sym e n) (or-map (eqb n e) (any (λ x. eq
 pub drop-goes : (st : State) (p e n : ℕ) → goes st (Drop p e) n ≡ true → eqb (rowOf (st .rows) n .number) e ≡ true
 unfolding goes discards falls closedBy some
 drop-goes st p e n g = sym (or-false _) ∙ g
-
--- where nothing closes, nothing goes back
-pub oldest-none : (f : Request → Bool) → ((v : Request) → f v ≡ false) → (e : ℕ) (vs : List Request) → oldestListing f e vs ≡ noRequest
-unfolding oldestListing noRequest some
-oldest-none f h e [] = refl
-oldest-none f h e (v ∷ vs) = rw (h v, oldest-none f h e vs) refl
 
 module _ (st : State) (s : Sound st) (c : Call) where
   up : rowsRise (st .rows) ≡ true

@@ -12,12 +12,13 @@ use Rattle.rows.specs.declared.Process.{Process}
 use borrow.Author.Tests.{eqb-true, eq-eqb}
 use Rattle.rows.specs.Lists.{if_then_else_, any, member, some}
 use Rattle.rows.specs.Codes.{clientEnd, serverEnd, inNode, inClist}
-use Rattle.rows.specs.Tables.{State, noRequest, rowOf, processAt, sources}
-use Rattle.rows.proofs.Bools.{clash, false-of, or-fr}
+use Rattle.rows.specs.Tables.{State, noRequest, rowOf, processAt, sources, lists}
+use Rattle.rows.proofs.Bools.{clash, false-of, or-fr, any-none}
 use Rattle.tables.proofs.SoundFacts.{row-number}
 use Rattle.rows.specs.Setters.{inPrimeNode, wentThrough}
 use Rattle.tables.proofs.Sound.{Sound}
-use Rattle.closing.specs.Closing.{settled, closing, closeRequest, closePort, dropRow}
+use Rattle.closing.proofs.Lookups.{oldest-none}
+use Rattle.closing.specs.Closing.{listedIn, settled, closing, closeRequest, closePort, dropRow}
 use Rattle.calls.specs.declared.Items.{Items}
 use Rattle.calls.specs.declared.Call.{Call}
 use Rattle.calls.specs.declared.Call.the-variants.{Go, Hold, Register, Drop, Port, Close, Ask, Fetch, Reply, Refuse, Revoke, Comes}
@@ -28,9 +29,10 @@ use Rattle.kept.proofs.Allowed.{GoAllowed, HoldAllowed, RegisterAllowed, DropAl
 use Rattle.kept.proofs.Ask.{closed-form}
 use Rattle.kept.proofs.AskFacts.{askedState}
 use Rattle.history.proofs.Allowed.{Allowed}
+use Rattle.security.specs.Sessions.{Log, logged}
 use Rattle.security.specs.Changes.{closedBy, discards, goes, shuts, placeBack, placeAfter, fetchedBy, recordHomed, recordAfter, takes}
 use Rattle.security.proofs.Rows.{clist-apart, through-at}
-use Rattle.security.proofs.Closings.{Closes, drop-goes, oldest-none, request-closes, port-closes, row-closes}
+use Rattle.security.proofs.Closings.{Closes, drop-goes, request-closes, port-closes, row-closes}
 
 -- ---- the rows that a call adds
 abbrev pub heldRow : State → ℕ → ℕ → Row
@@ -64,6 +66,7 @@ pub record Plain (st : State) (c : Call) : Type 0 where
   pub homed : (p : ℕ) → recordAfter st c p ≡ recordHomed st c p
   pub unfetched : (v : Request) → fetchedBy st c v ≡ v
   pub unnumbered : takes st c ≡ 0
+  pub unlogged : (log : Log) → logged st c log ≡ log
 
 -- ---- the six kinds
 pub data Effect (st : State) : Call → State → Type 0 where
@@ -84,11 +87,11 @@ go-is st p e = pick (eqb e 0)
 
 -- nobody stands in a node through a row that is dropped
 drop-plain : (st : State) → Sound st → (p e : ℕ) → DropAllowed st p e → Plain st (Drop p e)
-unfolding placeAfter placeBack recordAfter recordHomed fetchedBy takes shuts closedBy some noRequest
-drop-plain st s p e a = record { placed = stays; homed = home; unfetched = λ v. refl; unnumbered = refl }
+unfolding placeAfter placeBack recordAfter recordHomed fetchedBy takes shuts closedBy some noRequest logged
+drop-plain st s p e a = record { placed = stays; homed = home; unfetched = λ v. refl; unnumbered = refl; unlogged = λ log. refl }
   where
     stays : (r : Row) → r .place ≡ placeBack st (Drop p e) r
-    stays r = ap (λ w. if some (w .number) then inClist (w .asker) else r .place) (sym (oldest-none (shuts st (Drop p e)) (λ v. refl) (r .number) (st .requests)))
+    stays r = ap (λ w. if some (w .number) then inClist (w .asker) else r .place) (sym (oldest-none (shuts st (Drop p e)) (r .number) (st .requests) (unfold listedIn in any-none (λ w. shuts st (Drop p e) w && lists (r .number) w) (λ w. refl) (st .requests))))
 
     home : (q : ℕ) → processAt (st .processes) q ≡ recordHomed st (Drop p e) q
     home q = pick (some (x .through)) refl
@@ -111,16 +114,16 @@ drop-plain st s p e a = record { placed = stays; homed = home; unfetched = λ v.
         pick false h = refl
 
 pub effect-of : (st : State) → Sound st → (c : Call) → Allowed st c → Effect st c (effect st c .after)
-unfolding Allowed effect done made withHeld withRegistered withPort closeRequest closePort dropRow closing closedBy discards placeAfter recordAfter fetchedBy takes
+unfolding Allowed effect done made withHeld withRegistered withPort closeRequest closePort dropRow closing closedBy discards placeAfter recordAfter fetchedBy takes logged
 effect-of st s (Go p e) a = subst (Effect st (Go p e)) (sym (go-is st p e)) (moves-to p e a)
 effect-of st s (Hold p e) a = adds (Hold p e) _ (suc (st .next)) (holds p e a) (omega arith)
 effect-of st s (Register p e) a = adds (Register p e) _ (suc (st .next)) (registers p e a) (omega arith)
 effect-of st s (Drop p e) a = shuts-off (Drop p e) _ _ (row-closes st s p e a) (drop-plain st s p e a)
 effect-of st s (Port p e) a = adds (Port p e) _ (suc (suc (st .next))) (makes p e a) (omega arith)
-effect-of st s (Close p c) a = shuts-off (Close p c) _ _ (port-closes st s p c (a .client)) (record { placed = λ r. refl; homed = λ p. refl; unfetched = λ v. refl; unnumbered = refl })
+effect-of st s (Close p c) a = shuts-off (Close p c) _ _ (port-closes st s p c (a .client)) (record { placed = λ r. refl; homed = λ p. refl; unfetched = λ v. refl; unnumbered = refl; unlogged = λ log. refl })
 effect-of st s (Ask p c is) a = subst (Effect st (Ask p c is)) (sym (closed-form st p c (itemsOf is))) (asks p c is a)
 effect-of st s (Fetch p e) a = fetches p e a
-effect-of st s (Reply p e) a = shuts-off (Reply p e) _ _ (request-closes st s (Reply p e) (askedOf st e .number) (a .serves .asked) refl (λ r. refl)) (record { placed = λ r. refl; homed = λ p. refl; unfetched = λ v. refl; unnumbered = refl })
-effect-of st s (Refuse p e) a = shuts-off (Refuse p e) _ _ (request-closes st s (Refuse p e) (askedOf st e .number) (a .asked) refl (λ r. refl)) (record { placed = λ r. refl; homed = λ p. refl; unfetched = λ v. refl; unnumbered = refl })
-effect-of st s (Revoke p q) a = shuts-off (Revoke p q) _ _ (request-closes st s (Revoke p q) q (a .number) refl (λ r. refl)) (record { placed = λ r. refl; homed = λ p. refl; unfetched = λ v. refl; unnumbered = refl })
+effect-of st s (Reply p e) a = shuts-off (Reply p e) _ _ (request-closes st s (Reply p e) (askedOf st e .number) (a .serves .asked) refl (λ r. refl)) (record { placed = λ r. refl; homed = λ p. refl; unfetched = λ v. refl; unnumbered = refl; unlogged = λ log. refl })
+effect-of st s (Refuse p e) a = shuts-off (Refuse p e) _ _ (request-closes st s (Refuse p e) (askedOf st e .number) (a .asked) refl (λ r. refl)) (record { placed = λ r. refl; homed = λ p. refl; unfetched = λ v. refl; unnumbered = refl; unlogged = λ log. refl })
+effect-of st s (Revoke p q) a = shuts-off (Revoke p q) _ _ (request-closes st s (Revoke p q) q (a .number) refl (λ r. refl)) (record { placed = λ r. refl; homed = λ p. refl; unfetched = λ v. refl; unnumbered = refl; unlogged = λ log. refl })
 effect-of st s (Comes e q) a = tells e q

@@ -21,3 +21,11 @@ pub mod Steps
 pub mod Nodes
 -- numbers are never given again
 pub mod Numbers
+-- where everything is: by the requests that list a row; then of every session
+pub mod Listers
+-- the tables that an opening leaves
+pub mod Opened
+-- what a call leaves of one row
+pub mod Frames
+-- where everything is, at all times
+pub mod Places

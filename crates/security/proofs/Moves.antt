@@ -19,8 +19,8 @@ use Rattle.rows.proofs.Keyed.{all-first}
 use Rattle.tables.proofs.Sound.{Sound}
 use Rattle.tables.proofs.SoundFacts.{row-number, row-below, eq-same}
 use Rattle.tables.proofs.Awaits.{listers-fetched}
-use Rattle.closing.specs.Closing.{oldestListing, listedIn, settled}
-use Rattle.closing.proofs.Lookups.{left-keys}
+use Rattle.closing.specs.Closing.{oldestListing, listedIn}
+use Rattle.closing.proofs.Lookups.{left-not-gone}
 use Rattle.calls.specs.declared.Item.{Item}
 use Rattle.calls.specs.declared.Items.{Items}
 use Rattle.calls.specs.declared.Call.{Call}
@@ -49,7 +49,7 @@ within-self r =
     and-i _ _ (le-leb (r % 2) (r % 2) (omega arith)) (and-i _ _ (le-leb (r / 2 % 2) (r / 2 % 2) (omega arith)) (le-leb (r / 4 % 2) (r / 4 % 2) (omega arith)))
 
 -- what is with the caller is in its c-list
-held-by : (st : State) (p e : ℕ) → notHeld st p e ≡ false → Has st p e
+pub held-by : (st : State) (p e : ℕ) → notHeld st p e ≡ false → Has st p e
 unfolding notHeld
 held-by st p e h = eqb-true (rowOf (st .rows) e .place) (inClist p) (not-f _ h)
 
@@ -137,9 +137,6 @@ named-held st p (i ∷ is) a n t =
     ⊎-elim (λ e. subst (Has st p) (eqb-true (i .row) n e) (held-by st p (i .row) (not-t (notHeld st p (i .row)) (and-l (not (notHeld st p (i .row))) _ a))))
     (named-held st p is (and-r (not (notHeld st p (i .row))) (all (λ i. not (notHeld st p (i .row))) is) a) n)
     (or-cases (eqb (i .row) n) (any (λ i. eqb (i .row) n) is) t)
-
-left-not-gone : (g : List ℕ) (f : Request → Bool) (st : State) (n : ℕ) → IsRow (settled g f st) n → member n g ≡ false
-left-not-gone g f st n t = not-t (member n g) (and-r (member n (numbers (st .rows))) (not (member n g)) (sym (left-keys g f st n) ∙ t))
 
 module _ (st : State) (s : Sound st) where
   -- what a request lists that is not fetched lies with the system

@@ -36,12 +36,13 @@ use Rattle.calls.specs.Rules.{askedOf, withNewRows, copyOf, withRecord}
 use Rattle.calls.specs.Loans.{itemsOf, itemRow, moves, copies, newRequest, handedTo, nowFetched, handedOver}
 use Rattle.calls.specs.Calls.{portEnd}
 use Rattle.kept.proofs.Allowed.{GoAllowed, AskAllowed, FetchAllowed}
+use Rattle.kept.proofs.AddRow.{row-before, number-before}
 use Rattle.kept.proofs.AskItems.{isItem}
 use Rattle.kept.proofs.AskFacts.{askedState, old-found, old-number}
 use Rattle.kept.proofs.Loans.{now-number, request-now}
 use Rattle.kept.proofs.Moved.{moved, moved-number}
 use Rattle.kept.proofs.Steps.{oldest-agree}
-use Rattle.security.specs.Sessions.{IsRow, IsOpen}
+use Rattle.security.specs.Sessions.{IsRow, IsOpen, Log, logged}
 use Rattle.security.specs.Changes.{closedBy, discards, falls, goes, shuts, placeBack, placeAfter, leavesList, fetchedBy, requestAfter, recordHomed, recordAfter, takes, Touches}
 use Rattle.security.proofs.Rows.{through-at, item-row}
 use Rattle.security.proofs.Closings.{Closes}
@@ -82,6 +83,7 @@ pub record Still (st : State) (c : Call) : Type 0 where
   pub unfetched : (v : Request) → fetchedBy st c v ≡ v
   pub placed : (r : Row) → placeAfter st c r ≡ r .place
   pub recorded : (p : ℕ) → recordAfter st c p ≡ processAt (st .processes) p
+  pub unlogged : (log : Log) → logged st c log ≡ log
 
 still-row : (st : State) (c : Call) → Still st c → (n : ℕ) → withPlace (placeAfter st c (rowOf (st .rows) n)) (rowOf (st .rows) n) ≡ rowOf (st .rows) n
 still-row st c x n = ap (λ p. withPlace p (rowOf (st .rows) n)) (x .placed (rowOf (st .rows) n)) ∙ place-own (rowOf (st .rows) n)
@@ -91,15 +93,15 @@ still-request st c x h v = quiet-request st c x v ∙ ap (withItems (v .items)) 
 
 -- ---- nothing
 comes-still : (st : State) (e q : ℕ) → Still st (Comes e q)
-unfolding closedBy discards fetchedBy placeAfter recordAfter
-comes-still st e q = record { quiet = record { closes-none = refl; discards-none = λ r. refl }; unfetched = λ v. refl; placed = λ r. refl; recorded = λ p. refl }
+unfolding closedBy discards fetchedBy placeAfter recordAfter logged
+comes-still st e q = record { quiet = record { closes-none = refl; discards-none = λ r. refl }; unfetched = λ v. refl; placed = λ r. refl; recorded = λ p. refl; unlogged = λ log. refl }
 
 -- ---- new rows
 pub adds-still : (st : State) (c : Call) (rs : List Row) → Adds st c rs → Still st c
-unfolding closedBy discards fetchedBy placeAfter recordAfter
-adds-still st c rs (holds p s a) = record { quiet = record { closes-none = refl; discards-none = λ r. refl }; unfetched = λ v. refl; placed = λ r. refl; recorded = λ p. refl }
-adds-still st c rs (registers p e a) = record { quiet = record { closes-none = refl; discards-none = λ r. refl }; unfetched = λ v. refl; placed = λ r. refl; recorded = λ p. refl }
-adds-still st c rs (makes p e a) = record { quiet = record { closes-none = refl; discards-none = λ r. refl }; unfetched = λ v. refl; placed = λ r. refl; recorded = λ p. refl }
+unfolding closedBy discards fetchedBy placeAfter recordAfter logged
+adds-still st c rs (holds p s a) = record { quiet = record { closes-none = refl; discards-none = λ r. refl }; unfetched = λ v. refl; placed = λ r. refl; recorded = λ p. refl; unlogged = λ log. refl }
+adds-still st c rs (registers p e a) = record { quiet = record { closes-none = refl; discards-none = λ r. refl }; unfetched = λ v. refl; placed = λ r. refl; recorded = λ p. refl; unlogged = λ log. refl }
+adds-still st c rs (makes p e a) = record { quiet = record { closes-none = refl; discards-none = λ r. refl }; unfetched = λ v. refl; placed = λ r. refl; recorded = λ p. refl; unlogged = λ log. refl }
 
 adds-takes : (st : State) (c : Call) (rs : List Row) → Adds st c rs → length rs ≡ takes st c
 unfolding takes
@@ -113,16 +115,6 @@ unfolding all copyOf portEnd
 adds-fresh st c rs (holds p s a) = rw (le-leb (st .next) (st .next) (omega arith)) refl
 adds-fresh st c rs (registers p e a) = rw (le-leb (st .next) (st .next) (omega arith)) refl
 adds-fresh st c rs (makes p e a) = rw (le-leb (st .next) (suc (st .next)) (omega arith), le-leb (st .next) (st .next) (omega arith)) refl
-
--- rows in front with higher numbers
-module _ (k : ℕ) (rs : List Row) where
-  pub found-under : (new : List Row) → all (λ r. leb k (r .number)) new ≡ true → (n : ℕ) → n < k → (rowOf (new ++ rs) n ≡ rowOf rs n) × (member n (numbers (new ++ rs)) ≡ member n (numbers rs))
-  unfolding all rowOf firstWith numbers member
-  found-under [] e n h = (refl, refl)
-  found-under (r ∷ new) e n h =
-      let ih = found-under new (and-r (leb k (r .number)) (all (λ r. leb k (r .number)) new) e) n h in
-      let le = leb-true k (r .number) (and-l (leb k (r .number)) (all (λ r. leb k (r .number)) new) e) in
-      (rw (ne-eqb (r .number) n (λ z. omega arith)) (ih .0), rw (ne-eqb n (r .number) (λ z. omega arith)) (ih .1))
 
 -- ---- a record replaced
 at-set : (xs : List Process) (i : ℕ) (x : Process) → i < length xs → (j : ℕ) → getD (set xs i x) j noProcess ≡ (if eqb j i then x else getD xs j noProcess)
@@ -249,21 +241,21 @@ module _ (st : State) (s : Sound st) where
   unfolding withNewRows
   adds-touches c rs k a z =
       let x = adds-still st c rs a in
-      let under = found-under (st .next) (st .rows) rs (adds-fresh st c rs a) in
+      let fresh = adds-fresh st c rs a in
       record {
-        rows = λ n t. under n (row-below st (s .numbers) n t .1) .1 ∙ t ∙ sym (ap not (quiet-goes st c (x .quiet) n));
-        rows-kept = λ n t g. under n (row-below st (s .numbers) n t .1) .0 ∙ sym (still-row st c x n);
+        rows = λ n t. number-before (st .next) (st .rows) rs fresh n (row-below st (s .numbers) n t .1) ∙ t ∙ sym (ap not (quiet-goes st c (x .quiet) n));
+        rows-kept = λ n t g. row-before (st .next) (st .rows) rs fresh n (row-below st (s .numbers) n t .1) ∙ sym (still-row st c x n);
         requests = λ q t. t ∙ sym (ap not (quiet-shuts st c (x .quiet) (requestOf (st .requests) q)));
         requests-kept = λ q t g. sym (still-request st c (x .quiet) (x .unfetched) (requestOf (st .requests) q));
         records = λ q. sym (x .recorded q);
         next = z ∙ ap (λ l. st .next + l) (adds-takes st c rs a);
-        new-rows = λ n t u. new-above (st .next) n _ _ (λ lt. under n lt .1) t u;
+        new-rows = λ n t u. new-above (st .next) n _ _ (λ lt. number-before (st .next) (st .rows) rs fresh n lt) t u;
         new-requests = λ q t u. absurd (u t);
       }
 
   -- ---- ask
   -- an end is among the items just if an item names it
-  item-is : (is : List Item) (n : ℕ) → isItem st is n ≡ isEnd (rowOf (st .rows) n .kind) && any (λ i. eqb (i .row) n) is
+  pub item-is : (is : List Item) (n : ℕ) → isItem st is n ≡ isEnd (rowOf (st .rows) n .kind) && any (λ i. eqb (i .row) n) is
   unfolding isItem any moves itemRow
   item-is [] n = sym (and-false (isEnd (rowOf (st .rows) n .kind)))
   item-is (i ∷ is) n = pick (item-is is n) (eqb (i .row) n) refl

@@ -9,3 +9,5 @@ pub mod Authority
 pub mod Numbers
 -- rows of nodes stay; ports have both ends or none
 pub mod Nodes
+-- where everything is, at all times
+pub mod Places
