@@ -29,3 +29,4 @@ pub mod Opened
 pub mod Frames
 -- where everything is, at all times
 pub mod Places
+pub mod PlacesKept

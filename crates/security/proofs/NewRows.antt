@@ -57,7 +57,7 @@ second-row : (r r′ : Row) (rs : List Row) → (r .number ≡ r′ .number → 
 unfolding rowOf firstWith
 second-row r r′ rs h = rw (ne-eqb (r .number) (r′ .number) h, eqb-self (r′ .number)) refl
 
-adds-new : (st : State) (c : Call) (rs : List Row) → Adds st c rs → (n : ℕ) → member n (numbers (rs ++ st .rows)) ≡ true → (IsRow st n → ⊥) → Newly st c n (rowOf (rs ++ st .rows) n)
+pub adds-new : (st : State) (c : Call) (rs : List Row) → Adds st c rs → (n : ℕ) → member n (numbers (rs ++ st .rows)) ≡ true → (IsRow st n → ⊥) → Newly st c n (rowOf (rs ++ st .rows) n)
 unfolding numbers copyOf portEnd
 adds-new st c rs (holds p s a) n t u = pick (member-cases n (st .next) _ t)
   where
@@ -128,7 +128,7 @@ lent-number : (st : State) (is : List Item) (n : ℕ) → member n (numbers (len
 unfolding numbers
 lent-number st is n = ap (member n) (keys-map (λ r. r .number) (moved (isItem st is) withSystem) (moved-number (isItem st is) withSystem) (st .rows))
 
-asks-new : (st : State) (s : Sound st) (p c : ℕ) (is : Items) (a : AskAllowed st p c (itemsOf is)) (n : ℕ) → member n (numbers (askedRows st c (itemsOf is))) ≡ true → (IsRow st n → ⊥)
+pub asks-new : (st : State) (s : Sound st) (p c : ℕ) (is : Items) (a : AskAllowed st p c (itemsOf is)) (n : ℕ) → member n (numbers (askedRows st c (itemsOf is))) ≡ true → (IsRow st n → ⊥)
     → Newly st (Ask p c is) n (rowOf (askedRows st c (itemsOf is)) n)
 unfolding copies named
 asks-new st s p c is a n t u = pick (stacked-new st c (st .next) good (copies st (itemsOf is)) all-good (suc (st .next)) (lentRows st (itemsOf is)) n t)
@@ -148,7 +148,7 @@ asks-new st s p c is a n t u = pick (stacked-new st c (st .next) good (copies st
         subst (Newly st (Ask p c is) n) (sym (k .is))
         (copied p c is a n (k .item) (and-r (lendable st p c (k .item)) _ (k .is-good)) (and-l (lendable st p c (k .item)) _ (k .is-good)) (let l = k .above in omega arith))
 
-fetched-rows : (st : State) (p e n : ℕ) → IsRow (handedOver p (askedOf st e) st) n → IsRow st n
+pub fetched-rows : (st : State) (p e n : ℕ) → IsRow (handedOver p (askedOf st e) st) n → IsRow st n
 unfolding handedOver handedTo numbers
 fetched-rows st p e n t =
     sym (ap (member n) (keys-map (λ r. r .number) (λ r. cond (lists (r .number) (askedOf st e)) (withPlace (inClist p) r) r) (unfold moved in moved-number (λ m. lists m (askedOf st e)) (inClist p)) (st .rows))) ∙ t

@@ -25,7 +25,7 @@ use Rattle.history.proofs.TwoEnds.{two-ends}
 use Rattle.security.specs.Sessions.{IsRow, Step, Later, EverySession}
 use Rattle.security.specs.Nodes.{NodesStay, EndsTogether}
 use Rattle.security.proofs.Sessions.{session-sound, later-has}
-use Rattle.security.proofs.Rows.{Sort, text, registered-row, held-row, end-row, copy, sort-of, node-no-end}
+use Rattle.security.proofs.Rows.{filter-none, Sort, text-row, registered-row, held-row, end-row, copy, sort-of, node-no-end}
 use Rattle.security.proofs.Moves.{old-moves}
 use Rattle.security.proofs.Steps.{step-moves}
 
@@ -35,7 +35,7 @@ pub node-unborne : (st : State) → Sound st → (n : ℕ) → isNode (rowOf (st
 node-unborne st s n e = pick (sort-of st s n (node-there (st .rows) n e))
   where
     pick : Sort (st .requests) (rowOf (st .rows) n) (rowOf (st .rows) (rowOf (st .rows) n .source)) (rowOf (st .rows) (rowOf (st .rows) n .via)) → rowOf (st .rows) n .request ≡ 0
-    pick (text x) = x .request
+    pick (text-row x) = x .request
     pick (registered-row x) = x .request
     pick (held-row x) = x .request
     pick (end-row x) = x .request
@@ -66,11 +66,6 @@ nodes-stay fs log st x st′ l n e = later-has P step st st′ (session-sound fs
         (node-there-after a b c s k n e′, node-same a b c s k n e′ ∙ q)
 
 -- ---- ports
-filter-none : (f : Row → Bool) (rs : List Row) → all (λ r. not (f r)) rs ≡ true → filter f rs ≡ []
-unfolding filter all
-filter-none f [] e = refl
-filter-none f (r ∷ rs) e = rw (not-t (f r) (and-l (not (f r)) _ e)) (filter-none f rs (and-r (not (f r)) _ e))
-
 module _ (st : State) (s : Sound st) (c : ℕ) where
   abbrev R : ℕ → Row
   R n = rowOf (st .rows) n

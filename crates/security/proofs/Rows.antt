@@ -28,6 +28,11 @@ use Rattle.closing.proofs.Facts.{listed-right}
 use Rattle.tables.proofs.Standing.{standing-shape}
 use Rattle.security.specs.Sessions.{IsRow, IsOpen}
 
+pub filter-none : {A : Type 0} (f : A → Bool) (xs : List A) → all (λ x. not (f x)) xs ≡ true → filter f xs ≡ []
+unfolding filter all
+filter-none f [] e = refl
+filter-none f (x ∷ xs) e = rw (not-t (f x) (and-l (not (f x)) _ e)) (filter-none f xs (and-r (not (f x)) _ e))
+
 -- ---- the sources of a row
 pub sources-cases : (P : ℕ → Bool) (r : Row) → any P (sources r) ≡ true
     → ((some (r .source) ≡ true) × (P (r .source) ≡ true)) ⊎ ((some (r .via) ≡ true) × (P (r .via) ≡ true))
@@ -85,7 +90,7 @@ pub record IsCopy (vs : List Request) (r s v : Row) : Type 0 where
   pub port : requestOf vs (r .request) .port ≡ r .via
 
 pub data Sort (vs : List Request) (r s v : Row) : Type 0 where
-  text : IsText r → Sort vs r s v
+  text-row : IsText r → Sort vs r s v
   registered-row : IsRegistered r s → Sort vs r s v
   held-row : IsHeld r s v → Sort vs r s v
   end-row : IsPortEnd r s → Sort vs r s v
@@ -94,7 +99,7 @@ pub data Sort (vs : List Request) (r s v : Row) : Type 0 where
 sort : (vs : List Request) (r s v : Row) → Shape vs r s v → Sort vs r s v
 unfolding isOpening isRegistered isHeld isPortEnd isLentCopy
 sort vs r s v (opening h) =
-    text (record {
+    text-row (record {
       node = search and-l;
       copied = search (and-l, and-r);
       source = eqb-true (r .source) 0 (search (and-l, and-r));
@@ -157,7 +162,7 @@ module _ (st : State) (s : Sound st) where
   source-no-end n t h = pick (sort-of n t)
     where
       pick : Sort (st .requests) (R n) (R (R n .source)) (R (R n .via)) → isEnd (R (R n .source) .kind) ≡ false
-      pick (text x) = let z = x .source in let l = some-pos (R n .source) h in absurd (omega arith)
+      pick (text-row x) = let z = x .source in let l = some-pos (R n .source) h in absurd (omega arith)
       pick (registered-row x) = node-no-end (R n .source) (x .source)
       pick (held-row x) = node-no-end (R n .source) (x .source)
       pick (end-row x) = operation-no-end (R (R n .source) .kind) (x .source)
@@ -171,7 +176,7 @@ module _ (st : State) (s : Sound st) where
       none z = let l = some-pos (R n .via) h in omega arith
 
       pick : Sort (st .requests) (R n) (R (R n .source)) (R (R n .via)) → IsCopy (st .requests) (R n) (R (R n .source)) (R (R n .via))
-      pick (text x) = absurd (none (x .via))
+      pick (text-row x) = absurd (none (x .via))
       pick (registered-row x) = absurd (none (x .via))
       pick (held-row x) = ⊎-elim (λ z. absurd (none z)) (λ d. clash k (subdirectory-no-end (R (R n .via) .kind) d)) (x .via)
       pick (end-row x) = absurd (none (x .via))
@@ -246,6 +251,16 @@ module _ (st : State) (s : Sound st) where
       let r = rowOf (st .rows) n in
       let v = requestOf (st .requests) q in
       ⊎-elim (λ e. inl (and-l (isEnd (r .kind)) _ e)) (λ e. inr (and-l (some (r .request)) _ e))
+      (or-cases (isEnd (r .kind) && ltb (r .number) (v .number)) (some (r .request) && eqb (r .request) (v .number)) (listed-right st s q t n l))
+
+  -- an item that is no end bears the request's number
+  pub borne-by : (q : ℕ) → IsOpen st q → (n : ℕ) → lists n (requestOf (st .requests) q) ≡ true → isEnd (rowOf (st .rows) n .kind) ≡ false
+      → eqb (requestOf (st .requests) q .number) (rowOf (st .rows) n .request) ≡ true
+  unfolding mayBeListed
+  borne-by q t n l e =
+      let r = rowOf (st .rows) n in
+      let v = requestOf (st .requests) q in
+      ⊎-elim (λ k. clash (and-l (isEnd (r .kind)) _ k) e) (λ k. eqb-sym (v .number) (r .request) ∙ and-r (some (r .request)) _ k)
       (or-cases (isEnd (r .kind) && ltb (r .number) (v .number)) (some (r .request) && eqb (r .request) (v .number)) (listed-right st s q t n l))
 
   -- what the server of a port sees listed, an open request lists
