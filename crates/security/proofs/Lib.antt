@@ -30,3 +30,14 @@ pub mod Frames
 -- where everything is, at all times
 pub mod Places
 pub mod PlacesKept
+-- laws of every row of a session: what hangs on a loan; rights, roots, copies, held rows
+pub mod RowLaws
+pub mod Borne
+pub mod Derived
+-- rights never grow
+pub mod Rights
+-- what a borrower has
+pub mod Borrowers
+-- revocation is never blocked; room comes back
+pub mod Revocation
+pub mod Room

@@ -43,7 +43,7 @@ use Rattle.security.proofs.Effects.{Adds, Effect, tells, moves-to, adds
 use Rattle.security.proofs.Touches.{place-own, any-agree, adds-still, touches}
 use Rattle.security.proofs.NewRows.{Newly, held as newly-held, registered as newly-registered, client as newly-client, server as newly-server, copied as newly-copied, new-row}
 
-within-self : (r : ℕ) → within r r ≡ true
+pub within-self : (r : ℕ) → within r r ≡ true
 unfolding within
 within-self r =
     and-i _ _ (le-leb (r % 2) (r % 2) (omega arith)) (and-i _ _ (le-leb (r / 2 % 2) (r / 2 % 2) (omega arith)) (le-leb (r / 4 % 2) (r / 4 % 2) (omega arith)))
@@ -55,7 +55,7 @@ held-by st p e h = eqb-true (rowOf (st .rows) e .place) (inClist p) (not-f _ h)
 
 -- ---- new rows
 module _ (st : State) (p c : ℕ) (i : Item) (g : lendable st p c i ≡ true) where
-  item-held : Has st p (i .row)
+  pub item-held : Has st p (i .row)
   unfolding lendable
   item-held = held-by st p (i .row) (not-t (notHeld st p (i .row)) (search (and-l, and-r)))
 
@@ -120,7 +120,7 @@ newly-arrives st c n r (newly-copied p k is a n′ i m g l) =
 
 -- ---- rows that were there
 -- what is found with a test passes it: one that is there does
-any-found : {A : Type 0} (key : A → ℕ) (none : A) (P : A → Bool) (xs : List A) (n : ℕ) → member n (map key xs) ≡ true → P (firstWith key none xs n) ≡ true → any P xs ≡ true
+pub any-found : {A : Type 0} (key : A → ℕ) (none : A) (P : A → Bool) (xs : List A) (n : ℕ) → member n (map key xs) ≡ true → P (firstWith key none xs n) ≡ true → any P xs ≡ true
 unfolding firstWith member any
 any-found key none P [] n t e = t
 any-found key none P (x ∷ xs) n t e = pick (any-found key none P xs n) (eqb (key x) n) refl t e

@@ -41,7 +41,7 @@ use Rattle.security.proofs.Touches.{touches}
 use Rattle.security.proofs.Steps.{step-effect, step-sound, step-touches}
 
 -- ---- what stands anywhere in sound tables is a row or an open request
-member-any : (n : ℕ) (ns : List ℕ) → member n ns ≡ any (λ m. eqb n m) ns
+pub member-any : (n : ℕ) (ns : List ℕ) → member n ns ≡ any (λ m. eqb n m) ns
 unfolding member any
 member-any n [] = refl
 member-any n (m ∷ ns) = ap (λ b. eqb n m || b) (member-any n ns)

@@ -156,7 +156,7 @@ module _ (st : State) (s : Sound st) (log : Log) (home n : ℕ) (t : IsRow st n)
             }
 
 -- ---- by the kind of effect
-kind-kept : (st st′ : State) (c : Call) (s : Sound st) → Effect st c st′ → (n : ℕ) → IsRow st n → IsRow st′ n → rowOf (st′ .rows) n .kind ≡ rowOf (st .rows) n .kind
+pub kind-kept : (st st′ : State) (c : Call) (s : Sound st) → Effect st c st′ → (n : ℕ) → IsRow st n → IsRow st′ n → rowOf (st′ .rows) n .kind ≡ rowOf (st .rows) n .kind
 unfolding withPlace
 kind-kept st st′ c s x n t t′ = same-but-place st st′ c s x n t t′ (λ r. r .kind) (λ p r. refl)
 

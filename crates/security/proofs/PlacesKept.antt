@@ -41,7 +41,7 @@ use Rattle.text.specs.Entry.{stateOpened}
 use Rattle.history.proofs.KeptCalls.{effect-kept}
 use Rattle.security.specs.Sessions.{IsRow, IsOpen, Log, logged, fetcherOf, Session}
 use Rattle.security.specs.Places.{homeOf, listers, whereabouts, Lenders, Places, WhereEverythingIs}
-use Rattle.security.proofs.Rows.{filter-none, source-listed, IsText, node-no-end, source-no-end, Sort, text-row, registered-row, held-row, end-row, copy, sort-of, borne-by}
+use Rattle.security.proofs.Rows.{filter-none, source-listed, IsText, node-no-end, source-no-end, Sort, text-row, registered-row, held-row, end-row, copy, sort-of, borne-by, clist-no-system}
 use Rattle.security.proofs.Numbers.{source-row}
 use Rattle.security.proofs.Effects.{Adds, holds, registers, makes, Effect, tells, moves-to, adds, asks, fetches, shuts-off, effect-of}
 use Rattle.security.proofs.Opened.{opened-text}
@@ -51,7 +51,7 @@ use Rattle.security.proofs.Frames.{same-but-place, same-row, source-kep
 use Rattle.security.proofs.Places.{Line, old-line}
 
 -- ---- new rows
-end-kinds : (isEnd clientEnd ≡ true) × (isEnd serverEnd ≡ true)
+pub end-kinds : (isEnd clientEnd ≡ true) × (isEnd serverEnd ≡ true)
 unfolding isEnd isClient isServer clientEnd serverEnd
 end-kinds = (refl, refl)
 
@@ -130,7 +130,7 @@ pub record Held (log : Log) (st : State) : Type 0 where
   pub ends : (n : ℕ) → IsRow st n → isEnd (rowOf (st .rows) n .kind) ≡ true → EndAt log st n
   pub copies : (n : ℕ) → IsRow st n → some (rowOf (st .rows) n .request) ≡ true → rowOf (st .rows) n .place ≡ whereabouts log 0 (listers n (st .requests))
 
-operation-row : (rs : List Row) (n : ℕ) → isOperation (rowOf rs n .kind) ≡ true → member n (numbers rs) ≡ true
+pub operation-row : (rs : List Row) (n : ℕ) → isOperation (rowOf rs n .kind) ≡ true → member n (numbers rs) ≡ true
 unfolding noRow isOperation operation
 operation-row = row-there (λ r. isOperation (r .kind)) refl
 
@@ -149,14 +149,10 @@ end-source st s n t k = pick (sort-of st s n t)
     pick (end-row x) = (pos-some (r .source) (row-below st (s .numbers) (r .source) (operation-row (st .rows) (r .source) (x .source)) .0), x .source)
     pick (copy x) = clash k (copied-no-end (r .kind) (x .copied))
 
-clist-no-system : (st : State) → Sound st → (x : ℕ) → isClist x ≡ true → isSystem x ≡ false
-unfolding isClist isSystem inClist withSystem processes
-clist-no-system st s x e = let (lo, hi) = between-range (100 + 1) (100 + 64) x e in ne-eqb x 200 (λ z. omega arith)
-
 module _ (st st′ : State) (c : Call) (s : Sound st) (s′ : Sound st′) (x : Effect st c st′) (log : Log) (h : Held log st) where
   -- a row with a process that is no end is as it was
   kept-row : (m : ℕ) → IsRow st m → IsRow st′ m → isEnd (rowOf (st .rows) m .kind) ≡ false → isClist (rowOf (st .rows) m .place) ≡ true → rowOf (st′ .rows) m ≡ rowOf (st .rows) m
-  kept-row m t t′ e p = same-row st st′ c s x m t t′ e (clist-no-system st s _ p)
+  kept-row m t t′ e p = same-row st st′ c s x m t t′ e (clist-no-system _ p)
 
   old-end : (n : ℕ) → IsRow st n → IsRow st′ n → isEnd (rowOf (st .rows) n .kind) ≡ true → EndAt (logged st c log) st′ n
   unfolding withPlace

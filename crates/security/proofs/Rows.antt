@@ -1,5 +1,5 @@
 -- What sound tables tell of one row: it is one of five, each with its sources; which sources are ends; which request is open on a port.
-use Prim.Native.Nat.{ℕ, zero, suc, _<_}
+use Prim.Native.Nat.{ℕ, zero, suc, _+_, _<_}
 use mathlib.Core.Bool.{Bool, true, false, not, cond, _&&_, _||_}
 use mathlib.Core.List.{List, [], _∷_, map}
 use mathlib.Core.Path.{_≡_, refl, sym, ap, _∙_}
@@ -11,16 +11,17 @@ use borrow.Author.Tests.{eqb-true, eqb-false, ne-eqb, ltb-true}
 use Rattle.rows.specs.declared.Row.{Row}
 use Rattle.rows.specs.declared.Request.{Request}
 use Rattle.rows.specs.declared.Process.{Process}
-use Rattle.rows.specs.Lists.{if_then_else_, filter, any, all, firstWith, member, distinct, some, nonzero}
-use Rattle.rows.specs.Codes.{operation, isOperation, isSubdirectory, isClient, isEnd, isCopied, inClist, isNode, isClist}
-use Rattle.rows.specs.Tables.{State, noRequest, noProcess, rowOf, requestOf, openOn, processAt, numbers, sources, lists}
-use Rattle.rows.specs.Sound.{isOpening, isRegistered, isHeld, isPortEnd, isLentCopy, requestsRise, onePerPort, portsStand, portStands, copyListed, mayBeListed, processPlaced, processesPlaced, sourceOf, viaOf}
+use Rattle.rows.specs.Lists.{if_then_else_, filter, any, all, firstWith, member, distinct, between, some, nonzero}
+use Rattle.rows.specs.Limits.{processes, nodes}
+use Rattle.rows.specs.Codes.{operation, clientEnd, serverEnd, isOperation, isSubdirectory, isClient, isServer, isEnd, isCopied, inClist, withSystem, isNode, isClist, isSystem, ownerOf}
+use Rattle.rows.specs.Tables.{State, noRow, noRequest, noProcess, rowOf, requestOf, openOn, processAt, isListed, numbers, sources, lists}
+use Rattle.rows.specs.Sound.{isOpening, isRegistered, isHeld, isPortEnd, isLentCopy, requestsRise, onePerPort, portsStand, portStands, copyListed, mayBeListed, placesInRange, placeInRange, processPlaced, processesPlaced, sourceOf, viaOf}
 use Rattle.rows.proofs.Bools.{clash, false-of, and-l, and-r, or-cases, or-l, or-r, or-false, not-t, some-pos, pos-some, zero-none, eqb-sym, eqb-self, member-here, member-there}
 use Rattle.rows.proofs.Keyed.{first-key, first-there, all-first, rises-range}
 use Rattle.kept.proofs.Loans.{no-request-lists}
 use Rattle.calls.specs.Rules.{askedOf}
 use Rattle.kept.proofs.Fetch.{asked-found, asked-there}
-use Rattle.rows.proofs.Places.{copied-no-end, subdirectory-no-end, no-row-listed}
+use Rattle.rows.proofs.Places.{copied-no-end, subdirectory-no-end, no-row-listed, between-range}
 use Rattle.rows.proofs.RowSources.{row-there, Shape, opening, registered, held, port-end, lent-copy, node-there, end-there, client-there, subdirectory-there}
 use Rattle.tables.proofs.Sound.{Sound}
 use Rattle.tables.proofs.SoundFacts.{row-number, in-node-copied, placed-from, requests-between}
@@ -142,7 +143,7 @@ sort vs r s v (lent-copy h) =
       port = eqb-true (requestOf vs (r .request) .port) (r .via) (search (and-l, and-r));
     })
 
-operation-no-end : (k : ℕ) → isOperation k ≡ true → isEnd k ≡ false
+pub operation-no-end : (k : ℕ) → isOperation k ≡ true → isEnd k ≡ false
 unfolding isCopied
 operation-no-end k t = copied-no-end k (or-l (isOperation k) (isSubdirectory k) t)
 
@@ -279,6 +280,33 @@ module _ (st : State) (s : Sound st) where
       (asked-there st e h, ap (lists n) (asked-found st (s .numbers .requests-rise) e h) ∙ l)
 
 -- ---- c-lists and records
+pub clist-outside : (x : ℕ) → isClist x ≡ true → isNode x ≡ false
+unfolding isClist isNode inClist processes nodes
+clist-outside x e = false-of (between 1 32 x) (λ n. let (a, b) = between-range (100 + 1) (100 + 64) x e in let (c, d) = between-range 1 32 x n in omega arith)
+
+pub clist-no-system : (x : ℕ) → isClist x ≡ true → isSystem x ≡ false
+unfolding isClist isSystem inClist withSystem processes
+clist-no-system x e = let (lo, hi) = between-range (100 + 1) (100 + 64) x e in ne-eqb x 200 (λ z. omega arith)
+
+owner-of : (p : ℕ) → ownerOf (inClist p) ≡ p
+unfolding ownerOf inClist
+owner-of p = omega arith
+
+pub server-no-client : (k : ℕ) → isServer k ≡ true → isClient k ≡ false
+unfolding isServer isClient serverEnd clientEnd
+server-no-client k e = rw (eqb-true k 4 e) refl
+
+-- a process that has a row in its c-list is listed
+pub holder-listed : (st : State) → Sound st → (n : ℕ) → IsRow st n → (p : ℕ) → rowOf (st .rows) n .place ≡ inClist p → isClist (rowOf (st .rows) n .place) ≡ true → isListed (st .processes) p ≡ true
+unfolding placesInRange placeInRange rowOf numbers
+holder-listed st s n t p h c =
+    let r = rowOf (st .rows) n in
+    let owner : ownerOf (r .place) ≡ p = ap ownerOf h ∙ owner-of p in
+    ⊎-elim (λ k. clash k (clist-outside (r .place) c))
+    (λ k. ⊎-elim (λ y. ap (isListed (st .processes)) (sym owner) ∙ and-r (isClist (r .place)) _ y) (λ y. clash y (clist-no-system (r .place) c))
+    (or-cases (isClist (r .place) && isListed (st .processes) (ownerOf (r .place))) (isSystem (r .place)) k))
+    (or-cases (isNode (r .place)) _ (all-first (λ r. r .number) noRow (placeInRange (st .processes)) (st .rows) n (s .rows .places-in-range) t))
+
 pub clist-apart : (p q : ℕ) → inClist p ≡ inClist q → p ≡ q
 unfolding inClist
 clist-apart p q e = omega arith

@@ -92,7 +92,7 @@ still-request : (st : State) (c : Call) → Quiet st c → ((v : Request) → fe
 still-request st c x h v = quiet-request st c x v ∙ ap (withItems (v .items)) (h v)
 
 -- ---- nothing
-comes-still : (st : State) (e q : ℕ) → Still st (Comes e q)
+pub comes-still : (st : State) (e q : ℕ) → Still st (Comes e q)
 unfolding closedBy discards fetchedBy placeAfter recordAfter logged
 comes-still st e q = record { quiet = record { closes-none = refl; discards-none = λ r. refl }; unfetched = λ v. refl; placed = λ r. refl; recorded = λ p. refl; unlogged = λ log. refl }
 

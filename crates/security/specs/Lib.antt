@@ -11,3 +11,9 @@ pub mod Numbers
 pub mod Nodes
 -- where everything is, at all times
 pub mod Places
+-- rights never grow
+pub mod Rights
+-- what a borrower has
+pub mod Borrowers
+-- revocation is never blocked; room comes back
+pub mod Revocation
