@@ -142,6 +142,7 @@ module _ (fs : List Form) (log : Log) (st : State) (x : Session fs log st) where
             subdirectory = d;
             way = subdirectory-own (R h .via) there outside d;
           }
+
       pick : (borne st h ≡ true) ⊎ (borne st h ≡ false) → OfOwn st n ⊎ ThroughLent st n
       pick (inl b) = inr (through b)
       pick (inr b) =

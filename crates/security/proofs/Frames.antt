@@ -49,6 +49,7 @@ pub source-kept : (st st′ : State) (c : Call) → Sound st → Sound st′ →
 unfolding withPlace
 source-kept st st′ c s s′ x n t t′ h =
     let same : rowOf (st′ .rows) n .source ≡ rowOf (st .rows) n .source = same-but-place st st′ c s x n t t′ (λ r. r .source) (λ p r. refl) in
-    let m = rowOf (st .rows) n .source in
-    (source-row st s n m t (source-listed (rowOf (st .rows) n) h),
-    subst (IsRow st′) same (source-row st′ s′ n (rowOf (st′ .rows) n .source) t′ (source-listed (rowOf (st′ .rows) n) (ap some same ∙ h))))
+    let m = rowOf (st .rows) n .source in (
+      source-row st s n m t (source-listed (rowOf (st .rows) n) h),
+      subst (IsRow st′) same (source-row st′ s′ n (rowOf (st′ .rows) n .source) t′ (source-listed (rowOf (st′ .rows) n) (ap some same ∙ h))),
+    )

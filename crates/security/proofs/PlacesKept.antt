@@ -192,7 +192,7 @@ module _ (st st′ : State) (c : Call) (s : Sound st) (s′ : Sound st′) (x : 
       home-so : (r : Row) → rowOf (st′ .rows) (r .source) ≡ rowOf (st .rows) (r .source) → whereabouts (logged st c log) (homeOf st′ r) [] ≡ homeOf st r
       home-so r o = unfold homeOf whereabouts in (rw o refl)
 
-  held-kept : Held (logged st c log) st′
+  pub held-kept : Held (logged st c log) st′
   unfolding withPlace
   held-kept =
       record {

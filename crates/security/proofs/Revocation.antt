@@ -43,10 +43,9 @@ use Rattle.security.specs.Places.{homeOf, listers, whereabouts, WhereEve
 use Rattle.security.specs.Revocation.{Accepted, NeverBlocked, Oldest, ComesHome, OldestLoanBringsHome}
 use Rattle.security.proofs.Sessions.{session-sound}
 use Rattle.security.proofs.Rows.{filter-none, sources-cases, request-low, holder-listed}
-use Rattle.security.proofs.Closings.{Closes, request-closes}
-use Rattle.security.proofs.Effects.{Adds, holds, registers, makes, Effect, tells, moves-to, adds, asks, fetches, shuts-off}
-use Rattle.security.proofs.Steps.{step-effect}
-use Rattle.security.proofs.Touches.{any-older-is, Quiet, quiet-goes, quiet-shuts, comes-still, touches}
+use Rattle.security.proofs.Closings.{request-closes}
+use Rattle.security.proofs.Effects.{Effect, shuts-off}
+use Rattle.security.proofs.Touches.{any-older-is, touches}
 use Rattle.security.proofs.Moves.{any-found}
 use Rattle.security.proofs.Places.{kind-kept, old-line}
 use Rattle.security.proofs.PlacesKept.{session-held, where-everything-is}
@@ -67,6 +66,12 @@ module _ (st : State) (s : Sound st) where
       let low = request-low st s q t in
       let (lo, hi) = listed-range st (s .placed) (v .asker) l in
       rw (l, and-false (some (v .asker)), ne-eqb (v .number) 0 (λ z. omega arith), eqb-self (v .asker)) refl
+
+  pub revoke-effect : (p q : ℕ) → some q ≡ true → Effect st (Revoke p q) (closeRequest q st)
+  unfolding closeRequest closing closedBy discards placeAfter recordAfter fetchedBy takes logged
+  revoke-effect p q h =
+      shuts-off (Revoke p q) _ _ (request-closes st s (Revoke p q) q h refl (λ r. refl))
+      (record { placed = λ r. refl; homed = λ p. refl; unfetched = λ v. refl; unnumbered = refl; unlogged = λ log. refl })
 
 pub never-blocked : NeverBlocked
 unfolding NeverBlocked callOn done refusalOf
@@ -153,13 +158,8 @@ module _ (fs : List Form) (log : Log) (st : State) (x : Session fs log st) (n q 
   abbrev f : Request → Bool
   f = closes (q ∷ []) g
 
-  shut-off : Closes st c g f
-  unfolding closedBy discards
-  shut-off = request-closes st s c q some-q refl (λ r. refl)
-
   revoked : Effect st c st′
-  unfolding closeRequest closing placeAfter recordAfter fetchedBy takes logged
-  revoked = shuts-off c g f shut-off (record { placed = λ r. refl; homed = λ p. refl; unfetched = λ v. refl; unnumbered = refl; unlogged = λ log. refl })
+  revoked = revoke-effect st s p q some-q
 
   s′ : Sound st′
   s′ = close-request-kept st s q some-q

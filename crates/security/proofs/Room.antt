@@ -1,7 +1,7 @@
 -- Room comes back: a call frees just what it removes; after a revoke of every open request, in any order, nothing is lent.
 use Prim.Native.Nat.{ℕ, _<_}
 use native.Mathlib.Omega.{arith}
-use mathlib.Core.Bool.{Bool, true, false, not, cond, _&&_, _||_}
+use mathlib.Core.Bool.{Bool, true, false, not, cond, _&&_, _||_, true≢false}
 use mathlib.Core.List.{List, [], _∷_, map}
 use mathlib.Core.Path.{_≡_, refl, sym, ap, _∙_, subst}
 use mathlib.Core.Logic.{_⊎_, inl, inr, ⊎-elim}
@@ -14,7 +14,7 @@ use Rattle.rows.specs.Lists.{filter, any, all, firstWith, rises, member, some}
 use Rattle.rows.specs.Codes.{isEnd, isSystem}
 use Rattle.rows.specs.Tables.{State, noRow, noRequest, rowOf, requestOf, isListed, numbers, sources, reaches, bears, lists, onLoan, lentItself, isLent, marked}
 use Rattle.rows.specs.Sound.{rowsRise, requestsRise, awaitsFetch, same}
-use Rattle.rows.proofs.Bools.{clash, false-of, and-l, and-r, some-pos, pos-some, member-here, member-cases, any-none, true-or-false}
+use Rattle.rows.proofs.Bools.{clash, false-of, and-l, and-r, and-false, not-t, or-cases, eqb-self, some-pos, pos-some, member-here, member-cases, any-none, true-or-false}
 use Rattle.rows.proofs.Agree.{agree-found, agree-map, filter-agree}
 use Rattle.rows.proofs.Keyed.{first-none}
 use Rattle.tables.proofs.Sound.{Sound, sound-open}
@@ -32,8 +32,8 @@ use Rattle.kept.proofs.Closing.{close-request-kept}
 use Rattle.kept.proofs.Loans.{held-so}
 use Rattle.text.specs.declared.Reading.the-variants.{Asks}
 use Rattle.text.specs.Entry.{callerUnlisted, answered}
-use Rattle.security.specs.Sessions.{IsRow, IsOpen, Log, EveryStep}
-use Rattle.security.specs.Changes.{closedBy, discards, goes, shuts, requestAfter, fetchedBy, takes}
+use Rattle.security.specs.Sessions.{IsRow, IsOpen, Log, logged, EveryStep}
+use Rattle.security.specs.Changes.{closedBy, discards, goes, shuts, requestAfter, fetchedBy, takes, Touches}
 use Rattle.security.specs.Places.{homeOf, listers, whereabouts}
 use Rattle.security.specs.Revocation.{Frees, afterCalls, revokeEach, AllBack, RoomComesBack}
 use Rattle.security.proofs.Sessions.{session-sound}
@@ -41,6 +41,7 @@ use Rattle.security.proofs.Rows.{request-low}
 use Rattle.security.proofs.Closings.{Closes}
 use Rattle.security.proofs.Effects.{Adds, holds, registers, makes, Effect, tells, moves-to, adds, asks, fetches, shuts-off}
 use Rattle.security.proofs.Touches.{Quiet, quiet-goes, quiet-shuts, comes-still, touches}
+use Rattle.security.proofs.Numbers.{request-below}
 use Rattle.security.proofs.Steps.{step-effect}
 use Rattle.security.proofs.PlacesKept.{Held, held-kept, session-held}
 use Rattle.security.proofs.Revocation.{revoke-answered, revoke-effect}
@@ -134,4 +135,88 @@ revoked-left st₀ st q qs l = ⊎-elim taken missed (true-or-false (member q (m
         })
 
     taken : IsOpen st q → Left st₀ (answered st (Asks (Revoke (requestOf (st₀ .requests) q .asker) q)) .after) qs
-    taken t = ?
+    taken t =
+        let p = requestOf (st .requests) q .asker in
+        let c = Revoke p q in
+        let h : some q ≡ true = pos-some q (request-low st (l .sound) q t) in
+        let x = revoke-effect st (l .sound) p q h in
+        let s′ = close-request-kept st (l .sound) q h in
+        let k = touches st (l .sound) c (closeRequest q st) x in
+        let is : answered st (Asks (Revoke (requestOf (st₀ .requests) q .asker) q)) .after ≡ closeRequest q st =
+        ap (λ y. answered st (Asks (Revoke y q)) .after) (sym (l .asker q t)) ∙ ap (λ o. o .after) (revoke-answered st (l .sound) q t) ∙ (unfold done in refl) in
+        subst (λ z. Left st₀ z qs) (sym is)
+        (record {
+          sound = s′;
+          log = logged st c (l .log);
+          held = held-kept st (closeRequest q st) c (l .sound) s′ x (l .log) (l .held);
+          left = λ w u. ⊎-elim (λ z. absurd (not-itself k w u z)) (λ m. m) (member-cases w q qs (l .left w (was-open k s′ w u)));
+          asker = λ w u. asker-kept k s′ w u ∙ l .asker w (was-open k s′ w u);
+        })
+      where
+        c : Call
+        c = Revoke (requestOf (st .requests) q .asker) q
+
+        was-open : Touches st c (closeRequest q st) → Sound (closeRequest q st) → (w : ℕ) → IsOpen (closeRequest q st) w → IsOpen st w
+        was-open k s′ w u =
+            ⊎-elim (λ o. o)
+            (λ o. let up : closeRequest q st .next ≡ st .next = unfold closeRequest closing settled in refl in
+            let le = k .new-requests w u (λ t. clash t o) in let lt = request-below (closeRequest q st) s′ w u in absurd (omega arith))
+            (true-or-false (member w (map (λ v. v .number) (st .requests))))
+
+        -- the request itself is closed
+        not-itself : Touches st c (closeRequest q st) → (w : ℕ) → IsOpen (closeRequest q st) w → w ≡ q → ⊥
+        not-itself k w u z =
+            let o : IsOpen (closeRequest q st) q = subst (IsOpen (closeRequest q st)) z u in
+            let shut : shuts st c (requestOf (st .requests) q) ≡ true = unfold shuts closedBy in (rw (pos-some q (request-low st (l .sound) q t), request-number st q t, eqb-self q) refl) in
+            absurd (true≢false (sym o ∙ k .requests q t ∙ ap not shut))
+
+        asker-kept : Touches st c (closeRequest q st) → Sound (closeRequest q st) → (w : ℕ) → IsOpen (closeRequest q st) w → requestOf (closeRequest q st .requests) w .asker ≡ requestOf (st .requests) w .asker
+        asker-kept k s′ w u =
+            let o = was-open k s′ w u in
+            ap (λ v. v .asker) (k .requests-kept w o (not-t (shuts st c (requestOf (st .requests) w)) (sym (k .requests w o) ∙ u))) ∙ (unfold requestAfter fetchedBy in refl)
+
+all-revoked : (st₀ : State) (qs : List ℕ) (st : State) → Left st₀ st qs → Left st₀ (afterCalls st (revokeEach st₀ qs)) []
+unfolding afterCalls revokeEach
+all-revoked st₀ [] st l = l
+all-revoked st₀ (q ∷ qs) st l = all-revoked st₀ qs (answered st (Asks (Revoke (requestOf (st₀ .requests) q .asker) q)) .after) (revoked-left st₀ st q qs l)
+
+-- ---- where no request is open
+none-open : (vs : List Request) → ((q : ℕ) → member q (map (λ v. v .number) vs) ≡ true → ⊥) → vs ≡ []
+none-open [] h = refl
+none-open (v ∷ vs) h = absurd (h (v .number) (member-here (v .number) (map (λ v. v .number) vs)))
+
+all-back : (st : State) → Sound st → (log : Log) → Held log st → ((q : ℕ) → IsOpen st q → ⊥) → AllBack st
+all-back st s log h none =
+    record {
+      none-open = empty;
+      none-lent = unlent;
+      none-with-system = λ n t.
+          eq-same (isSystem (rowOf (st .rows) n .place)) (awaitsFetch (st .requests) n) (held-so (st .rows) (st .requests) (s .holders .system-holds) n t)
+          ∙ ap (λ vs. awaitsFetch vs n) empty ∙ (unfold awaitsFetch in refl);
+      ends-home = λ n t k. h .ends n t k .line .at ∙ ap (λ vs. whereabouts log (homeOf st (rowOf (st .rows) n)) (listers n vs)) empty ∙ (unfold listers filter whereabouts in refl);
+    }
+  where
+    empty : st .requests ≡ []
+    empty = none-open (st .requests) none
+
+    unborne : (n : ℕ) → IsRow st n → some (rowOf (st .rows) n .request) ≡ false
+    unborne n t = false-of _ (λ b. none (rowOf (st .rows) n .request) (lists-open st n (rowOf (st .rows) n .request) (copy-listed st s n t b)))
+
+    itself : (n : ℕ) → IsRow st n → lentItself (st .requests) (rowOf (st .rows) n) ≡ false
+    itself n t =
+        ap (λ vs. lentItself vs (rowOf (st .rows) n)) empty
+        ∙ (unfold lentItself onLoan any in (rw (unborne n t, and-false (isEnd (rowOf (st .rows) n .kind))) refl))
+
+    unlent : (n : ℕ) → isLent st n ≡ false
+    unlent n =
+        unfold isLent rowsRise in
+        (sym (marked-reaches (lentItself (st .requests)) (st .rows) (s .numbers .rows-rise) n)
+        ∙ false-of _ (λ m. clash (marked-least (lentItself (st .requests)) (λ k. false) (st .rows) (s .numbers .rows-rise)
+        (λ k t u. ⊎-elim (λ y. clash y (itself k t)) (λ y. clash y (any-none (λ z. false) (λ z. refl) (sources (rowOf (st .rows) k)))) (or-cases (lentItself (st .requests) (rowOf (st .rows) k)) _ u)) n m) refl))
+
+pub room-comes-back : RoomComesBack
+unfolding RoomComesBack
+room-comes-back fs log st x qs h =
+    let s = session-sound fs log st x in
+    let l = all-revoked st qs st (record { sound = s; log = log; held = session-held fs log st x; left = h; asker = λ q t. refl }) in
+    all-back (afterCalls st (revokeEach st qs)) (l .sound) (l .log) (l .held) (λ q t. clash (l .left q t) (unfold member in refl))
