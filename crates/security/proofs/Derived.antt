@@ -279,7 +279,7 @@ together-law fs =
     }
 
 -- ---- a subdirectory that bears nothing is not lent
-abbrev Unlent : State → ℕ → Type 0
+abbrev pub Unlent : State → ℕ → Type 0
 Unlent st n = isSubdirectory (rowOf (st .rows) n .kind) ≡ true → rowOf (st .rows) n .request ≡ 0 → borne st n ≡ false
 
 -- two sources that hang on no loan

@@ -11,7 +11,9 @@ use Rattle.rows.specs.declared.Request.{Request}
 use Rattle.rows.specs.declared.Process.{Process}
 use borrow.Author.Tests.{eqb-true, eq-eqb}
 use Rattle.rows.specs.Lists.{if_then_else_, any, member, some}
-use Rattle.rows.specs.Codes.{clientEnd, serverEnd, inNode, inClist}
+use Rattle.rows.specs.Codes.{clientEnd, serverEnd, inNode, inClist, isNode}
+use Rattle.rows.proofs.Places.{clist-not-node}
+use Rattle.rows.proofs.RowSources.{node-there}
 use Rattle.rows.specs.Tables.{State, noRequest, rowOf, processAt, sources, lists}
 use Rattle.rows.proofs.Bools.{clash, false-of, or-fr, any-none}
 use Rattle.tables.proofs.SoundFacts.{row-number}
@@ -31,7 +33,7 @@ use Rattle.kept.proofs.AskFacts.{askedState}
 use Rattle.history.proofs.Allowed.{Allowed}
 use Rattle.security.specs.Sessions.{Log, logged}
 use Rattle.security.specs.Changes.{closedBy, discards, goes, shuts, placeBack, placeAfter, fetchedBy, recordHomed, recordAfter, takes}
-use Rattle.security.proofs.Rows.{clist-apart, through-at}
+use Rattle.security.proofs.Rows.{clist-apart, node-no-end, through-at}
 use Rattle.security.proofs.Closings.{Closes, drop-goes, request-closes, port-closes, row-closes}
 
 -- ---- the rows that a call adds
@@ -67,6 +69,8 @@ pub record Plain (st : State) (c : Call) : Type 0 where
   pub unfetched : (v : Request) → fetchedBy st c v ≡ v
   pub unnumbered : takes st c ≡ 0
   pub unlogged : (log : Log) → logged st c log ≡ log
+  -- it discards no row of a node
+  pub spares : (n : ℕ) → isNode (rowOf (st .rows) n .place) ≡ true → discards c (rowOf (st .rows) n) ≡ false
 
 -- ---- the six kinds
 pub data Effect (st : State) : Call → State → Type 0 where
@@ -87,9 +91,14 @@ go-is st p e = pick (eqb e 0)
 
 -- nobody stands in a node through a row that is dropped
 drop-plain : (st : State) → Sound st → (p e : ℕ) → DropAllowed st p e → Plain st (Drop p e)
-unfolding placeAfter placeBack recordAfter recordHomed fetchedBy takes shuts closedBy some noRequest logged
-drop-plain st s p e a = record { placed = stays; homed = home; unfetched = λ v. refl; unnumbered = refl; unlogged = λ log. refl }
+unfolding placeAfter placeBack recordAfter recordHomed fetchedBy takes shuts closedBy some noRequest logged discards
+drop-plain st s p e a = record { placed = stays; homed = home; unfetched = λ v. refl; unnumbered = refl; unlogged = λ log. refl; spares = outside }
   where
+    outside : (n : ℕ) → isNode (rowOf (st .rows) n .place) ≡ true → eqb (rowOf (st .rows) n .number) e ≡ false
+    outside n k =
+        false-of _ (λ z. let is : n ≡ e = sym (row-number (st .rows) n (node-there (st .rows) n k)) ∙ eqb-true _ e z in
+        clash k (ap (λ m. isNode (rowOf (st .rows) m .place)) is ∙ ap isNode (eqb-true _ (inClist p) (a .row .place)) ∙ clist-not-node p))
+
     stays : (r : Row) → r .place ≡ placeBack st (Drop p e) r
     stays r = ap (λ w. if some (w .number) then inClist (w .asker) else r .place) (sym (oldest-none (shuts st (Drop p e)) (r .number) (st .requests) (unfold listedIn in any-none (λ w. shuts st (Drop p e) w && lists (r .number) w) (λ w. refl) (st .requests))))
 
@@ -113,17 +122,47 @@ drop-plain st s p e a = record { placed = stays; homed = home; unfetched = λ v.
         pick true h = rw (other h) refl
         pick false h = refl
 
+-- of the other calls that close all this is so by definition
+module _ (st : State) where
+  close-plain : Sound st → (p c : ℕ) → Plain st (Close p c)
+  unfolding placeAfter recordAfter fetchedBy takes logged discards
+  close-plain s p c =
+      record {
+        placed = λ r. refl;
+        homed = λ p. refl;
+        unfetched = λ v. refl;
+        unnumbered = refl;
+        unlogged = λ log. refl;
+        spares = λ n k. ap (λ b. b && eqb (rowOf (st .rows) n .object) c) (node-no-end st s n k);
+      }
+
+  reply-plain : (p e : ℕ) → Plain st (Reply p e)
+  unfolding placeAfter recordAfter fetchedBy takes logged discards
+  reply-plain p e = record { placed = λ r. refl; homed = λ p. refl; unfetched = λ v. refl; unnumbered = refl; unlogged = λ log. refl; spares = λ n k. refl }
+
+  refuse-plain : (p e : ℕ) → Plain st (Refuse p e)
+  unfolding placeAfter recordAfter fetchedBy takes logged discards
+  refuse-plain p e = record { placed = λ r. refl; homed = λ p. refl; unfetched = λ v. refl; unnumbered = refl; unlogged = λ log. refl; spares = λ n k. refl }
+
+  revoke-plain : (p q : ℕ) → Plain st (Revoke p q)
+  unfolding placeAfter recordAfter fetchedBy takes logged discards
+  revoke-plain p q = record { placed = λ r. refl; homed = λ p. refl; unfetched = λ v. refl; unnumbered = refl; unlogged = λ log. refl; spares = λ n k. refl }
+
+pub revoke-effect : (st : State) → Sound st → (p q : ℕ) → some q ≡ true → Effect st (Revoke p q) (closeRequest q st)
+unfolding closeRequest closing closedBy discards
+revoke-effect st s p q h = shuts-off (Revoke p q) _ _ (request-closes st s (Revoke p q) q h refl (λ r. refl)) (revoke-plain st p q)
+
 pub effect-of : (st : State) → Sound st → (c : Call) → Allowed st c → Effect st c (effect st c .after)
-unfolding Allowed effect done made withHeld withRegistered withPort closeRequest closePort dropRow closing closedBy discards placeAfter recordAfter fetchedBy takes logged
+unfolding Allowed effect done made withHeld withRegistered withPort closeRequest closePort dropRow closing closedBy discards
 effect-of st s (Go p e) a = subst (Effect st (Go p e)) (sym (go-is st p e)) (moves-to p e a)
 effect-of st s (Hold p e) a = adds (Hold p e) _ (suc (st .next)) (holds p e a) (omega arith)
 effect-of st s (Register p e) a = adds (Register p e) _ (suc (st .next)) (registers p e a) (omega arith)
 effect-of st s (Drop p e) a = shuts-off (Drop p e) _ _ (row-closes st s p e a) (drop-plain st s p e a)
 effect-of st s (Port p e) a = adds (Port p e) _ (suc (suc (st .next))) (makes p e a) (omega arith)
-effect-of st s (Close p c) a = shuts-off (Close p c) _ _ (port-closes st s p c (a .client)) (record { placed = λ r. refl; homed = λ p. refl; unfetched = λ v. refl; unnumbered = refl; unlogged = λ log. refl })
+effect-of st s (Close p c) a = shuts-off (Close p c) _ _ (port-closes st s p c (a .client)) (close-plain st s p c)
 effect-of st s (Ask p c is) a = subst (Effect st (Ask p c is)) (sym (closed-form st p c (itemsOf is))) (asks p c is a)
 effect-of st s (Fetch p e) a = fetches p e a
-effect-of st s (Reply p e) a = shuts-off (Reply p e) _ _ (request-closes st s (Reply p e) (askedOf st e .number) (a .serves .asked) refl (λ r. refl)) (record { placed = λ r. refl; homed = λ p. refl; unfetched = λ v. refl; unnumbered = refl; unlogged = λ log. refl })
-effect-of st s (Refuse p e) a = shuts-off (Refuse p e) _ _ (request-closes st s (Refuse p e) (askedOf st e .number) (a .asked) refl (λ r. refl)) (record { placed = λ r. refl; homed = λ p. refl; unfetched = λ v. refl; unnumbered = refl; unlogged = λ log. refl })
-effect-of st s (Revoke p q) a = shuts-off (Revoke p q) _ _ (request-closes st s (Revoke p q) q (a .number) refl (λ r. refl)) (record { placed = λ r. refl; homed = λ p. refl; unfetched = λ v. refl; unnumbered = refl; unlogged = λ log. refl })
+effect-of st s (Reply p e) a = shuts-off (Reply p e) _ _ (request-closes st s (Reply p e) (askedOf st e .number) (a .serves .asked) refl (λ r. refl)) (reply-plain st p e)
+effect-of st s (Refuse p e) a = shuts-off (Refuse p e) _ _ (request-closes st s (Refuse p e) (askedOf st e .number) (a .asked) refl (λ r. refl)) (refuse-plain st p e)
+effect-of st s (Revoke p q) a = revoke-effect st s p q (a .number)
 effect-of st s (Comes e q) a = tells e q

@@ -38,6 +38,9 @@ pub mod Derived
 pub mod Rights
 -- what a borrower has
 pub mod Borrowers
+-- the nodes that a process can come to
+pub mod Reach
+pub mod ReachLaw
 -- revocation is never blocked; room comes back
 pub mod Revocation
 pub mod Room

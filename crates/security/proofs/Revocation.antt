@@ -38,13 +38,12 @@ use Rattle.text.specs.Entry.{callerUnlisted, answered, callOn}
 use Rattle.text.specs.Opening.{Form}
 use Rattle.kept.proofs.Closing.{close-request-kept}
 use Rattle.security.specs.Sessions.{IsRow, IsOpen, Has, Log, logged, Session, EveryStep}
-use Rattle.security.specs.Changes.{closedBy, discards, falls, goes, shuts, placeAfter, fetchedBy, recordAfter, takes}
+use Rattle.security.specs.Changes.{closedBy, discards, falls, goes}
 use Rattle.security.specs.Places.{homeOf, listers, whereabouts, WhereEverythingIs}
 use Rattle.security.specs.Revocation.{Accepted, NeverBlocked, Oldest, ComesHome, OldestLoanBringsHome}
 use Rattle.security.proofs.Sessions.{session-sound}
 use Rattle.security.proofs.Rows.{filter-none, sources-cases, request-low, holder-listed}
-use Rattle.security.proofs.Closings.{request-closes}
-use Rattle.security.proofs.Effects.{Effect, shuts-off}
+use Rattle.security.proofs.Effects.{Effect, revoke-effect}
 use Rattle.security.proofs.Touches.{any-older-is, touches}
 use Rattle.security.proofs.Moves.{any-found}
 use Rattle.security.proofs.Places.{kind-kept, old-line}
@@ -66,12 +65,6 @@ module _ (st : State) (s : Sound st) where
       let low = request-low st s q t in
       let (lo, hi) = listed-range st (s .placed) (v .asker) l in
       rw (l, and-false (some (v .asker)), ne-eqb (v .number) 0 (λ z. omega arith), eqb-self (v .asker)) refl
-
-  pub revoke-effect : (p q : ℕ) → some q ≡ true → Effect st (Revoke p q) (closeRequest q st)
-  unfolding closeRequest closing closedBy discards placeAfter recordAfter fetchedBy takes logged
-  revoke-effect p q h =
-      shuts-off (Revoke p q) _ _ (request-closes st s (Revoke p q) q h refl (λ r. refl))
-      (record { placed = λ r. refl; homed = λ p. refl; unfetched = λ v. refl; unnumbered = refl; unlogged = λ log. refl })
 
 pub never-blocked : NeverBlocked
 unfolding NeverBlocked callOn done refusalOf

@@ -39,12 +39,12 @@ use Rattle.security.specs.Revocation.{Frees, afterCalls, revokeEach, All
 use Rattle.security.proofs.Sessions.{session-sound}
 use Rattle.security.proofs.Rows.{request-low}
 use Rattle.security.proofs.Closings.{Closes}
-use Rattle.security.proofs.Effects.{Adds, holds, registers, makes, Effect, tells, moves-to, adds, asks, fetches, shuts-off}
+use Rattle.security.proofs.Effects.{Adds, holds, registers, makes, Effect, tells, moves-to, adds, asks, fetches, shuts-off, revoke-effect}
 use Rattle.security.proofs.Touches.{Quiet, quiet-goes, quiet-shuts, comes-still, touches}
 use Rattle.security.proofs.Numbers.{request-below}
 use Rattle.security.proofs.Steps.{step-effect}
 use Rattle.security.proofs.PlacesKept.{Held, held-kept, session-held}
-use Rattle.security.proofs.Revocation.{revoke-answered, revoke-effect}
+use Rattle.security.proofs.Revocation.{revoke-answered}
 
 -- ==== what a call frees
 -- a test of every row or request that is found

@@ -15,5 +15,7 @@ pub mod Places
 pub mod Rights
 -- what a borrower has
 pub mod Borrowers
+-- the nodes that a process can come to
+pub mod Reach
 -- revocation is never blocked; room comes back
 pub mod Revocation
