@@ -44,3 +44,7 @@ pub mod ReachLaw
 -- revocation is never blocked; room comes back
 pub mod Revocation
 pub mod Room
+-- isolation: what equal views tell; each call by its tests
+pub mod Seen
+pub mod Alike
+pub mod Isolation

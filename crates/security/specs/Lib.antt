@@ -19,3 +19,5 @@ pub mod Borrowers
 pub mod Reach
 -- revocation is never blocked; room comes back
 pub mod Revocation
+-- what a process is answered is decided by what it can see
+pub mod Isolation
