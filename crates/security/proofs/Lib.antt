@@ -48,3 +48,5 @@ pub mod Room
 pub mod Seen
 pub mod Alike
 pub mod Isolation
+-- all of them, by name
+pub mod Security

@@ -17,7 +17,6 @@ use Rattle.rows.proofs.Keyed.{first-none}
 use Rattle.rows.proofs.Places.{clist-no-row}
 use Rattle.tables.proofs.Picked.{first-picked}
 use Rattle.tables.proofs.Sound.{Sound}
-
 use Rattle.history.proofs.View.{first-through}
 use Rattle.security.specs.Sessions.{IsRow}
 use Rattle.security.specs.Isolation.{SeenRow, View, seenRow, view}

@@ -1,4 +1,4 @@
--- The security theorems, each a statement about every session. In reading order, a line a file:
+-- The security theorems as statements about every session. In reading order, a line a file:
 -- sessions: an accepted opening, then accepted calls; who fetched which request
 pub mod Sessions
 -- what a call does, row by row and request by request: what goes, what stays and where
@@ -21,3 +21,7 @@ pub mod Reach
 pub mod Revocation
 -- what a process is answered is decided by what it can see
 pub mod Isolation
+-- all of them, by name
+pub mod Security
+pub mod Computes
+pub mod tests
