@@ -52,13 +52,13 @@ use Rattle.history.proofs.Vanish.{revoke-vanished}
 use Rattle.history.proofs.Returns.{revoke-returned}
 
 -- ---- what holds of a history and the words left, line by line
-record Along (h : History) (w : Replied) : Type 0 where
-  reply : List ℕ
-  st : State
-  is : w ≡ replyWith reply st
-  sound : Sound st
-  inv : Inv h st
-  lends : Lends h st
+pub record Along (h : History) (w : Replied) : Type 0 where
+  pub reply : List ℕ
+  pub st : State
+  pub is : w ≡ replyWith reply st
+  pub sound : Sound st
+  pub inv : Inv h st
+  pub lends : Lends h st
 
 -- a line with too many items leaves the state
 crowded-stays : (P : State → Type 0) (st : State) (p : ℕ) → P st → P (answered st (Crowded p) .after)
@@ -66,11 +66,11 @@ unfolding answered refused numbered all
 crowded-stays P st p x = judged (λ o. P (o .after)) st (5 when not (isListed (st .processes) p) ∷ []) (refused st 6) (λ k r. x) refl (λ _. x)
 
 -- a line on a state, and what is noted of it
-record Step (h : History) (st : State) (line : List ℕ) : Type 0 where
-  inv : Inv (noteLine h line (printed (callOn st line .answer))) (callOn st line .after)
-  lends : Lends (noteLine h line (printed (callOn st line .answer))) (callOn st line .after)
+pub record Step (h : History) (st : State) (line : List ℕ) : Type 0 where
+  pub inv : Inv (noteLine h line (printed (callOn st line .answer))) (callOn st line .after)
+  pub lends : Lends (noteLine h line (printed (callOn st line .answer))) (callOn st line .after)
 
-step : (h : History) (st : State) → Sound st → Inv h st → Lends h st → (line : List ℕ) → Step h st line
+pub step : (h : History) (st : State) → Sound st → Inv h st → Lends h st → (line : List ℕ) → Step h st line
 unfolding callOn
 step h st s i l line = pick (readingOf line) refl
   where
@@ -95,7 +95,7 @@ step h st s i l line = pick (readingOf line) refl
         noted h (answered st (BadLine k)) (ap (answered st) e) (note-refused h line (printed (callOn st line .answer)) k e)
         (unfold answered refused in i) (unfold answered refused in l)
 
-along-call : (h : History) (w : Replied) → Along h w → (l : List ℕ) → Along (noteLine h l (callEntry (w .tables) (w .processes) l .reply)) (callEntry (w .tables) (w .processes) l)
+pub along-call : (h : History) (w : Replied) → Along h w → (l : List ℕ) → Along (noteLine h l (callEntry (w .tables) (w .processes) l .reply)) (callEntry (w .tables) (w .processes) l)
 unfolding replyWith
 along-call h w a l =
     let o = callOn (a .st) l in
@@ -116,7 +116,7 @@ unfolding historyAfter repliesTo lentAfter
 along-lines h w a [] = a
 along-lines h w a (l ∷ ls) = along-lines _ _ (along-call h w a l) ls
 
-along-opening : (t p text : List ℕ) → accepts (openEntry t p text .reply) ≡ true → Along (begun text) (openEntry t p text)
+pub along-opening : (t p text : List ℕ) → accepts (openEntry t p text .reply) ≡ true → Along (begun text) (openEntry t p text)
 along-opening t p text a =
     let o = opened-as t p text a in
     record {

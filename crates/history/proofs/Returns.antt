@@ -96,7 +96,7 @@ module _ (f : Request → Bool) (e : ℕ) where
       pick false p ih is false q z = clash (ih (rw (eqb-sym-f (v .number) n q) at t) z .0) p
 
 -- ---- a request of the tables has on loan the ends that it lists
-any-block : (q n e : ℕ) (es : List ℕ) → any (λ (o : OnLoan). eqb (o .request) n && eqb (o .lent) e) (map (λ e. record { request = q; lent = e }) es) ≡ eqb q n && member e es
+pub any-block : (q n e : ℕ) (es : List ℕ) → any (λ (o : OnLoan). eqb (o .request) n && eqb (o .lent) e) (map (λ e. record { request = q; lent = e }) es) ≡ eqb q n && member e es
 unfolding any member
 any-block q n e [] = sym (and-rf (eqb q n) false refl)
 any-block q n e (x ∷ es) = rw (any-block q n e es, eqb-sym x e) (pick (eqb q n) (eqb e x) (member e es))
@@ -105,7 +105,7 @@ any-block q n e (x ∷ es) = rw (any-block q n e es, eqb-sym x e) (pick (eqb q n
     pick true b c = refl
     pick false b c = refl
 
-on-loan : (rs : List Row) (n e : ℕ) (vs : List Request) → rises (λ v. v .number) vs ≡ true
+pub on-loan : (rs : List Row) (n e : ℕ) (vs : List Request) → rises (λ v. v .number) vs ≡ true
     → any (λ o. eqb (o .request) n && eqb (o .lent) e) (loansIn rs vs) ≡ member n (map (λ v. v .number) vs) && member e (endsListed rs (requestOf vs n))
 unfolding loansIn member requestOf firstWith
 on-loan rs n e [] u = unfold any in refl
@@ -124,7 +124,7 @@ on-loan rs n e (v ∷ vs) u =
     pick true q = rw (fresh (eqb-true (v .number) n q)) (or-false (member e (endsListed rs v)))
     pick false q = refl
 
-listed-end : (rs : List Row) (e : ℕ) (v : Request) → member e (endsListed rs v) ≡ true → isEnd (rowOf rs e .kind) ≡ true
+pub listed-end : (rs : List Row) (e : ℕ) (v : Request) → member e (endsListed rs v) ≡ true → isEnd (rowOf rs e .kind) ≡ true
 unfolding endsListed
 listed-end rs e v t = and-r (member e (nonzero (v .items))) (isEnd (rowOf rs e .kind)) (sym (member-filter (λ e. isEnd (rowOf rs e .kind)) (nonzero (v .items)) e) ∙ t)
 

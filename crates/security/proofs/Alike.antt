@@ -1,20 +1,18 @@
 -- Tests that agree up to the first that holds: both refuse alike, or both come to the tests of room.
 use Prim.Native.Nat.{ℕ, _<_, _≤_}
 use native.Mathlib.Omega.{arith}
-use mathlib.Core.Bool.{Bool, true, false, cond, _&&_, true≢false}
+use mathlib.Core.Bool.{Bool, true, false, cond, true≢false}
 use mathlib.Core.List.{List, [], _∷_}
-use mathlib.Core.Path.{_≡_, refl, sym, ap, _∙_}
-use mathlib.Core.Logic.{_⊎_, inl, inr, ⊎-elim}
+use mathlib.Core.Path.{_≡_, refl, sym}
+use mathlib.Core.Logic.{_⊎_, inl, inr}
 use lib.Dec.{leb, eqb}
 use borrow.Author.Tests.{leb-true, ne-eqb}
 use Rattle.rows.specs.Lists.{all}
 use Rattle.rows.specs.Tables.{State}
 use Rattle.rows.proofs.Bools.{and-l, and-r}
-use Rattle.calls.specs.declared.Answer.{Answer}
-use Rattle.calls.specs.declared.Answer.the-variants.{Refused}
 use Rattle.calls.specs.Answers.{refusalOf}
 use Rattle.calls.specs.Rules.{Out, Test, _when_, lowest, refused, judge}
-use Rattle.security.specs.Isolation.{Roomless, Alike, refused as both-refused, no-room}
+use Rattle.security.specs.Isolation.{Alike, refused as both-refused, no-room}
 
 -- the tests of room: 16, 17, 18
 abbrev pub late : List Test → Bool

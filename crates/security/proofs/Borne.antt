@@ -1,9 +1,9 @@
 -- What hangs on a loan: a row that bears a request's number, or a source of which does. Of what is no end this is to be lent, and it never changes.
 use Prim.Native.Nat.{ℕ, zero, suc, _<_}
 use native.Mathlib.Omega.{arith}
-use mathlib.Core.Bool.{Bool, true, false, not, cond, _&&_, _||_}
+use mathlib.Core.Bool.{Bool, true, false, _&&_, _||_}
 use mathlib.Core.List.{List, [], _∷_}
-use mathlib.Core.Path.{_≡_, refl, sym, ap, _∙_, subst}
+use mathlib.Core.Path.{_≡_, refl, sym, ap, _∙_}
 use mathlib.Core.Logic.{_⊎_, inl, inr, ⊎-elim}
 use lib.Dec.{eqb}
 use borrow.Author.Tests.{eqb-true}
@@ -16,9 +16,8 @@ use Rattle.rows.specs.Sound.{rowsRise}
 use Rattle.rows.proofs.Bools.{clash, bool-eq, and-l, or-l, or-r, or-cases, any-eq, member-here, member-there}
 use Rattle.rows.proofs.Lists.{any-at}
 use Rattle.tables.proofs.Sound.{Sound}
-use Rattle.tables.proofs.SoundFacts.{row-below}
 use Rattle.tables.proofs.Standing.{source-lower, via-lower, sources-older, via-listed, nodes-stay}
-use Rattle.tables.proofs.Marking.{marked-stands, marked-reaches, marked-closed, marked-least, marked-seed, marked-source}
+use Rattle.tables.proofs.Marking.{marked-reaches, marked-closed, marked-least, marked-seed}
 use Rattle.calls.specs.declared.Call.{Call}
 use Rattle.security.specs.Sessions.{IsRow}
 use Rattle.security.proofs.Rows.{sources-cases, source-listed, source-no-end, via-end}

@@ -1,22 +1,21 @@
 -- What a borrower has: one step through a lent row at most; every row of a c-list is its process's own or hangs on a loan that it fetched.
 use Prim.Native.Nat.{ℕ, zero, suc, _<_}
 use native.Mathlib.Omega.{arith}
-use mathlib.Core.Bool.{Bool, true, false, not, cond, _&&_, _||_}
+use mathlib.Core.Bool.{Bool, true, false, cond, _||_}
 use mathlib.Core.List.{List, [], _∷_, map}
-use mathlib.Core.Path.{_≡_, refl, sym, ap, _∙_, subst}
+use mathlib.Core.Path.{_≡_, refl, sym, ap, _∙_}
 use mathlib.Core.Logic.{_⊎_, inl, inr, ⊎-elim}
 use lib.Dec.{eqb}
-use borrow.Author.Tests.{eqb-true}
 use Rattle.rows.specs.declared.Row.{Row}
 use Rattle.rows.specs.declared.Request.{Request}
 use Rattle.rows.specs.Lists.{if_then_else_, filter, any, firstWith, rises, member, some}
-use Rattle.rows.specs.Codes.{isOperation, isSubdirectory, isClient, isServer, isEnd, isCopied, inClist, withSystem, isNode, isClist, isSystem}
+use Rattle.rows.specs.Codes.{isOperation, isSubdirectory, isClient, isServer, isEnd, inClist, withSystem, isNode, isClist, isSystem}
 use Rattle.rows.specs.Tables.{State, rowOf, requestOf, numbers, sources, lists, onLoan, isLent}
 use Rattle.rows.specs.Sound.{requestsRise, isFetched}
 use Rattle.rows.proofs.Keyed.{rises-rest}
 use Rattle.tables.proofs.Picked.{older-other}
 use Rattle.closing.proofs.Facts.{copy-listed, lists-open, request-number}
-use Rattle.rows.proofs.Bools.{clash, true-of, false-of, and-l, and-r, or-l, or-r, or-cases, or-fl, or-fr, some-pos, pos-some, none-zero, eqb-self, true-or-false}
+use Rattle.rows.proofs.Bools.{clash, true-of, or-r, or-cases, some-pos, none-zero, eqb-self, true-or-false}
 use Rattle.rows.proofs.Places.{copied-no-end, subdirectory-no-end, clist-not-node}
 use Rattle.tables.proofs.Sound.{Sound}
 use Rattle.tables.proofs.SoundFacts.{clist-is}

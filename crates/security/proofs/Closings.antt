@@ -1,19 +1,18 @@
 -- Calls that close: each is a removal of the rows that go and a closing of the requests that it shuts.
 use Prim.Native.Nat.{ℕ}
-use mathlib.Core.Bool.{Bool, true, false, not, _&&_, _||_}
-use mathlib.Core.List.{List, [], _∷_, map}
-use mathlib.Core.Path.{_≡_, refl, sym, ap, _∙_, subst}
+use mathlib.Core.Bool.{Bool, true, false, not, _||_}
+use mathlib.Core.List.{List, [], _∷_}
+use mathlib.Core.Path.{_≡_, refl, sym, ap, _∙_}
 use mathlib.Core.Logic.{_⊎_, inl, inr, ⊎-elim}
 use lib.Dec.{eqb}
-use native.Mathlib.Omega.{arith}
-use borrow.Author.Tests.{eqb-true, eq-eqb, ne-eqb}
+use borrow.Author.Tests.{eqb-true, eq-eqb}
 use Rattle.rows.specs.declared.Row.{Row}
 use Rattle.rows.specs.declared.Request.{Request}
 use Rattle.rows.specs.Lists.{any, member, some}
 use Rattle.rows.specs.Codes.{isEnd, isClient}
-use Rattle.rows.specs.Tables.{State, noRow, noRequest, rowOf, requestOf, openOn, processAt, numbers, sources, marked, bears, comesFrom, lists}
+use Rattle.rows.specs.Tables.{State, noRow, noRequest, rowOf, requestOf, openOn, processAt, numbers, sources, marked, bears, comesFrom}
 use Rattle.rows.specs.Sound.{rowsRise, requestsRise}
-use Rattle.rows.proofs.Bools.{clash, false-of, bool-eq, and-l, and-r, and-i, or-cases, or-l, or-r, or-fl, or-false, some-pos, pos-some, eqb-self, eqb-sym, not-t, or-map}
+use Rattle.rows.proofs.Bools.{clash, false-of, bool-eq, and-l, and-r, and-i, or-cases, or-l, or-r, or-fl, or-false, pos-some, eqb-self, eqb-sym, not-t, or-map}
 use Rattle.rows.proofs.Agree.{Agree, agree-found}
 use Rattle.rows.proofs.Keyed.{all-first}
 use Rattle.rows.proofs.Lists.{none-all}
@@ -23,9 +22,9 @@ use Rattle.rows.specs.contracts.Represents.{sourcesOlder}
 use Rattle.tables.proofs.Sound.{Sound}
 use Rattle.tables.proofs.SoundFacts.{row-number, row-below, row-object, client-object}
 use Rattle.tables.proofs.Standing.{sources-older, via-listed}
-use Rattle.tables.proofs.Marking.{marked-stands, marked-reaches, marked-closed, marked-least, marked-seed, marked-source}
+use Rattle.tables.proofs.Marking.{marked-reaches, marked-closed, marked-least, marked-seed, marked-source}
 use Rattle.closing.specs.Closing.{closes, isEndOf, isRow}
-use Rattle.closing.proofs.Facts.{end-at, copy-at, copy-listed, lists-open, request-number}
+use Rattle.closing.proofs.Facts.{copy-at, copy-listed, lists-open, request-number}
 use Rattle.closing.proofs.RemovedRows.{Closed, closable-closed}
 use Rattle.calls.specs.declared.Call.{Call}
 use Rattle.calls.specs.declared.Call.the-variants.{Drop, Close}
@@ -34,14 +33,13 @@ use Rattle.kept.proofs.Closing.{request-closable, port-closable, row-closable}
 use Rattle.kept.proofs.Allowed.{DropAllowed}
 use Rattle.kept.proofs.Fetch.{open-there, open-found}
 use Rattle.security.specs.Sessions.{IsRow, IsOpen}
-use Rattle.security.proofs.Rows.{sources-cases, IsCopy, source-no-end, via-end, open-at, open-key, port-client, source-listed, request-low}
+use Rattle.security.proofs.Rows.{sources-cases, source-no-end, via-end, open-at, open-key, port-client, source-listed, request-low}
 use Rattle.security.specs.Changes.{closedBy, discards, falls, goes, shuts}
 
 -- the rows g are removed: just those that go; the requests that pass f close: just those that the call shuts
 pub record Closes (st : State) (c : Call) (g : List ℕ) (f : Request → Bool) : Type 0 where
   pub closed : Closed g f st
   pub gone : (n : ℕ) → IsRow st n → member n g ≡ goes st c n
-  pub stood : (n : ℕ) → member n g ≡ true → IsRow st n
   pub agrees : Agree f (shuts st c) (st .requests)
 
 agree-all : {A B : Type 0} (f g : A → B) → ((x : A) → f x ≡ g x) → (xs : List A) → Agree f g xs
@@ -83,7 +81,6 @@ module _ (st : State) (s : Sound st) (c : Call) where
         record {
           closed = closable-closed (bears q) (q ∷ []) st s (request-closable st s q h);
           gone = λ n t. gone-so n;
-          stood = marked-stands (bears q) (st .rows);
           agrees = agree-all (closes (q ∷ []) g) (shuts st c) same (st .requests);
         }
 
@@ -226,7 +223,6 @@ module _ (st : State) (s : Sound st) (p k : ℕ) (client : isClient (rowOf (st .
       record {
         closed = closable-closed (isEndOf k) [] st s (port-closable st s k);
         gone = gone-port;
-        stood = marked-stands (isEndOf k) (st .rows);
         agrees = port-agrees;
       }
 
@@ -276,6 +272,5 @@ module _ (st : State) (s : Sound st) (p e : ℕ) (a : DropAllowed st p e) where
       record {
         closed = closable-closed (isRow e) [] st s (row-closable st s e (a .no-end));
         gone = gone-row;
-        stood = marked-stands (isRow e) (st .rows);
         agrees = agree-found (λ v. v .number) noRequest (closes [] dropped) (shuts st (Drop p e)) (st .requests) (s .numbers .requests-rise) shut-row;
       }

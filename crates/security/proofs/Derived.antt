@@ -1,48 +1,45 @@
 -- Laws of every row of a session, by its sources: rights are those of the first source, but of a lent copy; what is without a source is the text's;
 -- a copy was made of a row that is in no node; a held row is with the row that it was held through; a subdirectory that is held is not lent.
-use Prim.Native.Nat.{ℕ, zero, suc, _<_}
+use Prim.Native.Nat.{ℕ}
 use native.Mathlib.Omega.{arith}
-use mathlib.Core.Bool.{Bool, true, false, not, cond, _&&_, _||_}
-use mathlib.Core.List.{List, [], _∷_}
+use mathlib.Core.Bool.{Bool, true, false, _||_}
+use mathlib.Core.List.{List}
 use mathlib.Core.Path.{_≡_, refl, sym, ap, _∙_, subst}
-use mathlib.Core.Logic.{_⊎_, inl, inr, ⊎-elim}
-use lib.Dec.{eqb}
-use borrow.Author.Tests.{eqb-true}
+use mathlib.Core.Logic.{⊎-elim}
 use Rattle.rows.specs.declared.Row.{Row}
-use Rattle.rows.specs.Lists.{filter, any, member, some, nonzero}
-use Rattle.rows.specs.Codes.{operation, subdirectory, clientEnd, serverEnd, isOperation, isSubdirectory, isCopied, isEnd, isNode, isClist, inClist, isSystem}
+use Rattle.rows.specs.Lists.{any, member, some}
+use Rattle.rows.specs.Codes.{operation, subdirectory, clientEnd, serverEnd, isOperation, isSubdirectory, isCopied, isEnd, isNode, isClist}
 use Rattle.rows.specs.Tables.{State, noRow, rowOf, processAt, numbers, sources, isLent}
 use Rattle.rows.specs.Setters.{withPlace}
 use Rattle.rows.specs.Sound.{isHeld}
 use Rattle.rows.proofs.Bools.{clash, false-of, and-l, and-r, some-pos, pos-some, none-zero, true-or-false}
-use Rattle.rows.proofs.Places.{copied-no-end, subdirectory-no-end, clist-not-node, system-no-node}
+use Rattle.rows.proofs.Places.{subdirectory-no-end, clist-not-node, system-no-node}
 use Rattle.rows.proofs.RowSources.{row-there, node-there}
 use Rattle.tables.proofs.Sound.{Sound}
 use Rattle.tables.proofs.SoundFacts.{row-below, unlent-unborne}
 use Rattle.tables.proofs.Standing.{via-listed}
-use Rattle.closing.proofs.Facts.{copy-at}
 use Rattle.calls.specs.declared.Call.{Call}
 use Rattle.calls.specs.Rules.{copyOf}
-use Rattle.calls.specs.Loans.{itemRow, copyLent}
+use Rattle.calls.specs.Loans.{copyLent}
 use Rattle.calls.specs.Calls.{portEnd}
-use Rattle.kept.proofs.Allowed.{HoldAllowed, RegisterAllowed}
+use Rattle.kept.proofs.Allowed.{RegisterAllowed}
 use Rattle.kept.proofs.AskCopy.{lendable-there}
 use Rattle.kept.proofs.Hold.{was-held}
 use Rattle.text.specs.Opening.{Form, linesOf}
 use Rattle.text.proofs.Opening.{opened-sound}
 use Rattle.text.specs.Entry.{stateOpened}
-use Rattle.security.specs.Sessions.{IsRow, Log, Session}
+use Rattle.security.specs.Sessions.{IsRow}
 use Rattle.security.specs.Authority.{Arrives, held as a-held, registered as a-registered, client as a-client, server as a-server, copied as a-copied, lent as a-lent, fetched as a-fetched, returned as a-returned}
-use Rattle.security.proofs.Rows.{sources-cases, source-listed, Sort, text-row, registered-row, held-row, end-row, copy, sort-of, node-no-end, source-no-end, through-at, clist-no-system}
+use Rattle.security.proofs.Rows.{sources-cases, source-listed, Sort, text-row, registered-row, held-row, end-row, copy, sort-of, node-no-end, through-at, clist-no-system}
 use Rattle.security.proofs.Numbers.{source-row}
 use Rattle.security.proofs.Nodes.{node-unborne}
-use Rattle.security.proofs.Effects.{heldRow, Effect}
+use Rattle.security.proofs.Effects.{Effect}
 use Rattle.security.proofs.NewRows.{Newly, held, registered, client, server, copied}
 use Rattle.security.proofs.Moves.{item-held, old-moves, moves-of}
 use Rattle.security.proofs.Frames.{same-but-place, same-row, source-kept}
 use Rattle.security.proofs.PlacesKept.{operation-row, end-kinds}
 use Rattle.security.proofs.Opened.{opened-text}
-use Rattle.security.proofs.RowLaws.{RowLaw, every-row}
+use Rattle.security.proofs.RowLaws.{RowLaw}
 use Rattle.security.proofs.Borne.{borne, borne-law, node-free, lent-is, borne-same}
 
 -- ---- nodes, by effects

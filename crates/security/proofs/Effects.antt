@@ -25,7 +25,7 @@ use Rattle.calls.specs.declared.Items.{Items}
 use Rattle.calls.specs.declared.Call.{Call}
 use Rattle.calls.specs.declared.Call.the-variants.{Go, Hold, Register, Drop, Port, Close, Ask, Fetch, Reply, Refuse, Revoke, Comes}
 use Rattle.calls.specs.Rules.{askedOf, withNewRows, copyOf, withRecord}
-use Rattle.calls.specs.Loans.{itemsOf, copies, lent, lendItems, withRequest, handedOver}
+use Rattle.calls.specs.Loans.{itemsOf, handedOver}
 use Rattle.calls.specs.Calls.{heldDepth, registeredDepth, portDepth, portEnd, inUse, done, made, goHome, goThrough, withHeld, withRegistered, withPort, effect}
 use Rattle.kept.proofs.Allowed.{GoAllowed, HoldAllowed, RegisterAllowed, DropAllowed, PortAllowed, AskAllowed, FetchAllowed}
 use Rattle.kept.proofs.Ask.{closed-form}

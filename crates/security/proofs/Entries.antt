@@ -1,49 +1,30 @@
 -- The states that sessions reach are those after any lines, by the entry points on words.
 use Prim.Native.Nat.{ℕ}
-use native.Mathlib.Omega.{arith}
-use mathlib.Core.Bool.{Bool, true, false, not, cond}
+use mathlib.Core.Bool.{true}
 use mathlib.Core.List.{List, [], _∷_, _++_}
 use mathlib.Core.Path.{_≡_, refl, sym, ap, _∙_, subst}
-use lib.Dec.{leb, eqb}
-use borrow.Author.Tests.{leb-true, eqb-true, eqb-false}
-use Rattle.rows.specs.Lists.{all}
-use Rattle.rows.specs.Tables.{State, isListed}
+use Rattle.rows.specs.Tables.{State}
 use Rattle.rows.specs.Layout.{rightLengths, stateOf}
-use Rattle.rows.proofs.Bools.{and-l}
 use Rattle.tables.proofs.Sound.{Sound}
 use Rattle.tables.proofs.Words.{state-words}
 use Rattle.calls.specs.declared.Call.{Call}
 use Rattle.calls.specs.declared.Call.the-variants.{Go, Hold, Register, Drop, Port, Close, Ask, Fetch, Reply, Refuse, Revoke, Comes}
-use Rattle.calls.specs.declared.Answer.{Answer}
-use Rattle.calls.specs.Answers.{refusalOf, valuesOf}
-use Rattle.calls.specs.Rules.{Out, _when_, isRefusal, refused, askedOf}
+use Rattle.calls.specs.Answers.{valuesOf}
+use Rattle.calls.specs.Rules.{Out}
 use Rattle.calls.specs.Calls.{fetchedAnswer, effect}
-use Rattle.kept.proofs.Judged.{numbered, judged}
-use Rattle.text.specs.declared.Reading.{Reading}
-use Rattle.text.specs.declared.Reading.the-variants.{Asks, Crowded, Refused as BadLine}
-use Rattle.text.specs.CallLines.{readingOf}
-use Rattle.text.specs.Opening.{Form, opens, linesOf, openingOf}
+use Rattle.text.specs.Opening.{Form}
 use Rattle.text.specs.Answers.{printed, okText}
-use Rattle.text.specs.Entry.{Replied, answered, callOn, replyWith, callEntry, stateOpened, openedBy, openEntry}
-use Rattle.text.proofs.Opening.{opened-sound}
-use Rattle.text.proofs.Readings.{reading-refused}
-use Rattle.history.specs.Reading.{answerRead, accepts}
+use Rattle.text.specs.Entry.{Replied, callOn, replyWith, callEntry, stateOpened, openedBy, openEntry}
+use Rattle.history.specs.Reading.{accepts}
 use Rattle.history.specs.Demand3.{lentAfter, repliesTo, stateIn}
 use Rattle.history.proofs.Inv.{firstValue}
-use Rattle.history.proofs.Spoken.{call-spoken}
-use Rattle.history.proofs.Answered.{read-accepted, read-refused, read-ok0}
-use Rattle.history.proofs.KeptCalls.{call-kept}
+use Rattle.history.proofs.Answered.{read-ok0}
 use Rattle.history.proofs.Kept.{opened-as, opening-fits, call-on-words}
-use Rattle.security.specs.Sessions.{Step, Log, logged, Session, opened, called, noteFetchCall, noteFetchReading, noteFetch, fetchesAfter, Reached, Reaches, Entries}
-use Rattle.security.proofs.Sessions.{refusal-not-zero, Taken, line-taken, session-sound}
+use Rattle.security.specs.Sessions.{Log, logged, Session, opened, called, noteFetchCall, noteFetchReading, noteFetch, fetchesAfter, Reached, Reaches, Entries}
+use Rattle.security.proofs.Sessions.{session-sound}
+use Rattle.security.proofs.Lines.{Heard, refuses, allows, heard}
 
--- ---- a line: it is refused, or asks for a call that is accepted
-crowded-refused : (st : State) (p : ℕ) → refusalOf (answered st (Crowded p) .answer) ≡ 0 → ⊥
-unfolding answered refused refusalOf numbered all
-crowded-refused st p =
-    judged (λ o. refusalOf (o .answer) ≡ 0 → ⊥) st (5 when not (isListed (st .processes) p) ∷ []) (refused st 6) refusal-not-zero refl
-    (λ _ z. refusal-not-zero 6 refl z)
-
+-- ---- a line
 -- an accepted answer to a fetch names the request
 answer-logged : (st : State) (log : Log) (c : Call) → noteFetchCall c (firstValue (valuesOf (effect st c .answer))) log ≡ logged st c log
 unfolding noteFetchCall logged effect fetchedAnswer valuesOf firstValue
@@ -64,38 +45,18 @@ module _ (st : State) (s : Sound st) (log : Log) (line : List ℕ) where
   abbrev o : Out
   o = callOn st line
 
-  note-refused : (refusalOf (o .answer) ≡ 0 → ⊥) → noteFetch log line (printed (o .answer)) ≡ log
-  unfolding noteFetch accepts
-  note-refused h = rw (read-refused (o .answer) (let n = h in omega arith)) refl
-
-  note-accepted : (c : Call) → readingOf line ≡ Asks c → refusalOf (o .answer) ≡ 0 → noteFetch log line (printed (o .answer)) ≡ logged st c log
-  unfolding noteFetch noteFetchReading
-  note-accepted c e z =
-      let k = call-spoken st s line in
-      let g = read-accepted (o .answer) z (k .has-value z) (k .in-range z) in
-      let t : Taken st c (callOn st line) = line-taken st s line c e z in
-      rw (g .good, g .value, e) (ap (λ x. noteFetchCall c (firstValue (valuesOf (x .answer))) log) (t .is) ∙ answer-logged st log c)
-
   line-session : (fs : List Form) → Session fs log st → Session fs (noteFetch log line (printed (o .answer))) (o .after)
-  unfolding callOn answered refused refusalOf
-  line-session fs x = pick (eqb (refusalOf (o .answer)) 0) refl
+  unfolding noteFetch noteFetchReading accepts
+  line-session fs x = pick (heard st s line)
     where
-      Goal : Type 0
-      Goal = Session fs (noteFetch log line (printed (o .answer))) (o .after)
-
-      at : (log′ : Log) (st′ : State) → noteFetch log line (printed (o .answer)) ≡ log′ → o .after ≡ st′ → Session fs log′ st′ → Goal
+      at : (log′ : Log) (st′ : State) → noteFetch log line (printed (o .answer)) ≡ log′ → o .after ≡ st′ → Session fs log′ st′ → Session fs (noteFetch log line (printed (o .answer))) (o .after)
       at log′ st′ a b x = subst (λ l. Session fs l (o .after)) (sym a) (subst (Session fs log′) (sym b) x)
 
-      accepted : refusalOf (o .answer) ≡ 0 → (r : Reading) → readingOf line ≡ r → Goal
-      accepted z (Asks c) e = at (logged st c log) (o .after) (note-accepted c e z) refl (called log st (o .after) c x (record { line = line; reads = e; accepted = z; leaves = refl }))
-      accepted z (Crowded p) e = absurd (crowded-refused st p (sym (ap (λ r. refusalOf (answered st r .answer)) e) ∙ z))
-      accepted z (BadLine k) e = absurd (refusal-not-zero k (reading-refused line k e) (sym (ap (λ r. refusalOf (answered st r .answer)) e) ∙ z))
-
-      pick : (b : Bool) → eqb (refusalOf (o .answer)) 0 ≡ b → Goal
-      pick true q = accepted (eqb-true (refusalOf (o .answer)) 0 q) (readingOf line) refl
-      pick false q =
-          let n = eqb-false (refusalOf (o .answer)) 0 q in
-          at log st (note-refused n) (call-spoken st s line .untouched (omega arith)) x
+      pick : Heard st line → Session fs (noteFetch log line (printed (o .answer))) (o .after)
+      pick (refuses r u) = at log st (rw r refl) u x
+      pick (allows c e z a i g) =
+          at (logged st c log) (o .after) (rw (g .good, g .value, e) (answer-logged st log c)) refl
+          (called log st (o .after) c x (record { line = line; reads = e; accepted = z; leaves = refl }))
 
 -- ---- on words
 record Along (fs : List Form) (log : Log) (w : Replied) : Type 0 where

@@ -1,20 +1,18 @@
 -- What an accepted call leaves of one row that was there: all but its place, and the place too of what is no end and not with the system.
 use Prim.Native.Nat.{ℕ}
-use mathlib.Core.Bool.{Bool, true, false, not}
-use mathlib.Core.List.{List}
+use mathlib.Core.Bool.{true, false}
 use mathlib.Core.Path.{_≡_, refl, sym, ap, _∙_, subst}
-use mathlib.Core.Logic.{_⊎_, inl, inr, ⊎-elim}
+use mathlib.Core.Logic.{⊎-elim}
 use Rattle.rows.specs.declared.Row.{Row}
-use Rattle.rows.specs.Lists.{member, some}
+use Rattle.rows.specs.Lists.{some}
 use Rattle.rows.specs.Codes.{isEnd, isSystem, withSystem}
-use Rattle.rows.specs.Tables.{State, rowOf, numbers}
+use Rattle.rows.specs.Tables.{State, rowOf}
 use Rattle.rows.specs.Setters.{withPlace}
 use Rattle.rows.proofs.Bools.{clash, not-t, eqb-self}
 use Rattle.tables.proofs.Sound.{Sound}
 use Rattle.calls.specs.declared.Call.{Call}
 use Rattle.security.specs.Sessions.{IsRow}
-use Rattle.security.specs.Changes.{goes, placeAfter, Touches}
-use Rattle.security.specs.Authority.{Moves}
+use Rattle.security.specs.Changes.{goes, placeAfter}
 use Rattle.security.proofs.Rows.{source-listed}
 use Rattle.security.proofs.Numbers.{source-row}
 use Rattle.security.proofs.Effects.{Effect}

@@ -1,41 +1,40 @@
 -- Isolation: with equal views every call of the process meets tests that agree.
-use Prim.Native.Nat.{ℕ, suc, max, _+_, _<_, _≤_}
+use Prim.Native.Nat.{ℕ, suc, max, _<_}
 use native.Mathlib.Omega.{arith}
-use mathlib.Core.Bool.{Bool, true, false, not, cond, _&&_, _||_}
+use mathlib.Core.Bool.{Bool, true, false, not, _&&_, _||_}
 use mathlib.Core.List.{List, [], _∷_, map}
 use mathlib.Core.Path.{_≡_, refl, sym, ap, ap₂, _∙_, subst}
 use mathlib.Core.Logic.{_⊎_, inl, inr, ⊎-elim}
-use lib.Dec.{leb, ltb, eqb}
+use lib.Dec.{leb, eqb}
 use lib.ListN.{getD}
 use borrow.Author.Tests.{eqb-true, eq-eqb, ne-eqb, leb-true, le-ltb}
 use Rattle.rows.specs.declared.Row.{Row}
 use Rattle.rows.specs.declared.Request.{Request}
-use Rattle.rows.specs.declared.Process.{Process}
-use Rattle.rows.specs.Lists.{if_then_else_, filter, any, all, member, between, some}
+use Rattle.rows.specs.Lists.{if_then_else_, any, all, member, between, some}
 use Rattle.rows.specs.Limits.{greatestDepth}
 use Rattle.rows.specs.Codes.{isOperation, isSubdirectory, isClient, isServer, isEnd, inNode, inClist, isNode, mayHold, mayTransfer, mayRegister, within}
-use Rattle.rows.specs.Tables.{State, noRow, noRequest, rowOf, requestOf, processAt, isListed, numbers, sources, depthOver, lists, onLoan, isLent}
-use Rattle.rows.specs.Sound.{isFetched, hasRightDepth, depthsRight, sourceOf, viaOf}
-use Rattle.rows.proofs.Bools.{clash, false-of, and-l, and-r, not-t, not-f, all-filter, or-fl, or-fr, or-cases, none-zero, pos-some, some-pos, zero-none, true-or-false, any-eq}
+use Rattle.rows.specs.Tables.{State, noRow, noRequest, rowOf, requestOf, processAt, isListed, numbers, sources, depthOver, onLoan, isLent}
+use Rattle.rows.specs.Sound.{isFetched, hasRightDepth, depthsRight}
+use Rattle.rows.proofs.Bools.{clash, and-l, and-r, not-t, not-f, all-filter, or-fl, or-fr, none-zero, pos-some, true-or-false, any-eq}
 use Rattle.rows.proofs.Keyed.{first-none}
 use Rattle.rows.proofs.Lists.{none-all, filter-same}
-use Rattle.rows.proofs.Places.{client-is-end, subdirectory-no-end, clist-not-node}
+use Rattle.rows.proofs.Places.{client-is-end, subdirectory-no-end}
 use Rattle.tables.proofs.Sound.{Sound, sound-open}
-use Rattle.tables.proofs.SoundFacts.{row-number, row-object, client-object, clist-there, active-node, not-lent-held, unlent-unborne}
-use Rattle.tables.proofs.Standing.{sourced-at, standing-shape}
+use Rattle.tables.proofs.SoundFacts.{row-number, row-object, client-object, clist-there, active-node}
+use Rattle.tables.proofs.Standing.{sourced-at}
 use Rattle.closing.proofs.Facts.{request-number}
 use Rattle.calls.specs.declared.Item.{Item}
 use Rattle.calls.specs.declared.Items.{Items}
 use Rattle.calls.specs.declared.Call.{Call}
 use Rattle.calls.specs.declared.Call.the-variants.{Go, Hold, Register, Drop, Port, Close, Ask, Fetch, Reply, Refuse, Revoke, Comes}
-use Rattle.calls.specs.declared.Answer.the-variants.{Done, Made, Fetched}
+use Rattle.calls.specs.declared.Answer.the-variants.{Fetched}
 use Rattle.calls.specs.Answers.{refusalOf}
-use Rattle.calls.specs.Rules.{Out, Test, _when_, lowest, refused, judge, notHeld, hasOpen, askedOf, tooDeep, rowsFull, requestsFull, numbersSpent}
+use Rattle.calls.specs.Rules.{_when_, lowest, refused, judge, notHeld, hasOpen, askedOf, tooDeep}
 use Rattle.calls.specs.Loans.{itemsOf, itemRow, moves, copies, copyDepth}
-use Rattle.calls.specs.Calls.{heldDepth, registeredDepth, portDepth, inUse, lacksRight, isBusy, lentEnds, isAway, refusalsGo, refusalsHold, refusalsRegister, refusalsDrop, refusalsPort, refusalsClose, refusalsAsk, refusalsFetch, refusalsReply, refusalsRefuse, refusalsRevoke, refusals, done, made, fetchedAnswer, effect, perform, callerOf}
+use Rattle.calls.specs.Calls.{registeredDepth, inUse, lacksRight, isBusy, lentEnds, isAway, refusalsGo, refusalsHold, refusalsRegister, refusalsDrop, refusalsPort, refusalsClose, refusalsAsk, refusalsFetch, refusalsReply, refusalsRefuse, refusalsRevoke, refusals, done, made, fetchedAnswer, effect, perform, callerOf}
 use Rattle.text.specs.declared.Reading.the-variants.{Asks}
 use Rattle.text.specs.Entry.{callerUnlisted, answered}
-use Rattle.security.specs.Isolation.{SeenEnd, SeenRequest, SeenRow, View, seenEnd, seenRequest, nothingSeen, seenRow, view, Alike, refused as both-refused, same as same-answer, new-number, ViewDecides, Isolation}
+use Rattle.security.specs.Isolation.{SeenEnd, seenEnd, seenRequest, nothingSeen, seenRow, view, Alike, refused as both-refused, same as same-answer, new-number, ViewDecides, Isolation}
 use Rattle.security.proofs.Rows.{request-low, through-at}
 use Rattle.security.proofs.Steps.{step-sound}
 use Rattle.security.proofs.Reach.{no-row-zero}

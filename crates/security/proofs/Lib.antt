@@ -1,6 +1,8 @@
 -- The proofs of the security theorems. In reading order, a line a file:
 -- an accepted call had its effect; what an opening has and every accepted call keeps, every session has
 pub mod Sessions
+-- a line: refused, or an allowed call that has its effect
+pub mod Lines
 -- the states that sessions reach are those after any lines, by the entry points on words
 pub mod Entries
 -- calls that close: what is removed, and what closes with it
@@ -48,5 +50,7 @@ pub mod Room
 pub mod Seen
 pub mod Alike
 pub mod Isolation
+-- what the history has on loan is what its words say
+pub mod OnLoan
 -- all of them, by name
 pub mod Security

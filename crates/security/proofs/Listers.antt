@@ -3,15 +3,14 @@ use Prim.Native.Nat.{ℕ}
 use mathlib.Core.Bool.{Bool, true, false, not, cond, _&&_, _||_}
 use mathlib.Core.List.{List, [], _∷_, map}
 use mathlib.Core.Path.{_≡_, refl, sym, ap, _∙_}
-use mathlib.Core.Logic.{_⊎_, inl, inr, ⊎-elim}
 use lib.Dec.{eqb}
 use borrow.Author.Tests.{eqb-true}
 use Rattle.rows.specs.declared.Request.{Request}
 use Rattle.rows.specs.Lists.{if_then_else_, filter, any, all, each, firstWith, rises, member, some}
-use Rattle.rows.specs.Codes.{inClist, withSystem, fetchedMark}
+use Rattle.rows.specs.Codes.{inClist, withSystem}
 use Rattle.rows.specs.Tables.{noRequest, requestOf, lists}
 use Rattle.rows.specs.Sound.{isFetched, olderFetchedBy}
-use Rattle.rows.proofs.Bools.{clash, false-of, and-l, and-r, or-fl, or-fr, or-r, not-t, eqb-self, eqb-sym, eqb-sym-f, and-true, and-rf, all-mono}
+use Rattle.rows.proofs.Bools.{clash, false-of, and-l, and-r, or-fl, or-fr, not-t, eqb-sym, eqb-sym-f, and-true, all-mono}
 use Rattle.rows.proofs.Keyed.{rises-rest, rises-fresh, all-first}
 use Rattle.tables.proofs.Picked.{all-keys, first-here, first-other}
 use Rattle.tables.proofs.Awaits.{older-listers}

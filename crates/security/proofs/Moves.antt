@@ -1,20 +1,20 @@
 -- Authority moves only by the rules: each row after an accepted call is as it was, or came to its place in one of eight ways.
-use Prim.Native.Nat.{ℕ, suc, _<_, _≤_, _/_, _%_}
+use Prim.Native.Nat.{ℕ, _≤_, _/_, _%_}
 use native.Mathlib.Omega.{arith}
 use mathlib.Core.Bool.{Bool, true, false, not, cond, _&&_, _||_}
 use mathlib.Core.List.{List, [], _∷_, map}
 use mathlib.Core.Path.{_≡_, refl, sym, ap, _∙_, subst}
 use mathlib.Core.Logic.{_⊎_, inl, inr, ⊎-elim}
-use lib.Dec.{leb, eqb}
+use lib.Dec.{eqb}
 use borrow.Author.Tests.{eqb-true, le-leb}
 use Rattle.rows.specs.declared.Row.{Row}
 use Rattle.rows.specs.declared.Request.{Request}
 use Rattle.rows.specs.Lists.{any, all, firstWith, member, some}
-use Rattle.rows.specs.Codes.{isEnd, inNode, inClist, withSystem, isSystem, mayTransfer, within}
-use Rattle.rows.specs.Tables.{State, noRequest, rowOf, requestOf, processAt, numbers, lists}
+use Rattle.rows.specs.Codes.{isEnd, inClist, withSystem, isSystem, mayTransfer, within}
+use Rattle.rows.specs.Tables.{State, noRequest, rowOf, requestOf, numbers, lists}
 use Rattle.rows.specs.Setters.{withPlace}
-use Rattle.rows.specs.Sound.{requestsRise, isFetched, olderFetched, awaitsFetch, same}
-use Rattle.rows.proofs.Bools.{clash, true-of, and-l, and-r, and-i, or-l, or-r, or-cases, or-fl, or-fr, not-t, not-f, eqb-sym, any-mono, true-or-false}
+use Rattle.rows.specs.Sound.{requestsRise, isFetched, olderFetched, awaitsFetch}
+use Rattle.rows.proofs.Bools.{clash, true-of, and-l, and-r, and-i, or-l, or-r, or-cases, or-fl, or-fr, not-t, not-f, eqb-sym, true-or-false}
 use Rattle.rows.proofs.Keyed.{all-first}
 use Rattle.tables.proofs.Sound.{Sound}
 use Rattle.tables.proofs.SoundFacts.{row-number, row-below, eq-same}
@@ -22,13 +22,11 @@ use Rattle.tables.proofs.Awaits.{listers-fetched}
 use Rattle.closing.specs.Closing.{oldestListing, listedIn}
 use Rattle.closing.proofs.Lookups.{left-not-gone}
 use Rattle.calls.specs.declared.Item.{Item}
-use Rattle.calls.specs.declared.Items.{Items}
 use Rattle.calls.specs.declared.Call.{Call}
-use Rattle.calls.specs.declared.Call.the-variants.{Go, Hold, Register, Port, Ask, Fetch, Comes}
+use Rattle.calls.specs.declared.Call.the-variants.{Ask, Fetch}
 use Rattle.calls.specs.Rules.{notHeld, askedOf, copyOf}
 use Rattle.calls.specs.Loans.{itemsOf, itemRow, moves, copyLent}
 use Rattle.calls.specs.Calls.{lacksRight, portEnd}
-use Rattle.kept.proofs.Allowed.{HoldAllowed, AskAllowed, FetchAllowed}
 use Rattle.kept.proofs.AskCopy.{lendable}
 use Rattle.kept.proofs.ClosingPlaces.{listed-end}
 use Rattle.kept.proofs.Fetch.{asked-found}
@@ -36,10 +34,10 @@ use Rattle.kept.proofs.Loans.{held-so}
 use Rattle.history.proofs.Returns.{Oldest, oldest-is, oldest-least}
 use Rattle.security.specs.Sessions.{IsRow, IsOpen, Has}
 use Rattle.security.specs.Changes.{goes, shuts, placeBack, placeAfter, Touches}
-use Rattle.security.specs.Authority.{IsCopyOf, ByHold, ByRegister, ByPort, ByLending, LentAway, ByFetch, ByClosing, Arrives, held, registered, client, server, copied, lent, fetched, returned, Moves}
+use Rattle.security.specs.Authority.{ByClosing, Arrives, held, registered, client, server, copied, lent, fetched, returned, Moves}
 use Rattle.security.proofs.Rows.{item-moves, asked-lists}
 use Rattle.security.proofs.Closings.{Closes}
-use Rattle.security.proofs.Effects.{Adds, Effect, tells, moves-to, adds, asks, fetches, shuts-off, Plain}
+use Rattle.security.proofs.Effects.{Effect, tells, moves-to, adds, asks, fetches, shuts-off, Plain}
 use Rattle.security.proofs.Touches.{place-own, any-agree, adds-still, touches}
 use Rattle.security.proofs.NewRows.{Newly, held as newly-held, registered as newly-registered, client as newly-client, server as newly-server, copied as newly-copied, new-row}
 

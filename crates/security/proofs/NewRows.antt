@@ -1,23 +1,21 @@
 -- The rows that an accepted call makes: held, registered, an end of a new port, a lent copy.
-use Prim.Native.Nat.{ℕ, suc, _+_, _<_, _≤_}
+use Prim.Native.Nat.{ℕ, suc, _<_, _≤_}
 use native.Mathlib.Omega.{arith}
-use mathlib.Core.Bool.{Bool, true, false, not, cond, _&&_, _||_}
+use mathlib.Core.Bool.{Bool, true, not, cond, _&&_}
 use mathlib.Core.List.{List, [], _∷_, _++_}
 use mathlib.Core.Path.{_≡_, refl, sym, ap, _∙_, subst}
-use mathlib.Core.Logic.{_⊎_, inl, inr, ⊎-elim}
+use mathlib.Core.Logic.{_⊎_, inl, inr}
 use lib.Dec.{eqb}
-use lib.ListN.{length}
-use borrow.Author.Tests.{eqb-true, eqb-false, ne-eqb}
+use borrow.Author.Tests.{ne-eqb}
 use Rattle.rows.specs.declared.Row.{Row}
-use Rattle.rows.specs.Lists.{filter, any, all, firstWith, member}
+use Rattle.rows.specs.Lists.{any, all, firstWith, member}
 use Rattle.rows.specs.Codes.{inClist, withSystem}
 use Rattle.rows.specs.Tables.{State, rowOf, numbers, lists}
 use Rattle.rows.specs.Setters.{withPlace}
 use Rattle.rows.proofs.Keyed.{keys-map}
 use Rattle.closing.proofs.Lookups.{left-keys}
-use Rattle.rows.proofs.Bools.{clash, and-l, and-r, and-i, or-l, or-r, all-and, all-filter, eqb-self, member-cases}
+use Rattle.rows.proofs.Bools.{and-l, and-r, and-i, or-l, or-r, all-and, all-filter, eqb-self, member-cases}
 use Rattle.tables.proofs.Sound.{Sound}
-use Rattle.tables.proofs.SoundFacts.{row-below}
 use Rattle.calls.specs.declared.Item.{Item}
 use Rattle.calls.specs.declared.Items.{Items}
 use Rattle.calls.specs.declared.Call.{Call}
@@ -29,12 +27,10 @@ use Rattle.kept.proofs.Allowed.{HoldAllowed, RegisterAllowed, PortAllowed, AskA
 use Rattle.kept.proofs.AskItems.{isItem, stacked}
 use Rattle.kept.proofs.Moved.{moved, moved-number}
 use Rattle.kept.proofs.AskCopy.{lendable}
-use Rattle.kept.proofs.AskStack.{row-stacked, numbers-stacked}
-use Rattle.kept.proofs.AskFacts.{lentRows, askedRows, askedState, old-number}
+use Rattle.kept.proofs.AskStack.{row-stacked}
+use Rattle.kept.proofs.AskFacts.{lentRows, askedRows}
 use Rattle.security.specs.Sessions.{IsRow}
-use Rattle.security.specs.Changes.{Touches, goes}
 use Rattle.security.proofs.Effects.{heldRow, registeredRow, clientRow, serverRow, Adds, holds, registers, makes, Effect, tells, moves-to, adds, asks, fetches, shuts-off}
-use Rattle.security.proofs.Touches.{touches}
 
 -- an item of the ask, as it is named there
 abbrev pub Names : List Item → Item → Type 0

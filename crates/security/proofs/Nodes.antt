@@ -1,18 +1,17 @@
 -- Rows of nodes stay as they are; every port has both its ends or none.
 use Prim.Native.Nat.{ℕ, suc, pred}
 use native.Mathlib.Omega.{arith}
-use mathlib.Core.Bool.{Bool, true, false, not, cond, _&&_, _||_}
-use mathlib.Core.List.{List, [], _∷_}
+use mathlib.Core.Bool.{true, false, not, _&&_}
+use mathlib.Core.List.{[]}
 use mathlib.Core.Path.{_≡_, refl, sym, ap, _∙_, subst}
 use mathlib.Core.Logic.{_⊎_, inl, inr, ⊎-elim}
 use lib.Dec.{eqb}
 use borrow.Author.Tests.{eqb-true, eq-eqb}
 use Rattle.rows.specs.declared.Row.{Row}
-use Rattle.rows.specs.Lists.{filter, all, member, some}
 use Rattle.rows.specs.Codes.{isClient, isServer, isEnd, isNode}
 use Rattle.rows.specs.Tables.{State, noRow, rowOf, numbers}
 use Rattle.rows.specs.Sound.{rowsRise, isPairedWith, otherEnd}
-use Rattle.rows.proofs.Bools.{clash, false-of, and-l, and-r, and-i, or-cases, not-t, some-pos, true-or-false}
+use Rattle.rows.proofs.Bools.{clash, false-of, and-l, and-r, and-i, or-cases, some-pos, true-or-false}
 use Rattle.rows.proofs.RowSources.{node-there, end-there}
 use Rattle.tables.proofs.Picked.{all-found}
 use Rattle.tables.proofs.Sound.{Sound}
@@ -22,7 +21,7 @@ use Rattle.history.specs.Demand3.{endsOf, TwoEnds}
 use Rattle.history.proofs.Find.{server-other}
 use Rattle.history.proofs.Laws.{nodes-never-vanish}
 use Rattle.history.proofs.TwoEnds.{two-ends}
-use Rattle.security.specs.Sessions.{IsRow, Step, Later, EverySession}
+use Rattle.security.specs.Sessions.{IsRow, Step}
 use Rattle.security.specs.Nodes.{NodesStay, EndsTogether}
 use Rattle.security.proofs.Sessions.{session-sound, later-has}
 use Rattle.security.proofs.Rows.{filter-none, Sort, text-row, registered-row, held-row, end-row, copy, sort-of, node-no-end}

@@ -4,32 +4,30 @@ use native.Mathlib.Omega.{arith}
 use mathlib.Core.Bool.{Bool, true, false, _||_}
 use mathlib.Core.List.{List, [], _∷_, _++_, map}
 use mathlib.Core.Path.{_≡_, refl, sym, ap, _∙_, subst}
-use mathlib.Core.Logic.{_⊎_, inl, inr, ⊎-elim, _↔_}
+use mathlib.Core.Logic.{_⊎_, inl, inr, ⊎-elim}
 use lib.Dec.{eqb}
 use lib.ListN.{length}
 use borrow.Author.Tests.{eqb-true, eqb-false}
 use Rattle.rows.specs.declared.Row.{Row}
 use Rattle.rows.specs.Lists.{any, member, some}
-use Rattle.rows.specs.Tables.{State, noRow, rowOf, requestOf, processAt, numbers, sources, lists}
-use Rattle.rows.specs.Sound.{requestsRise, sourceOf, viaOf}
-use Rattle.rows.proofs.Bools.{clash, some-pos, pos-some, member-here, member-there}
+use Rattle.rows.specs.Tables.{State, noRow, rowOf, requestOf, numbers, sources}
+use Rattle.rows.specs.Sound.{requestsRise}
+use Rattle.rows.proofs.Bools.{some-pos, pos-some, member-here, member-there}
 use Rattle.rows.proofs.Keyed.{rises-range}
 use Rattle.rows.proofs.RowSources.{row-there, shape-sources, client-there}
 use Rattle.tables.proofs.Sound.{Sound, sound-open}
 use Rattle.tables.proofs.SoundFacts.{row-below, requests-top, next-some}
 use Rattle.tables.proofs.Standing.{standing-shape}
 use Rattle.closing.proofs.Facts.{copy-listed, lists-open}
-use Rattle.calls.specs.declared.Answer.{Answer}
-use Rattle.calls.specs.declared.Answer.the-variants.{Done, Made, Fetched, Told, Refused}
+use Rattle.calls.specs.declared.Answer.the-variants.{Made}
 use Rattle.calls.specs.declared.Call.{Call}
 use Rattle.calls.specs.declared.Call.the-variants.{Go, Hold, Register, Drop, Port, Close, Ask, Fetch, Reply, Refuse, Revoke, Comes}
-use Rattle.calls.specs.Rules.{Out, isRefusal, refused, withNewRows, copyOf}
+use Rattle.calls.specs.Rules.{Out, refused, withNewRows, copyOf}
 use Rattle.calls.specs.Loans.{itemsOf, copies, newRequest}
 use Rattle.calls.specs.Calls.{portEnd, done, made, fetchedAnswer, effect}
 use Rattle.kept.proofs.Allowed.{AskAllowed}
 use Rattle.kept.proofs.AskFacts.{lentRows, askedRows, askedState}
 use Rattle.kept.proofs.AskStack.{bears-stacked}
-use Rattle.text.specs.Entry.{callOn}
 use Rattle.history.proofs.Allowed.{Allowed, line-has}
 use Rattle.security.specs.Sessions.{IsRow, IsOpen, Step, EveryStep}
 use Rattle.security.specs.Changes.{takes, Touches}

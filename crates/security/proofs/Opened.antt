@@ -1,13 +1,10 @@
 -- The tables that an opening leaves: every row is a row of the text, every process is in its prime node, nothing is asked.
 use Prim.Native.Nat.{ℕ}
-use mathlib.Core.Bool.{true, _&&_}
-use mathlib.Core.List.{List, []}
-use mathlib.Core.Path.{_≡_, refl}
+use mathlib.Core.Bool.{true}
+use mathlib.Core.List.{List}
+use mathlib.Core.Path.{_≡_}
 use borrow.Author.Tests.{eqb-true}
-use lib.Dec.{eqb}
-use Rattle.rows.specs.Lists.{all}
-use Rattle.rows.specs.Codes.{isCopied, isNode}
-use Rattle.rows.specs.Tables.{State, noRow, rowOf, numbers}
+use Rattle.rows.specs.Tables.{noRow, rowOf, numbers}
 use Rattle.rows.specs.Sound.{isOpening}
 use Rattle.rows.proofs.Bools.{and-l, and-r}
 use Rattle.rows.proofs.Keyed.{all-first}

@@ -1,21 +1,20 @@
 -- Where everything is: an invariant of sessions. Of rows that were there by the kind of effect, of new rows by how they are made.
-use Prim.Native.Nat.{ℕ, zero, suc, _<_, _≤_}
+use Prim.Native.Nat.{ℕ}
 use native.Mathlib.Omega.{arith}
-use mathlib.Core.Bool.{Bool, true, false, not, cond, _&&_, _||_}
-use mathlib.Core.List.{List, [], _∷_, map}
+use mathlib.Core.Bool.{Bool, true, false, not, cond, _&&_}
+use mathlib.Core.List.{List, _∷_, map}
 use mathlib.Core.Path.{_≡_, refl, sym, ap, _∙_, subst}
 use mathlib.Core.Logic.{_⊎_, inl, inr, ⊎-elim}
 use lib.Dec.{ltb, eqb}
-use borrow.Author.Tests.{eqb-true, eqb-false, eq-eqb, ne-eqb}
+use borrow.Author.Tests.{eqb-true}
 use Rattle.rows.specs.declared.Row.{Row}
 use Rattle.rows.specs.declared.Request.{Request}
-use Rattle.rows.specs.Lists.{if_then_else_, filter, any, all, firstWith, rises, member, some}
-use Rattle.rows.specs.Codes.{isOperation, isClient, isEnd, inClist, withSystem, isClist, isSystem, fetchedMark}
+use Rattle.rows.specs.Lists.{filter, any, all, member, some}
+use Rattle.rows.specs.Codes.{isEnd, inClist}
 use Rattle.rows.specs.Tables.{State, noRequest, rowOf, requestOf, numbers, lists}
 use Rattle.rows.specs.Setters.{withPlace}
 use Rattle.rows.specs.Sound.{requestsRise, isFetched, olderFetched}
-use Rattle.rows.proofs.Bools.{clash, false-of, bool-eq, and-l, and-r, or-l, or-r, or-cases, not-t, some-pos, pos-some, eqb-self, eqb-sym, all-mono, true-or-false}
-use Rattle.rows.proofs.Keyed.{rises-rest, rises-older, all-first}
+use Rattle.rows.proofs.Bools.{clash, false-of, bool-eq, and-l, and-r, all-mono, true-or-false}
 use Rattle.tables.proofs.Picked.{all-found}
 use Rattle.tables.proofs.Sound.{Sound}
 use Rattle.tables.proofs.SoundFacts.{row-number, row-below, requests-between}
@@ -24,19 +23,18 @@ use Rattle.closing.proofs.Facts.{request-number}
 use Rattle.closing.proofs.Lookups.{row-after, returned-keeps, returned-same, returned-place, left-not-gone}
 use Rattle.calls.specs.declared.Items.{Items}
 use Rattle.calls.specs.declared.Call.{Call}
-use Rattle.calls.specs.declared.Call.the-variants.{Go, Ask, Fetch, Comes}
+use Rattle.calls.specs.declared.Call.the-variants.{Ask, Fetch}
 use Rattle.calls.specs.Rules.{askedOf, withNewRows, withRecord}
 use Rattle.calls.specs.Loans.{itemsOf, newRequest, nowFetched, handedOver}
 use Rattle.kept.proofs.Allowed.{AskAllowed, FetchAllowed}
-use Rattle.kept.proofs.AddRow.{none-lists}
 use Rattle.kept.proofs.AskItems.{isItem}
-use Rattle.kept.proofs.AskFacts.{asked, askedState, lists-named, lists-cases, named-held}
+use Rattle.kept.proofs.AskFacts.{asked, lists-named, lists-cases, named-held}
 use Rattle.kept.proofs.ClosingPlaces.{listed-end}
 use Rattle.kept.proofs.Fetch.{asked-found, asked-there}
-use Rattle.security.specs.Sessions.{IsRow, IsOpen, Log, logged, fetcherOf}
+use Rattle.security.specs.Sessions.{IsRow, IsOpen, Log, logged}
 use Rattle.security.specs.Changes.{placeAfter}
-use Rattle.security.specs.Places.{homeOf, listers, whereabouts, Lenders, Places, WhereEverythingIs}
-use Rattle.security.proofs.Effects.{Adds, Effect, tells, moves-to, adds, asks, fetches, shuts-off, Plain}
+use Rattle.security.specs.Places.{listers, whereabouts, Lenders}
+use Rattle.security.proofs.Effects.{Effect, tells, moves-to, adds, asks, fetches, shuts-off}
 use Rattle.security.proofs.Closings.{Closes}
 use Rattle.security.proofs.Touches.{adds-still, item-is}
 use Rattle.security.proofs.Moves.{held-by}

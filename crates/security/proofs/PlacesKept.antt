@@ -1,37 +1,34 @@
 -- Where everything is, of every session: the invariant at the opening and after each accepted call.
-use Prim.Native.Nat.{ℕ, suc, _+_, _<_, _≤_}
+use Prim.Native.Nat.{ℕ, _<_}
 use native.Mathlib.Omega.{arith}
-use mathlib.Core.Bool.{Bool, true, false, not, cond, _&&_, _||_}
+use mathlib.Core.Bool.{Bool, true, false, not, cond, _||_}
 use mathlib.Core.List.{List, [], _∷_, map}
 use mathlib.Core.Path.{_≡_, refl, sym, ap, _∙_, subst}
-use mathlib.Core.Logic.{_⊎_, inl, inr, ⊎-elim}
+use mathlib.Core.Logic.{⊎-elim}
 use lib.Dec.{eqb}
-use lib.ListN.{length}
-use borrow.Author.Tests.{eqb-true, eqb-false, eq-eqb, ne-eqb}
+use borrow.Author.Tests.{eqb-true}
 use Rattle.rows.specs.declared.Row.{Row}
 use Rattle.rows.specs.declared.Request.{Request}
-use Rattle.rows.specs.Lists.{if_then_else_, filter, any, all, firstWith, rises, member, some}
-use Rattle.rows.specs.Codes.{operation, subdirectory, clientEnd, serverEnd, isOperation, isClient, isServer, isEnd, inClist, withSystem, isClist, isSystem}
+use Rattle.rows.specs.Lists.{if_then_else_, filter, all, firstWith, rises, member, some}
+use Rattle.rows.specs.Codes.{operation, clientEnd, serverEnd, isOperation, isClient, isServer, isEnd, inClist, withSystem, isClist}
 use Rattle.rows.specs.Tables.{State, noRow, noRequest, rowOf, requestOf, isListed, numbers, lists}
 use Rattle.rows.specs.Setters.{withPlace}
 use Rattle.rows.specs.Sound.{requestsRise, isFetched}
 use Rattle.rows.proofs.Bools.{clash, false-of, and-l, and-r, not-t, or-false, some-pos, pos-some, eqb-sym, true-or-false}
 use Rattle.rows.proofs.Keyed.{rises-rest}
-use Rattle.rows.proofs.Places.{copied-no-end, between-range}
+use Rattle.rows.proofs.Places.{copied-no-end}
 use Rattle.rows.proofs.RowSources.{row-there}
 use Rattle.rows.specs.Limits.{processes}
 use Rattle.tables.proofs.Picked.{all-found}
 use Rattle.tables.proofs.Sound.{Sound}
-use Rattle.tables.proofs.SoundFacts.{row-below, clist-is, clist-not-system, manager-listed, row-object}
-use Rattle.closing.specs.Closing.{settled}
-use Rattle.closing.proofs.Facts.{copy-at, copy-listed, lists-open, request-number}
+use Rattle.tables.proofs.SoundFacts.{row-below, clist-is, manager-listed, row-object}
+use Rattle.closing.proofs.Facts.{copy-at, copy-listed, lists-open}
 use Rattle.closing.proofs.Lookups.{left-stood}
 use Rattle.calls.specs.declared.Items.{Items}
 use Rattle.calls.specs.declared.Call.{Call}
-use Rattle.calls.specs.declared.Call.the-variants.{Hold, Register, Port, Ask}
-use Rattle.calls.specs.Rules.{askedOf, withNewRows, withRecord, copyOf}
+use Rattle.calls.specs.declared.Call.the-variants.{Ask}
+use Rattle.calls.specs.Rules.{withNewRows, withRecord, copyOf}
 use Rattle.calls.specs.Loans.{itemsOf, itemRow, moves, copies, copyLent, newRequest}
-use Rattle.kept.proofs.Allowed.{AskAllowed}
 use Rattle.kept.proofs.AddRow.{none-lists}
 use Rattle.kept.proofs.AskCopy.{lendable}
 use Rattle.kept.proofs.AskFacts.{asked, askedState, lists-copy}
@@ -41,7 +38,7 @@ use Rattle.text.specs.Entry.{stateOpened}
 use Rattle.history.proofs.KeptCalls.{effect-kept}
 use Rattle.security.specs.Sessions.{IsRow, IsOpen, Log, logged, fetcherOf, Session}
 use Rattle.security.specs.Places.{homeOf, listers, whereabouts, Lenders, Places, WhereEverythingIs}
-use Rattle.security.proofs.Rows.{filter-none, source-listed, IsText, node-no-end, source-no-end, Sort, text-row, registered-row, held-row, end-row, copy, sort-of, borne-by, clist-no-system}
+use Rattle.security.proofs.Rows.{filter-none, source-listed, node-no-end, source-no-end, Sort, text-row, registered-row, held-row, end-row, copy, sort-of, borne-by, clist-no-system}
 use Rattle.security.proofs.Numbers.{source-row}
 use Rattle.security.proofs.Effects.{Adds, holds, registers, makes, Effect, tells, moves-to, adds, asks, fetches, shuts-off, effect-of}
 use Rattle.security.proofs.Opened.{opened-text}

@@ -1,55 +1,39 @@
 -- Reach: behind every operation and subdirectory outside the nodes stands a row of a node that the first lender can come to.
 use Prim.Native.Nat.{ℕ}
 use native.Mathlib.Omega.{arith}
-use mathlib.Core.Bool.{Bool, true, false, not, cond, _&&_, _||_}
-use mathlib.Core.List.{List}
+use mathlib.Core.Bool.{Bool, true, false, not, _&&_}
 use mathlib.Core.Path.{_≡_, refl, sym, ap, _∙_, subst}
-use mathlib.Core.Logic.{_⊎_, inl, inr, ⊎-elim}
+use mathlib.Core.Logic.{⊎-elim}
 use lib.Dec.{eqb}
 use borrow.Author.Tests.{eqb-true}
 use Rattle.rows.specs.declared.Row.{Row}
-use Rattle.rows.specs.Lists.{if_then_else_, any, member, some}
-use Rattle.rows.specs.Codes.{clientEnd, serverEnd, isSubdirectory, isEnd, inNode, inClist, isNode, isClist, mayHold}
-use Rattle.rows.specs.Tables.{State, noRow, rowOf, processAt, numbers, sources, bears, comesFrom, marked, isLent}
+use Rattle.rows.specs.Lists.{if_then_else_, some}
+use Rattle.rows.specs.Codes.{isSubdirectory, isEnd, inNode, isNode, mayHold}
+use Rattle.rows.specs.Tables.{State, noRow, rowOf, processAt, numbers, bears, comesFrom}
 use Rattle.rows.specs.declared.Process.{Process}
 use Rattle.rows.specs.Setters.{withPlace, inPrimeNode, wentThrough}
 use Rattle.rows.specs.Sound.{rowsRise}
-use Rattle.rows.proofs.Bools.{clash, false-of, some-pos, pos-some, none-zero, or-l, or-r, true-or-false}
+use Rattle.rows.proofs.Bools.{clash, false-of, some-pos, none-zero, true-or-false}
 use Rattle.rows.proofs.Keyed.{first-none}
-use Rattle.rows.proofs.Lists.{any-at}
-use Rattle.rows.proofs.Places.{subdirectory-no-end, clist-not-node, system-no-node}
 use Rattle.rows.proofs.RowSources.{node-there}
-use Rattle.tables.proofs.Sound.{Sound, sound-open}
+use Rattle.tables.proofs.Sound.{Sound}
 use Rattle.tables.proofs.SoundFacts.{row-below}
 use Rattle.tables.proofs.Standing.{nodes-stay, via-listed}
 use Rattle.tables.proofs.Marking.{marked-reaches}
 use Rattle.closing.proofs.Facts.{copy-at}
 use Rattle.calls.specs.declared.Call.{Call}
 use Rattle.calls.specs.declared.Call.the-variants.{Go, Hold, Register, Drop, Port, Close, Ask, Fetch, Reply, Refuse, Revoke, Comes}
-use Rattle.calls.specs.Rules.{copyOf}
-use Rattle.calls.specs.Loans.{itemRow, copyLent}
-use Rattle.calls.specs.Calls.{portEnd}
-use Rattle.kept.proofs.Allowed.{HoldAllowed}
-use Rattle.kept.proofs.AskCopy.{lendable, lendable-there}
-use Rattle.text.specs.Opening.{Form}
-use Rattle.text.specs.Entry.{stateOpened}
-use Rattle.security.specs.Sessions.{IsRow, Has, Log, Session}
-use Rattle.security.specs.Changes.{discards, falls, goes, closedBy, recordHomed, recordAfter, Touches}
-use Rattle.security.specs.Reach.{Reaches, here, down, Behind, taken, copied, FirstLender, has-it, of-copy, of-way, ReachedBy, ReachOfRows, OnlyRegisterWidens}
-use Rattle.security.proofs.Sessions.{session-sound}
-use Rattle.security.proofs.Rows.{source-listed, node-no-end, source-no-end, through-at, clist-apart, clist-no-system, clist-outside}
+use Rattle.security.specs.Sessions.{IsRow}
+use Rattle.security.specs.Changes.{discards, falls, goes, closedBy, recordHomed, recordAfter}
+use Rattle.security.specs.Reach.{Reaches, here, down, Behind, taken, copied, FirstLender, has-it, of-copy, of-way}
+use Rattle.security.proofs.Rows.{source-no-end}
 use Rattle.security.proofs.Numbers.{source-row}
 use Rattle.security.proofs.Nodes.{node-unborne}
-use Rattle.security.proofs.Effects.{heldRow, Effect, tells, moves-to, adds, asks, fetches, shuts-off}
-use Rattle.security.proofs.NewRows.{Newly, held, registered, client, server, copied as lent-copied}
-use Rattle.security.proofs.Touches.{Quiet, quiet-goes, adds-still, comes-still, touches}
-use Rattle.security.proofs.Moves.{item-held, old-moves, moves-of}
-use Rattle.security.proofs.Steps.{step-moves}
-use Rattle.security.proofs.Frames.{same-but-place, same-row, source-kept}
-use Rattle.security.proofs.PlacesKept.{end-kinds}
-use Rattle.security.proofs.RowLaws.{RowLaw, every-row}
-use Rattle.security.proofs.Borne.{borne, borne-law, lent-is}
-use Rattle.security.proofs.Derived.{Unlent, unlent-law, outside-law, node-row-same, copy-sourced}
+use Rattle.security.proofs.Effects.{Effect, tells, moves-to, adds, asks, fetches, shuts-off}
+use Rattle.security.proofs.Touches.{quiet-goes, adds-still, comes-still, touches}
+use Rattle.security.proofs.Moves.{old-moves, moves-of}
+use Rattle.security.proofs.Frames.{same-but-place, source-kept}
+use Rattle.security.proofs.Derived.{node-row-same, copy-sourced}
 
 -- ---- what every call keeps: the rows of nodes, and the prime nodes
 -- a row of a node does not go

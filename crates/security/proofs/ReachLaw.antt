@@ -1,34 +1,33 @@
 -- Reach, of every session: kept of rows that were there, and of a new row by the row that it was held through or copied from.
 use Prim.Native.Nat.{ℕ}
 use native.Mathlib.Omega.{arith}
-use mathlib.Core.Bool.{Bool, true, false, not, _&&_, _||_}
+use mathlib.Core.Bool.{true, false, _&&_}
 use mathlib.Core.List.{List}
 use mathlib.Core.Path.{_≡_, refl, sym, ap, _∙_, subst}
 use mathlib.Core.Logic.{_⊎_, inl, inr, ⊎-elim}
 use lib.Dec.{eqb}
 use borrow.Author.Tests.{eqb-true}
 use Rattle.rows.specs.declared.Row.{Row}
-use Rattle.rows.specs.Lists.{any, member, some}
+use Rattle.rows.specs.Lists.{some}
 use Rattle.rows.specs.Codes.{isSubdirectory, isEnd, inNode, inClist, isNode, mayHold}
-use Rattle.rows.specs.Tables.{State, noRow, rowOf, processAt, sources, isLent}
+use Rattle.rows.specs.Tables.{State, noRow, rowOf, processAt, sources}
 use Rattle.rows.specs.Setters.{withPlace}
 use Rattle.rows.specs.Sound.{processPlaced}
-use Rattle.rows.proofs.Bools.{clash, and-l, and-r, or-l, or-r, or-cases, some-pos, pos-some, none-zero, zero-none, true-or-false}
+use Rattle.rows.proofs.Bools.{clash, and-l, and-r, or-l, or-r, or-cases, some-pos, pos-some, none-zero, true-or-false}
 use Rattle.rows.proofs.Lists.{any-at}
 use Rattle.rows.proofs.Places.{subdirectory-no-end, clist-not-node, system-no-node}
 use Rattle.tables.proofs.Sound.{Sound, sound-open}
-use Rattle.tables.proofs.SoundFacts.{row-below, next-some, placed-at, active-node}
+use Rattle.tables.proofs.SoundFacts.{next-some, placed-at, active-node}
 use Rattle.tables.proofs.Standing.{via-listed}
 use Rattle.calls.specs.declared.Call.{Call}
-use Rattle.calls.specs.declared.Call.the-variants.{Hold, Register}
+use Rattle.calls.specs.declared.Call.the-variants.{Register}
 use Rattle.calls.specs.Rules.{copyOf}
 use Rattle.calls.specs.Loans.{itemRow, copyLent}
 use Rattle.calls.specs.Calls.{portEnd}
 use Rattle.kept.proofs.Allowed.{HoldAllowed}
 use Rattle.kept.proofs.AskCopy.{lendable-there}
 use Rattle.text.specs.Opening.{Form}
-use Rattle.text.specs.Entry.{stateOpened}
-use Rattle.security.specs.Sessions.{IsRow, Has, Log, Session}
+use Rattle.security.specs.Sessions.{IsRow, Has}
 use Rattle.security.specs.Authority.{Arrives, held as a-held, registered as a-registered, client as a-client, server as a-server, copied as a-copied, lent as a-lent, fetched as a-fetched, returned as a-returned}
 use Rattle.security.specs.Reach.{Reaches, here, down, Behind, taken, copied, FirstLender, has-it, of-copy, of-way, ReachedBy, ReachOfRows, OnlyRegisterWidens}
 use Rattle.security.proofs.Sessions.{session-sound}

@@ -1,43 +1,39 @@
 -- Revocation is never blocked; the oldest loan of an end brings it home; room comes back.
-use Prim.Native.Nat.{ℕ, suc, _<_, _≤_}
+use Prim.Native.Nat.{ℕ, _<_}
 use native.Mathlib.Omega.{arith}
 use mathlib.Core.Bool.{Bool, true, false, not, cond, _&&_, _||_}
-use mathlib.Core.List.{List, [], _∷_, map}
+use mathlib.Core.List.{List, [], _∷_}
 use mathlib.Core.Path.{_≡_, refl, sym, ap, _∙_, subst}
-use mathlib.Core.Logic.{_⊎_, inl, inr, ⊎-elim}
+use mathlib.Core.Logic.{⊎-elim}
 use lib.Dec.{ltb, eqb}
-use lib.ListN.{length, length-map}
 use borrow.Author.Tests.{eqb-true, eqb-false, eq-eqb, ne-eqb, ltb-true, lt-ltb}
 use Rattle.rows.specs.declared.Row.{Row}
 use Rattle.rows.specs.declared.Request.{Request}
-use Rattle.rows.specs.Lists.{filter, any, all, each, firstWith, rises, member, some}
-use Rattle.rows.specs.Codes.{isClient, isEnd, inClist, isClist, isNode, isSystem, ownerOf}
-use Rattle.rows.specs.Tables.{State, noRow, noRequest, rowOf, requestOf, isListed, numbers, sources, reaches, marked, bears, comesFrom, lists, onLoan, lentItself, isLent}
-use Rattle.rows.specs.Sound.{rowsRise, requestsRise, requestersListed, copiesListed, copyListed, placesInRange, placeInRange, mayBeListed}
-use Rattle.rows.proofs.Bools.{clash, false-of, and-l, and-r, and-i, and-false, or-cases, or-l, or-r, not-t, some-pos, pos-some, eqb-self, not-zero, true-or-false, any-none, member-here}
-use Rattle.rows.proofs.Agree.{agree-found, agree-map, filter-agree}
-use Rattle.rows.proofs.Keyed.{all-first, first-none, olderOf}
+use Rattle.rows.specs.Lists.{any, each, member, some}
+use Rattle.rows.specs.Codes.{isClient, isEnd, inClist, isClist}
+use Rattle.rows.specs.Tables.{State, noRow, noRequest, rowOf, requestOf, isListed, numbers, sources, marked, bears, comesFrom, lists, onLoan}
+use Rattle.rows.specs.Sound.{rowsRise, requestsRise, requestersListed, copiesListed, copyListed, mayBeListed}
+use Rattle.rows.proofs.Bools.{clash, false-of, and-l, and-r, and-i, and-false, or-cases, or-l, or-r, some-pos, pos-some, eqb-self}
+use Rattle.rows.proofs.Keyed.{all-first, olderOf}
 use Rattle.tables.proofs.Sound.{Sound, sound-open}
-use Rattle.tables.proofs.SoundFacts.{row-number, row-below, listed-range}
+use Rattle.tables.proofs.SoundFacts.{row-number, listed-range}
 use Rattle.tables.proofs.Standing.{source-lower, via-lower}
 use Rattle.tables.proofs.Marking.{marked-reaches, marked-least}
-use Rattle.closing.specs.Closing.{closes, returned, listedIn, leaves, trimmed, remaining, settled, closing, closeRequest}
+use Rattle.closing.specs.Closing.{closes, listedIn, leaves, trimmed, remaining, settled, closing, closeRequest}
 use Rattle.rows.proofs.Lists.{none-all}
 use Rattle.closing.proofs.TrimmedLists.{each-of-first}
 use Rattle.closing.proofs.Facts.{request-number, listed-right, end-at}
-use Rattle.closing.proofs.Lookups.{trimmed-lists, remaining-keys}
+use Rattle.closing.proofs.Lookups.{trimmed-lists}
 use Rattle.calls.specs.declared.Call.{Call}
 use Rattle.calls.specs.declared.Call.the-variants.{Close, Revoke}
 use Rattle.calls.specs.Answers.{refusalOf}
-use Rattle.calls.specs.Rules.{lowest, refused, judge, notHeld, askedOf, withRecord}
-use Rattle.calls.specs.Loans.{itemsOf, copies, handedTo, nowFetched, handedOver}
+use Rattle.calls.specs.Rules.{lowest, judge, notHeld}
 use Rattle.calls.specs.Calls.{refusalsClose, refusalsRevoke, refusals, done, effect, perform, callerOf}
 use Rattle.text.specs.declared.Reading.the-variants.{Asks}
-use Rattle.text.specs.CallLines.{readingOf}
 use Rattle.text.specs.Entry.{callerUnlisted, answered, callOn}
 use Rattle.text.specs.Opening.{Form}
 use Rattle.kept.proofs.Closing.{close-request-kept}
-use Rattle.security.specs.Sessions.{IsRow, IsOpen, Has, Log, logged, Session, EveryStep}
+use Rattle.security.specs.Sessions.{IsRow, IsOpen, Has, Log, logged, Session}
 use Rattle.security.specs.Changes.{closedBy, discards, falls, goes}
 use Rattle.security.specs.Places.{homeOf, listers, whereabouts, WhereEverythingIs}
 use Rattle.security.specs.Revocation.{Accepted, NeverBlocked, Oldest, ComesHome, OldestLoanBringsHome}

@@ -1,9 +1,9 @@
 -- Rights never grow: the line of first sources of a row that is no end leads to a row of the text.
-use Prim.Native.Nat.{ℕ, zero, suc, _<_, _≤_, _/_, _%_}
+use Prim.Native.Nat.{ℕ, zero, suc, _<_, _/_, _%_}
 use native.Mathlib.Omega.{arith}
-use mathlib.Core.Bool.{Bool, true, false, _&&_, _||_}
+use mathlib.Core.Bool.{true, false, _&&_}
 use mathlib.Core.List.{List}
-use mathlib.Core.Path.{_≡_, refl, sym, ap, _∙_}
+use mathlib.Core.Path.{_≡_, sym, ap, _∙_}
 use mathlib.Core.Logic.{_⊎_, inl, inr}
 use lib.Dec.{leb, eqb}
 use borrow.Author.Tests.{eqb-true, ne-eqb, leb-true, le-leb}
@@ -16,9 +16,8 @@ use Rattle.rows.proofs.Bools.{and-l, and-r, and-i, some-pos, none-zero, true-or
 use Rattle.tables.proofs.Sound.{Sound}
 use Rattle.tables.proofs.Standing.{source-lower, standing-copy}
 use Rattle.text.specs.Opening.{Form}
-use Rattle.text.specs.Entry.{stateOpened}
 use Rattle.security.specs.Sessions.{IsRow, Log, Session}
-use Rattle.security.specs.Rights.{Lessens, Descends, itself, from-source, FromText, RightsNeverGrow}
+use Rattle.security.specs.Rights.{Lessens, itself, from-source, FromText, RightsNeverGrow}
 use Rattle.security.proofs.Sessions.{session-sound}
 use Rattle.security.proofs.Rows.{source-listed, source-no-end}
 use Rattle.security.proofs.Numbers.{source-row}

@@ -1,33 +1,31 @@
 -- Room comes back: a call frees just what it removes; after a revoke of every open request, in any order, nothing is lent.
-use Prim.Native.Nat.{ℕ, _<_}
+use Prim.Native.Nat.{ℕ}
 use native.Mathlib.Omega.{arith}
-use mathlib.Core.Bool.{Bool, true, false, not, cond, _&&_, _||_, true≢false}
+use mathlib.Core.Bool.{Bool, true, false, not, _&&_, true≢false}
 use mathlib.Core.List.{List, [], _∷_, map}
 use mathlib.Core.Path.{_≡_, refl, sym, ap, _∙_, subst}
-use mathlib.Core.Logic.{_⊎_, inl, inr, ⊎-elim}
-use lib.Dec.{eqb}
+use mathlib.Core.Logic.{⊎-elim}
 use lib.ListN.{length, length-map}
-use borrow.Author.Tests.{eqb-true, eqb-false}
 use Rattle.rows.specs.declared.Row.{Row}
 use Rattle.rows.specs.declared.Request.{Request}
-use Rattle.rows.specs.Lists.{filter, any, all, firstWith, rises, member, some}
+use Rattle.rows.specs.Lists.{filter, any, firstWith, rises, member, some}
 use Rattle.rows.specs.Codes.{isEnd, isSystem}
-use Rattle.rows.specs.Tables.{State, noRow, noRequest, rowOf, requestOf, isListed, numbers, sources, reaches, bears, lists, onLoan, lentItself, isLent, marked}
-use Rattle.rows.specs.Sound.{rowsRise, requestsRise, awaitsFetch, same}
-use Rattle.rows.proofs.Bools.{clash, false-of, and-l, and-r, and-false, not-t, or-cases, eqb-self, some-pos, pos-some, member-here, member-cases, any-none, true-or-false}
+use Rattle.rows.specs.Tables.{State, noRow, noRequest, rowOf, requestOf, isListed, numbers, sources, onLoan, lentItself, isLent}
+use Rattle.rows.specs.Sound.{rowsRise, awaitsFetch}
+use Rattle.rows.proofs.Bools.{clash, false-of, and-false, not-t, or-cases, eqb-self, pos-some, member-here, member-cases, any-none, true-or-false}
 use Rattle.rows.proofs.Agree.{agree-found, agree-map, filter-agree}
 use Rattle.rows.proofs.Keyed.{first-none}
 use Rattle.tables.proofs.Sound.{Sound, sound-open}
 use Rattle.tables.proofs.SoundFacts.{row-number, eq-same}
 use Rattle.tables.proofs.Marking.{marked-reaches, marked-least}
-use Rattle.closing.specs.Closing.{closes, returned, remaining, settled, closing, closeRequest}
+use Rattle.closing.specs.Closing.{returned, remaining, settled, closing, closeRequest}
 use Rattle.closing.proofs.Facts.{request-number, copy-listed, lists-open}
 use Rattle.closing.proofs.Lookups.{remaining-keys}
 use Rattle.calls.specs.declared.Call.{Call}
 use Rattle.calls.specs.declared.Call.the-variants.{Revoke}
 use Rattle.calls.specs.Rules.{lowest, refused, judge, askedOf, withRecord}
-use Rattle.calls.specs.Loans.{itemsOf, copies, handedTo, nowFetched, handedOver}
-use Rattle.calls.specs.Calls.{refusalsRevoke, refusals, done, effect, perform, callerOf}
+use Rattle.calls.specs.Loans.{handedTo, nowFetched, handedOver}
+use Rattle.calls.specs.Calls.{refusalsRevoke, refusals, done, perform, callerOf}
 use Rattle.kept.proofs.Closing.{close-request-kept}
 use Rattle.kept.proofs.Loans.{held-so}
 use Rattle.text.specs.declared.Reading.the-variants.{Asks}

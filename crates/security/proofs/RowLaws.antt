@@ -1,17 +1,10 @@
 -- What holds of every row of a session: of those that were there, since nothing but their place changes, and of each new one, by how it is made.
-use Prim.Native.Nat.{ℕ, zero, suc, _<_}
-use native.Mathlib.Omega.{arith}
-use mathlib.Core.Bool.{Bool, true, false, not, cond, _&&_, _||_}
-use mathlib.Core.List.{List, [], _∷_}
-use mathlib.Core.Path.{_≡_, refl, sym, ap, _∙_, subst}
-use mathlib.Core.Logic.{_⊎_, inl, inr, ⊎-elim}
-use lib.Dec.{eqb}
-use borrow.Author.Tests.{eqb-true}
-use Rattle.rows.specs.declared.Row.{Row}
-use Rattle.rows.specs.Lists.{any, member, some}
-use Rattle.rows.specs.Codes.{isEnd, isNode, isClist}
-use Rattle.rows.specs.Tables.{State, rowOf, numbers, sources}
-use Rattle.rows.specs.Setters.{withPlace}
+use Prim.Native.Nat.{ℕ}
+use mathlib.Core.List.{List}
+use mathlib.Core.Path.{_≡_}
+use mathlib.Core.Logic.{⊎-elim}
+use Rattle.rows.specs.Lists.{member}
+use Rattle.rows.specs.Tables.{State, rowOf, numbers}
 use Rattle.rows.proofs.Bools.{clash, true-or-false}
 use Rattle.tables.proofs.Sound.{Sound}
 use Rattle.calls.specs.declared.Call.{Call}
@@ -19,8 +12,8 @@ use Rattle.calls.specs.Calls.{effect}
 use Rattle.text.specs.Opening.{Form, opens, linesOf, openingOf}
 use Rattle.text.specs.Entry.{stateOpened}
 use Rattle.history.proofs.KeptCalls.{effect-kept}
-use Rattle.security.specs.Sessions.{IsRow, Log, logged, Session}
-use Rattle.security.proofs.Sessions.{session-sound, session-has}
+use Rattle.security.specs.Sessions.{IsRow, Log, Session}
+use Rattle.security.proofs.Sessions.{session-has}
 use Rattle.security.proofs.Effects.{Effect, effect-of}
 use Rattle.security.proofs.NewRows.{Newly, new-row}
 

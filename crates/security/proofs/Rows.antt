@@ -7,24 +7,24 @@ use mathlib.Core.Logic.{_⊎_, inl, inr, ⊎-elim}
 use lib.Dec.{ltb, eqb}
 use lib.ListN.{getD}
 use native.Mathlib.Omega.{arith}
-use borrow.Author.Tests.{eqb-true, eqb-false, ne-eqb, ltb-true}
+use borrow.Author.Tests.{eqb-true, ne-eqb}
 use Rattle.rows.specs.declared.Row.{Row}
 use Rattle.rows.specs.declared.Request.{Request}
 use Rattle.rows.specs.declared.Process.{Process}
-use Rattle.rows.specs.Lists.{if_then_else_, filter, any, all, firstWith, member, distinct, between, some, nonzero}
+use Rattle.rows.specs.Lists.{filter, any, all, firstWith, member, distinct, between, some, nonzero}
 use Rattle.rows.specs.Limits.{processes, nodes}
-use Rattle.rows.specs.Codes.{operation, clientEnd, serverEnd, isOperation, isSubdirectory, isClient, isServer, isEnd, isCopied, inClist, withSystem, isNode, isClist, isSystem, ownerOf}
+use Rattle.rows.specs.Codes.{clientEnd, serverEnd, isOperation, isSubdirectory, isClient, isServer, isEnd, isCopied, inClist, withSystem, isNode, isClist, isSystem, ownerOf}
 use Rattle.rows.specs.Tables.{State, noRow, noRequest, noProcess, rowOf, requestOf, openOn, processAt, isListed, numbers, sources, lists}
-use Rattle.rows.specs.Sound.{isOpening, isRegistered, isHeld, isPortEnd, isLentCopy, requestsRise, onePerPort, portsStand, portStands, copyListed, mayBeListed, placesInRange, placeInRange, processPlaced, processesPlaced, sourceOf, viaOf}
-use Rattle.rows.proofs.Bools.{clash, false-of, and-l, and-r, or-cases, or-l, or-r, or-false, not-t, some-pos, pos-some, zero-none, eqb-sym, eqb-self, member-here, member-there}
+use Rattle.rows.specs.Sound.{isOpening, isRegistered, isHeld, isPortEnd, isLentCopy, requestsRise, onePerPort, portsStand, portStands, mayBeListed, placesInRange, placeInRange, processPlaced, processesPlaced}
+use Rattle.rows.proofs.Bools.{clash, false-of, and-l, and-r, or-cases, or-l, or-r, or-false, not-t, some-pos, zero-none, eqb-sym, eqb-self, member-here}
 use Rattle.rows.proofs.Keyed.{first-key, first-there, all-first, rises-range}
 use Rattle.kept.proofs.Loans.{no-request-lists}
 use Rattle.calls.specs.Rules.{askedOf}
 use Rattle.kept.proofs.Fetch.{asked-found, asked-there}
 use Rattle.rows.proofs.Places.{copied-no-end, subdirectory-no-end, no-row-listed, between-range}
-use Rattle.rows.proofs.RowSources.{row-there, Shape, opening, registered, held, port-end, lent-copy, node-there, end-there, client-there, subdirectory-there}
+use Rattle.rows.proofs.RowSources.{row-there, Shape, opening, registered, held, port-end, lent-copy, node-there, subdirectory-there}
 use Rattle.tables.proofs.Sound.{Sound}
-use Rattle.tables.proofs.SoundFacts.{row-number, in-node-copied, placed-from, requests-between}
+use Rattle.tables.proofs.SoundFacts.{in-node-copied, placed-from, requests-between}
 use Rattle.closing.proofs.Facts.{listed-right}
 use Rattle.tables.proofs.Standing.{standing-shape}
 use Rattle.security.specs.Sessions.{IsRow, IsOpen}
@@ -225,21 +225,12 @@ module _ (st : State) (s : Sound st) where
   unfolding openOn requestOf onePerPort
   open-at q t = first-by-other (λ v. v .number) (λ v. v .port) noRequest (st .requests) (s .loans .one-per-port) q t .0
 
-  -- the port of an open request is a client end, older than the request
+  -- the port of an open request is a client end
   pub port-client : (q : ℕ) → IsOpen st q → isClient (rowOf (st .rows) (requestOf (st .requests) q .port) .kind) ≡ true
   unfolding portsStand requestOf portStands
   port-client q t =
       let v = requestOf (st .requests) q in
       and-l (isClient (rowOf (st .rows) (v .port) .kind)) _ (all-first (λ v. v .number) noRequest (portStands (st .rows)) (st .requests) q (s .loans .ports-stand) t)
-
-  pub port-older : (q : ℕ) → IsOpen st q → requestOf (st .requests) q .port < q
-  unfolding portsStand requestOf portStands
-  port-older q t =
-      let v = requestOf (st .requests) q in
-      let lt = ltb-true _ (v .number)
-      (and-r (isClient (rowOf (st .rows) (v .port) .kind)) _ (all-first (λ v. v .number) noRequest (portStands (st .rows)) (st .requests) q (s .loans .ports-stand) t)) in
-      let n : v .number ≡ q = first-key (λ v. v .number) noRequest (st .requests) q t in
-      omega arith
 
   -- what an open request lists is a row
   pub item-row : (q : ℕ) → IsOpen st q → (e : ℕ) → lists e (requestOf (st .requests) q) ≡ true → IsRow st e

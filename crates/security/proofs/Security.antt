@@ -11,6 +11,7 @@ use Rattle.security.proofs.ReachLaw.{reach-of-rows, only-register-widen
 use Rattle.security.proofs.Revocation.{never-blocked, oldest-loan-brings-home}
 use Rattle.security.proofs.Room.{frees, room-comes-back}
 use Rattle.security.proofs.Isolation.{view-decides, isolation}
+use Rattle.security.proofs.OnLoan.{on-loan-as-said}
 
 pub security : Security
 security =
@@ -36,4 +37,5 @@ security =
       room = room-comes-back;
       view = view-decides;
       isolation = isolation;
+      on-loan = on-loan-as-said;
     }

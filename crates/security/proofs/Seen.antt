@@ -1,13 +1,11 @@
 -- What equal views tell: of every row of the c-list, of the active node, of every request asked.
 use Prim.Native.Nat.{ℕ}
-use mathlib.Core.Bool.{Bool, true, false, not, cond, _&&_, _||_}
+use mathlib.Core.Bool.{Bool, true, false, cond, _&&_, _||_}
 use mathlib.Core.List.{List, [], _∷_, map, map-map}
-use mathlib.Core.Path.{_≡_, refl, sym, ap, _∙_, subst}
-use mathlib.Core.Logic.{_⊎_, inl, inr, ⊎-elim}
+use mathlib.Core.Path.{_≡_, refl, sym, ap, _∙_}
 use lib.Dec.{eqb}
 use Rattle.rows.specs.declared.Row.{Row}
-use Rattle.rows.specs.declared.Request.{Request}
-use Rattle.rows.specs.Lists.{filter, any, firstWith, rises, member, some}
+use Rattle.rows.specs.Lists.{filter, firstWith, member}
 use Rattle.rows.specs.Codes.{inClist, inNode}
 use Rattle.rows.specs.Tables.{State, noRow, noRequest, rowOf, requestOf, processAt, numbers}
 use Rattle.rows.specs.Sound.{rowsRise, requestsRise}
@@ -18,8 +16,7 @@ use Rattle.rows.proofs.Places.{clist-no-row}
 use Rattle.tables.proofs.Picked.{first-picked}
 use Rattle.tables.proofs.Sound.{Sound}
 use Rattle.history.proofs.View.{first-through}
-use Rattle.security.specs.Sessions.{IsRow}
-use Rattle.security.specs.Isolation.{SeenRow, View, seenRow, view}
+use Rattle.security.specs.Isolation.{SeenRow, seenRow, view}
 
 -- ---- lists with keys
 module _ {A : Type 0} (key : A → ℕ) where

@@ -16,7 +16,7 @@ use Rattle.calls.specs.Calls.{effect}
 use Rattle.text.specs.declared.Reading.the-variants.{Asks}
 use Rattle.text.specs.CallLines.{readingOf}
 use Rattle.text.specs.Opening.{Form, opens, linesOf, openingOf}
-use Rattle.text.specs.Entry.{answered, callOn, stateOpened}
+use Rattle.text.specs.Entry.{callOn, stateOpened}
 use Rattle.text.proofs.Opening.{opened-sound}
 use Rattle.text.proofs.Readings.{reading-good}
 use Rattle.history.proofs.Allowed.{Allowed, call-has}

@@ -1,13 +1,9 @@
 -- The laws of effects for an accepted call: what it touches, how rows move, which rows are new.
-use Prim.Native.Nat.{ℕ}
-use mathlib.Core.Bool.{true}
-use mathlib.Core.Path.{_≡_, subst}
-use Rattle.rows.specs.Tables.{State, rowOf}
-use Rattle.rows.specs.Sound.{sound}
+use Rattle.rows.specs.Tables.{State}
 use Rattle.tables.proofs.Sound.{Sound, sound-open}
 use Rattle.calls.specs.declared.Call.{Call}
 use Rattle.history.proofs.KeptCalls.{effect-kept}
-use Rattle.security.specs.Sessions.{IsRow, Step, EveryStep}
+use Rattle.security.specs.Sessions.{Step, EveryStep}
 use Rattle.security.specs.Changes.{Touches}
 use Rattle.security.specs.Authority.{Moves}
 use Rattle.security.proofs.Sessions.{step-has}

@@ -4,36 +4,35 @@ use native.Mathlib.Decide.{decLt}
 use native.Mathlib.Omega.{arith}
 use mathlib.Core.Bool.{Bool, true, false, not, cond, _&&_, _||_}
 use mathlib.Core.List.{List, [], _∷_, _++_, map}
-use mathlib.Core.Path.{_≡_, refl, sym, ap, _∙_, subst}
-use mathlib.Core.Logic.{_⊎_, inl, inr, ⊎-elim}
+use mathlib.Core.Path.{_≡_, refl, sym, ap, _∙_}
 use lib.Dec.{leb, ltb, eqb}
 use lib.ListN.{length, getD, set}
-use borrow.Author.Tests.{eqb-true, eqb-false, eq-eqb, ne-eqb, leb-true, le-leb, lt-ltb, le-ltb}
+use borrow.Author.Tests.{eqb-true, eq-eqb, ne-eqb, le-leb, lt-ltb, le-ltb}
 use Rattle.rows.specs.declared.Row.{Row}
 use Rattle.rows.specs.declared.Request.{Request}
 use Rattle.rows.specs.declared.Process.{Process}
-use Rattle.rows.specs.Lists.{if_then_else_, filter, any, all, firstWith, rises, member, some}
+use Rattle.rows.specs.Lists.{if_then_else_, any, all, firstWith, rises, member, some}
 use Rattle.rows.specs.Codes.{isEnd, inClist, withSystem, fetchedMark}
 use Rattle.rows.specs.Tables.{State, noRow, noRequest, noProcess, rowOf, requestOf, processAt, isListed, numbers, lists}
 use Rattle.rows.specs.Setters.{withPlace, withItems, withFetched, inPrimeNode}
 use Rattle.rows.specs.Sound.{requestsRise}
-use Rattle.rows.proofs.Bools.{clash, false-of, bool-eq, and-l, and-r, and-false, and-true, some-pos, or-cases, or-l, or-r, not-t, any-none, none-zero, eqb-self, eqb-sym, member-here, member-there}
+use Rattle.rows.proofs.Bools.{clash, bool-eq, and-l, and-r, and-false, and-true, some-pos, any-none, none-zero, eqb-sym, member-here, member-there}
 use Rattle.rows.proofs.Agree.{Agree, keys-kept}
-use Rattle.rows.proofs.Keyed.{first-key, first-map, keys-map, rises-rest, rises-older, rises-range, olderOf}
+use Rattle.rows.proofs.Keyed.{first-map, keys-map, rises-rest, rises-older, rises-range, olderOf}
 use Rattle.rows.proofs.Lists.{map-same}
 use Rattle.tables.proofs.Picked.{all-keys}
 use Rattle.tables.proofs.Sound.{Sound}
 use Rattle.tables.proofs.SoundFacts.{row-number, row-below, requests-top, listed-has-record}
-use Rattle.closing.specs.Closing.{oldestListing, returned, listedIn, leaves, trimmed, remaining, homed, settled}
-use Rattle.closing.proofs.Facts.{request-number, listed-right}
+use Rattle.closing.specs.Closing.{oldestListing, returned, listedIn, leaves, trimmed, homed, settled}
+use Rattle.closing.proofs.Facts.{request-number}
 use Rattle.closing.proofs.Lookups.{remaining-keys, request-after, left-keys, row-after}
 use Rattle.closing.proofs.Processes.{homed-at}
 use Rattle.calls.specs.declared.Item.{Item}
 use Rattle.calls.specs.declared.Items.{Items}
 use Rattle.calls.specs.declared.Call.{Call}
-use Rattle.calls.specs.declared.Call.the-variants.{Go, Hold, Register, Drop, Port, Close, Ask, Fetch, Reply, Refuse, Revoke, Comes}
+use Rattle.calls.specs.declared.Call.the-variants.{Go, Ask, Fetch, Comes}
 use Rattle.calls.specs.Rules.{askedOf, withNewRows, copyOf, withRecord}
-use Rattle.calls.specs.Loans.{itemsOf, itemRow, moves, copies, newRequest, handedTo, nowFetched, handedOver}
+use Rattle.calls.specs.Loans.{itemsOf, itemRow, moves, newRequest, handedTo, nowFetched, handedOver}
 use Rattle.calls.specs.Calls.{portEnd}
 use Rattle.kept.proofs.Allowed.{GoAllowed, AskAllowed, FetchAllowed}
 use Rattle.kept.proofs.AddRow.{row-before, number-before}

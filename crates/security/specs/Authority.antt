@@ -1,4 +1,4 @@
--- Authority moves only by the rules: how a row comes to be where it is, and that of a row only the place ever changes.
+-- (rule P15) Authority moves only by the rules: how a row comes to be where it is, and that of a row only the place ever changes.
 -- Ruled out: a kernel whose `port` gives the server end to the caller; whose `fetch` hands over a request of another port;
 -- whose closing gives an end to the asker of the newest loan; that puts a row into a c-list by any other call.
 use Prim.Native.Nat.{ℕ, suc, _<_, _≤_}

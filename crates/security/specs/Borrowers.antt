@@ -1,9 +1,9 @@
--- What a borrower has. Of a lent subdirectory it holds no subdirectory taken in it; every row of its c-list is its own, or hangs on a loan that it fetched.
+-- (rules P20, P21) What a borrower has. Of a lent subdirectory it holds no subdirectory taken in it; every row of its c-list is its own, or hangs on a loan that it fetched.
 -- Ruled out: a kernel without refusal 12 of `hold`, which lets a borrower keep its way into nodes below the one lent; one that leaves a borrower
 -- a copy, or what was held through it, after its request is closed.
 use Prim.Native.Nat.{ℕ}
 use mathlib.Core.Bool.{true, false}
-use mathlib.Core.List.{List, [], _∷_}
+use mathlib.Core.List.{List, _∷_}
 use mathlib.Core.Path.{_≡_}
 use mathlib.Core.Logic.{_⊎_}
 use Rattle.rows.specs.declared.Row.{Row}

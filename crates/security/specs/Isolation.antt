@@ -1,4 +1,4 @@
--- Isolation: what a process is answered is decided by what it can see, its view. If a call of another leaves the view, the next call is answered
+-- (rule P25) Isolation: what a process is answered is decided by what it can see, its view. If a call of another leaves the view, the next call is answered
 -- as it would have been, but for the number that a new row or request takes, and for the three refusals that tell of shared room (16, 17, 18).
 -- Ruled out: a kernel whose answers depend on a row of another's c-list, on a loan that the process neither made nor fetched, on another's node.
 use Prim.Native.Nat.{ℕ, _<_, _≤_}

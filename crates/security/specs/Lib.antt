@@ -21,6 +21,8 @@ pub mod Reach
 pub mod Revocation
 -- what a process is answered is decided by what it can see
 pub mod Isolation
+-- what the history has on loan is what its words say
+pub mod OnLoan
 -- all of them, by name
 pub mod Security
 pub mod Computes

@@ -1,4 +1,4 @@
--- Rows of nodes never change and never vanish; every port has both its ends or neither, each with one holder.
+-- (rule P23) Rows of nodes never change and never vanish; every port has both its ends or neither, each with one holder.
 -- Ruled out: a kernel that lets a closing take a registered row; that removes one end of a port; that has an end in two places.
 use Prim.Native.Nat.{ℕ}
 use mathlib.Core.Bool.{true}

@@ -1,4 +1,4 @@
--- Revocation is complete and lasting: a number that is gone names nothing ever again, and a new row or request takes a number that was never given.
+-- (rule P18) Revocation is complete and lasting: a number that is gone names nothing ever again, and a new row or request takes a number that was never given.
 -- Ruled out: a kernel that uses the numbers of removed rows again; that leaves a removed row's number in a list, as a source, or as the row gone through.
 use Prim.Native.Nat.{ℕ, _<_, _≤_}
 use mathlib.Core.Bool.{true}
@@ -11,7 +11,7 @@ use Rattle.rows.specs.Sound.{sound}
 use Rattle.calls.specs.declared.Call.{Call}
 use Rattle.calls.specs.declared.Answer.the-variants.{Made}
 use Rattle.text.specs.Entry.{callOn}
-use Rattle.security.specs.Sessions.{IsRow, IsOpen, Step, Later, EverySession, EveryStep}
+use Rattle.security.specs.Sessions.{IsRow, IsOpen, Later, EverySession}
 
 -- ---- the places of the tables where a number stands
 pub data Named (st : State) (n : ℕ) : Type 0 where

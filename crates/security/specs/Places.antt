@@ -1,8 +1,8 @@
--- Where everything is, at all times: an end that no open request lists is at home, a listed one with whoever fetched the newest request
+-- (rule P16) Where everything is, at all times: an end that no open request lists is at home, a listed one with whoever fetched the newest request
 -- that lists it, or with the system; a copy is with whoever fetched its request, or with the system.
 -- Ruled out: a kernel that gives an end to the wrong lender, and would be found out only by a later closing; that leaves a fetched copy with the system.
 use Prim.Native.Nat.{ℕ}
-use mathlib.Core.Bool.{true, false}
+use mathlib.Core.Bool.{true}
 use mathlib.Core.List.{List, [], _∷_}
 use mathlib.Core.Path.{_≡_}
 use Rattle.rows.specs.declared.Row.{Row}

@@ -1,16 +1,14 @@
--- Reach: behind every operation and subdirectory outside the nodes stands a row of a node, with the right hold, that the first lender can come to.
+-- (rule P22) Reach: behind every operation and subdirectory outside the nodes stands a row of a node, with the right hold, that the first lender can come to.
 -- Ruled out: a kernel whose `hold` takes rows of other nodes than the active one, or without the right; whose `go` leads to a node that no row of
 -- the caller names; a borrower that comes, through what was lent to it, to nodes that its lender cannot come to.
 use Prim.Native.Nat.{ℕ}
 use mathlib.Core.Bool.{true, false}
 use mathlib.Core.List.{List}
 use mathlib.Core.Path.{_≡_}
-use mathlib.Core.Logic.{_⊎_}
 use Rattle.rows.specs.declared.Row.{Row}
 use Rattle.rows.specs.Lists.{some}
 use Rattle.rows.specs.Codes.{isSubdirectory, isEnd, isNode, inNode, mayHold}
 use Rattle.rows.specs.Tables.{State, rowOf, processAt, isLent}
-use Rattle.calls.specs.declared.Call.{Call}
 use Rattle.calls.specs.declared.Call.the-variants.{Register}
 use Rattle.security.specs.Sessions.{IsRow, Has, EveryStep, EverySession}
 

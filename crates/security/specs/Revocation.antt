@@ -1,4 +1,4 @@
--- Revocation is never blocked, and room comes back: the asker of an open request may revoke it whatever others did; the oldest loan of an end brings
+-- (rules P19, P24) Revocation is never blocked, and room comes back: the asker of an open request may revoke it whatever others did; the oldest loan of an end brings
 -- it home; once every request is revoked, in any order, nothing is lent and nothing is with the system.
 -- Ruled out: a kernel that refuses a revoke while the borrower has lent the end on, or while tables are full; that loses an end, or keeps it with a borrower.
 use Prim.Native.Nat.{ℕ, _≤_}
@@ -16,7 +16,7 @@ use Rattle.calls.specs.Answers.{refusalOf}
 use Rattle.text.specs.declared.Reading.the-variants.{Asks}
 use Rattle.text.specs.CallLines.{readingOf}
 use Rattle.text.specs.Entry.{callOn, answered}
-use Rattle.security.specs.Sessions.{IsRow, IsOpen, Has, EveryStep, EverySession}
+use Rattle.security.specs.Sessions.{IsRow, IsOpen, Has, EverySession}
 use Rattle.security.specs.Changes.{goes, shuts, takes}
 use Rattle.security.specs.Places.{homeOf}
 

@@ -1,4 +1,4 @@
--- Rights never grow: along the line of first sources every row is a copy of the next, down to a row of the text; only `ask` lessens rights.
+-- (rule P14) Rights never grow: along the line of first sources every row is a copy of the next, down to a row of the text; only `ask` lessens rights.
 -- Ruled out: a kernel whose `hold` or `register` gives another right than the row taken has, or fewer; whose `ask` lends a right that the row has not;
 -- that lets a row name another object than the row it comes from.
 use Prim.Native.Nat.{ℕ}

@@ -10,6 +10,7 @@ use Rattle.security.specs.Borrowers.{OneStepThroughLent, WhatAProcessHas
 use Rattle.security.specs.Reach.{ReachOfRows, OnlyRegisterWidens}
 use Rattle.security.specs.Revocation.{NeverBlocked, OldestLoanBringsHome, Frees, RoomComesBack}
 use Rattle.security.specs.Isolation.{ViewDecides, Isolation}
+use Rattle.security.specs.OnLoan.{OnLoanAsSaid}
 
 pub record Security : Type 0 where
   -- the states of sessions are those after any lines that the entry points are lent
@@ -46,3 +47,5 @@ pub record Security : Type 0 where
   -- isolation
   pub view : ViewDecides
   pub isolation : Isolation
+  -- what the history has on loan is what its words say
+  pub on-loan : OnLoanAsSaid

@@ -1,24 +1,24 @@
 -- The security theorems are not empty: of each what it speaks of is there in a session, computed.
-use Prim.Native.Nat.{ℕ, suc}
-use mathlib.Core.Bool.{Bool, true, false, not, _&&_, _||_}
-use mathlib.Core.List.{List, [], _∷_, map}
-use lib.Dec.{T, ltb, eqb}
+use Prim.Native.Nat.{ℕ}
+use mathlib.Core.Bool.{Bool, not, _&&_, _||_}
+use mathlib.Core.List.{[], _∷_, map}
+use lib.Dec.{T, eqb}
 use lib.ListN.{length}
 use Rattle.rows.specs.declared.Row.{Row}
-use Rattle.rows.specs.Lists.{any, all, member, sameList, some}
+use Rattle.rows.specs.Lists.{any, all, sameList}
 use Rattle.rows.specs.Codes.{inClist, withSystem, isNode, isSystem, mayHold, within}
-use Rattle.rows.specs.Tables.{State, rowOf, requestOf, processAt, comesFrom, lists, onLoan, isLent}
-use Rattle.rows.specs.Sound.{sound, isFetched}
+use Rattle.rows.specs.Tables.{rowOf, requestOf, processAt, onLoan, isLent}
+use Rattle.rows.specs.Sound.{isFetched}
 use Rattle.calls.specs.declared.Call.the-variants.{Close, Hold, Revoke}
 use Rattle.calls.specs.Answers.{refusalOf, valuesOf}
 use Rattle.text.specs.declared.Reading.the-variants.{Asks}
 use Rattle.text.specs.Entry.{answered}
 use Rattle.security.specs.Sessions.{fetcherOf}
-use Rattle.security.specs.Changes.{goes, shuts, placeAfter, leavesList, recordAfter, takes}
+use Rattle.security.specs.Changes.{goes, shuts, placeAfter, recordAfter}
 use Rattle.security.specs.Places.{homeOf, listers, whereabouts}
 use Rattle.security.specs.Revocation.{afterCalls, revokeEach}
 use Rattle.security.specs.Isolation.{View, view}
-use Rattle.security.specs.tests.Runs.{Run, afterLines, afterOpening, run, then, stands, isAsked, isWith}
+use Rattle.security.specs.tests.Runs.{Run, afterLines, afterOpening, run, then, stands, isAsked, isWith, hasOnLoan}
 
 unfoldable pub row : Run → ℕ → Row
 row r n = rowOf (r .state .rows) n
@@ -48,7 +48,7 @@ elsewhere = then lentOn ("(3 hold 1)\n" ∷ [])
 
 -- to unfold this is to unfold all that the tests compute
 unfoldable everything : Unit {0}
-unfolding afterLines afterOpening run then stands isAsked isWith row lent lentOn revoked way registered elsewhere Rattle.rows.specs.Computes.computes Rattle.closing.specs.Computes.computes Rattle.calls.specs.Computes.computes Rattle.text.specs.Computes.computes Rattle.history.specs.Computes.computes Rattle.security.specs.Computes.computes
+unfolding afterLines afterOpening run then stands isAsked isWith hasOnLoan row lent lentOn revoked way registered elsewhere Rattle.rows.specs.Computes.computes Rattle.closing.specs.Computes.computes Rattle.calls.specs.Computes.computes Rattle.text.specs.Computes.computes Rattle.history.specs.Computes.computes Rattle.security.specs.Computes.computes
 everything = tt
 
 -- rights: the copy 10 has 3 of the 7 that row 6 has, and row 6 those of the text's row 2
@@ -139,3 +139,8 @@ pub unseen :
     && (sameList (valuesOf (answered (lentOn .state) (Asks (Hold 1 1)) .answer)) (14 ∷ []) && sameList (valuesOf (answered (elsewhere .state) (Asks (Hold 1 1)) .answer)) (15 ∷ []))))
 unfolding everything sameSeen
 unseen = tt
+
+-- on loan: 9 has the end 7, then 13 too; neither once 9 is closed
+pub loans-told : T (hasOnLoan lent 9 7 && (hasOnLoan lentOn 9 7 && (hasOnLoan lentOn 13 7 && not (hasOnLoan revoked 9 7 || hasOnLoan revoked 13 7))))
+unfolding everything
+loans-told = tt

@@ -2,7 +2,7 @@
 use mathlib.Core.List.{List, [], _∷_}
 use lib.Dec.{T}
 use Rattle.rows.specs.Lists.{all}
-use Rattle.history.specs.tests.Cases.{Exchange, _⇒_, Case, linesBytes, callBytes, answerBytes, passes}
+use Rattle.history.specs.tests.Cases.{_⇒_, Case, linesBytes, callBytes, answerBytes, passes}
 
 unfoldable pub neighbours : List Case
 neighbours =

@@ -1,28 +1,34 @@
--- Sessions run on states, for the tests: who fetched, and the tables.
+-- Sessions run on states, for the tests: who fetched, the history, and the tables.
 use Prim.Native.Nat.{ℕ}
 use Prim.Native.String.{String}
-use mathlib.Core.Bool.{Bool, not}
+use mathlib.Core.Bool.{Bool, _&&_}
 use mathlib.Core.List.{List, [], _∷_, map}
 use lib.Dec.{eqb}
-use Rattle.rows.specs.Lists.{all, member, bytes}
+use Rattle.rows.specs.Lists.{any, member, bytes}
 use Rattle.rows.specs.Codes.{inClist}
-use Rattle.rows.specs.Tables.{State, rowOf, requestOf, numbers}
+use Rattle.rows.specs.Tables.{State, rowOf, numbers}
 use Rattle.text.specs.Opening.{Opening, opens, refusedAt, linesOf, openingOf}
 use Rattle.text.specs.Answers.{printed}
 use Rattle.text.specs.Entry.{callOn, stateOpened}
+use Rattle.history.specs.History.{History}
+use Rattle.history.specs.Reading.{begunBy, noteLine}
 use Rattle.security.specs.Sessions.{Log, noteFetch}
 
 pub record Run : Type 0 where
   pub log : Log
+  pub history : History
   pub state : State
 
 unfoldable pub afterLines : Run → List (List ℕ) → Run
 afterLines r [] = r
-afterLines r (l ∷ ls) = let o = callOn (r .state) l in afterLines (record { log = noteFetch (r .log) l (printed (o .answer)); state = o .after }) ls
+afterLines r (l ∷ ls) =
+    let o = callOn (r .state) l in
+    let reply = printed (o .answer) in
+    afterLines (record { log = noteFetch (r .log) l reply; history = noteLine (r .history) l reply; state = o .after }) ls
 
 unfoldable pub afterOpening : Opening → Run
-afterOpening (opens fs rest) = afterLines (record { log = []; state = stateOpened fs }) rest
-afterOpening (refusedAt k n) = record { log = []; state = stateOpened [] }
+afterOpening (opens fs rest) = afterLines (record { log = []; history = begunBy (opens fs rest); state = stateOpened fs }) rest
+afterOpening (refusedAt k n) = record { log = []; history = begunBy (refusedAt k n); state = stateOpened [] }
 
 -- an opening text and call lines
 unfoldable pub run : String → Run
@@ -41,3 +47,6 @@ isAsked r q = member q (map (λ v. v .number) (r .state .requests))
 
 unfoldable pub isWith : Run → ℕ → ℕ → Bool
 isWith r p n = eqb (rowOf (r .state .rows) n .place) (inClist p)
+
+unfoldable pub hasOnLoan : Run → ℕ → ℕ → Bool
+hasOnLoan r q e = any (λ o. eqb (o .request) q && eqb (o .lent) e) (r .history .loans)
