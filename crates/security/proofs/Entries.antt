@@ -45,7 +45,7 @@ module _ (st : State) (s : Sound st) (log : Log) (line : List ℕ) where
   abbrev o : Out
   o = callOn st line
 
-  line-session : (fs : List Form) → Session fs log st → Session fs (noteFetch log line (printed (o .answer))) (o .after)
+  pub line-session : (fs : List Form) → Session fs log st → Session fs (noteFetch log line (printed (o .answer))) (o .after)
   unfolding noteFetch noteFetchReading accepts
   line-session fs x = pick (heard st s line)
     where
@@ -85,7 +85,7 @@ unfolding fetchesAfter repliesTo lentAfter
 along-lines fs log w a [] = a
 along-lines fs log w a (l ∷ ls) = along-lines fs _ _ (along-call fs log w a l) ls
 
-state-in : (w : Replied) (reply : List ℕ) (st : State) → Sound st → w ≡ replyWith reply st → stateIn w ≡ st
+pub state-in : (w : Replied) (reply : List ℕ) (st : State) → Sound st → w ≡ replyWith reply st → stateIn w ≡ st
 unfolding stateIn replyWith
 state-in w reply st s e = ap (λ x. stateOf (x .tables) (x .processes)) e ∙ state-words st s
 

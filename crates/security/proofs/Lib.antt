@@ -52,5 +52,9 @@ pub mod Alike
 pub mod Isolation
 -- what the history has on loan is what its words say
 pub mod OnLoan
+-- who has each row, by the history: the marks of requests and the log
+pub mod Logged
+pub mod Homes
+pub mod Holders
 -- all of them, by name
 pub mod Security

@@ -26,11 +26,11 @@ module _ (log : Log) (q p : ℕ) where
   abbrev log′ : Log
   log′ = record { request = q; process = p } ∷ log
 
-  fetched-by : fetcherOf log′ q ≡ p
+  pub fetched-by : fetcherOf log′ q ≡ p
   unfolding fetcherOf
   fetched-by = ap (λ x. x .process) (first-here (λ x. x .request) nobody (record { request = q; process = p }) log)
 
-  fetched-else : (n : ℕ) → eqb q n ≡ false → fetcherOf log′ n ≡ fetcherOf log n
+  pub fetched-else : (n : ℕ) → eqb q n ≡ false → fetcherOf log′ n ≡ fetcherOf log n
   unfolding fetcherOf
   fetched-else n h = ap (λ x. x .process) (first-other (λ x. x .request) nobody (record { request = q; process = p }) log n h)
 

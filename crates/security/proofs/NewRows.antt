@@ -45,7 +45,7 @@ pub data Newly (st : State) : Call → ℕ → Row → Type 0 where
       → Newly st (Ask p c is) n (copyLent st c (st .next) n i)
 
 -- ---- new rows in front
-first-row : (r : Row) (rs : List Row) → rowOf (r ∷ rs) (r .number) ≡ r
+pub first-row : (r : Row) (rs : List Row) → rowOf (r ∷ rs) (r .number) ≡ r
 unfolding rowOf firstWith
 first-row r rs = rw (eqb-self (r .number)) refl
 
@@ -120,7 +120,7 @@ all-named is (k ∷ ks) h =
     (h k (or-l (eqb (k .row) (k .row) && eqb (k .rights) (k .rights)) (named ks k) (rw (eqb-self (k .row), eqb-self (k .rights)) refl)))
     (all-named is ks (λ i e. h i (or-r (eqb (k .row) (i .row) && eqb (k .rights) (i .rights)) (named ks i) e)))
 
-lent-number : (st : State) (is : List Item) (n : ℕ) → member n (numbers (lentRows st is)) ≡ member n (numbers (st .rows))
+pub lent-number : (st : State) (is : List Item) (n : ℕ) → member n (numbers (lentRows st is)) ≡ member n (numbers (st .rows))
 unfolding numbers
 lent-number st is n = ap (member n) (keys-map (λ r. r .number) (moved (isItem st is) withSystem) (moved-number (isItem st is) withSystem) (st .rows))
 

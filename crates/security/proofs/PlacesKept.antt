@@ -85,7 +85,7 @@ module _ (st : State) (s : Sound st) where
   unfolding listers
   none-listers n u = filter-none (lists n) (st .requests) (none-lists (st .rows) (st .requests) (s .loans .items-lent) n (false-of (member n (numbers (st .rows))) u))
 
-  new-unlisted : (c : Call) (st′ : State) → Effect st c st′ → (n : ℕ) → IsRow st′ n → (IsRow st n → ⊥) → isEnd (rowOf (st′ .rows) n .kind) ≡ true → listers n (st′ .requests) ≡ []
+  pub new-unlisted : (c : Call) (st′ : State) → Effect st c st′ → (n : ℕ) → IsRow st′ n → (IsRow st n → ⊥) → isEnd (rowOf (st′ .rows) n .kind) ≡ true → listers n (st′ .requests) ≡ []
   unfolding withNewRows withRecord
   new-unlisted c st′ (tells e q) n t u k = absurd (u t)
   new-unlisted c st′ (moves-to p e a) n t u k = absurd (u t)
@@ -151,26 +151,31 @@ module _ (st st′ : State) (c : Call) (s : Sound st) (s′ : Sound st′) (x : 
   kept-row : (m : ℕ) → IsRow st m → IsRow st′ m → isEnd (rowOf (st .rows) m .kind) ≡ false → isClist (rowOf (st .rows) m .place) ≡ true → rowOf (st′ .rows) m ≡ rowOf (st .rows) m
   kept-row m t t′ e p = same-row st st′ c s x m t t′ e (clist-no-system _ p)
 
-  old-end : (n : ℕ) → IsRow st n → IsRow st′ n → isEnd (rowOf (st .rows) n .kind) ≡ true → EndAt (logged st c log) st′ n
-  unfolding withPlace
-  old-end n t t′ k =
-      let r = rowOf (st .rows) n in
-      let m = r .source in
-      let at = h .ends n t k in
-      let some-source = end-source st s n t k .0 in
-      let (there, there′) = source-kept st st′ c s s′ x n t t′ some-source in
-      let o : rowOf (st′ .rows) m ≡ rowOf (st .rows) m = kept-row m there there′ (source-no-end st s n t some-source) (at .owned) in
-      let source : rowOf (st′ .rows) n .source ≡ m = same-but-place st st′ c s x n t t′ (λ r. r .source) (λ p r. refl) in
-      let kind : rowOf (st′ .rows) n .kind ≡ r .kind = same-but-place st st′ c s x n t t′ (λ r. r .kind) (λ p r. refl) in
-      let home : homeOf st′ (rowOf (st′ .rows) n) ≡ homeOf st r = home-same (rowOf (st′ .rows) n) source kind o in
-      record {
-        line = subst (λ y. Line (logged st c log) y (rowOf (st′ .rows) n) (listers n (st′ .requests))) (sym home) (old-line st st′ c s x log (homeOf st r) n t t′ (at .line));
-        owned = ap (λ y. isClist (rowOf (st′ .rows) y .place)) source ∙ ap (λ y. isClist (y .place)) o ∙ at .owned;
-      }
-    where
-      home-same : (r′ : Row) → r′ .source ≡ rowOf (st .rows) n .source → r′ .kind ≡ rowOf (st .rows) n .kind
-          → rowOf (st′ .rows) (rowOf (st .rows) n .source) ≡ rowOf (st .rows) (rowOf (st .rows) n .source) → homeOf st′ r′ ≡ homeOf st (rowOf (st .rows) n)
-      home-same r′ a b o = unfold homeOf in (rw (a, b, o) refl)
+  -- the home of an end stays, for its operation row does
+  module _ (n : ℕ) (t : IsRow st n) (t′ : IsRow st′ n) (k : isEnd (rowOf (st .rows) n .kind) ≡ true) where
+    source-same : rowOf (st′ .rows) n .source ≡ rowOf (st .rows) n .source
+    unfolding withPlace
+    source-same = same-but-place st st′ c s x n t t′ (λ r. r .source) (λ p r. refl)
+
+    operation-same : rowOf (st′ .rows) (rowOf (st .rows) n .source) ≡ rowOf (st .rows) (rowOf (st .rows) n .source)
+    operation-same =
+        let some-source = end-source st s n t k .0 in
+        let (there, there′) = source-kept st st′ c s s′ x n t t′ some-source in
+        kept-row (rowOf (st .rows) n .source) there there′ (source-no-end st s n t some-source) (h .ends n t k .owned)
+
+    pub home-kept : homeOf st′ (rowOf (st′ .rows) n) ≡ homeOf st (rowOf (st .rows) n)
+    unfolding homeOf withPlace
+    home-kept = rw (source-same, same-but-place st st′ c s x n t t′ (λ r. r .kind) (λ p r. refl), operation-same) refl
+
+    old-end : EndAt (logged st c log) st′ n
+    old-end =
+        let at = h .ends n t k in
+        record {
+          line =
+              subst (λ y. Line (logged st c log) y (rowOf (st′ .rows) n) (listers n (st′ .requests))) (sym home-kept)
+              (old-line st st′ c s x log (homeOf st (rowOf (st .rows) n)) n t t′ (at .line));
+          owned = ap (λ y. isClist (rowOf (st′ .rows) y .place)) source-same ∙ ap (λ y. isClist (y .place)) operation-same ∙ at .owned;
+        }
 
   new-end : (n : ℕ) → IsRow st′ n → (IsRow st n → ⊥) → isEnd (rowOf (st′ .rows) n .kind) ≡ true → EndAt (logged st c log) st′ n
   new-end n t′ u k =

@@ -1,23 +1,19 @@
 -- Reach, of every session: kept of rows that were there, and of a new row by the row that it was held through or copied from.
 use Prim.Native.Nat.{ℕ}
-use native.Mathlib.Omega.{arith}
-use mathlib.Core.Bool.{true, false, _&&_}
+use mathlib.Core.Bool.{true, false}
 use mathlib.Core.List.{List}
 use mathlib.Core.Path.{_≡_, refl, sym, ap, _∙_, subst}
 use mathlib.Core.Logic.{_⊎_, inl, inr, ⊎-elim}
-use lib.Dec.{eqb}
-use borrow.Author.Tests.{eqb-true}
 use Rattle.rows.specs.declared.Row.{Row}
 use Rattle.rows.specs.Lists.{some}
 use Rattle.rows.specs.Codes.{isSubdirectory, isEnd, inNode, inClist, isNode, mayHold}
 use Rattle.rows.specs.Tables.{State, noRow, rowOf, processAt, sources}
 use Rattle.rows.specs.Setters.{withPlace}
-use Rattle.rows.specs.Sound.{processPlaced}
-use Rattle.rows.proofs.Bools.{clash, and-l, and-r, or-l, or-r, or-cases, some-pos, pos-some, none-zero, true-or-false}
+use Rattle.rows.proofs.Bools.{clash, or-l, or-r, pos-some, none-zero, true-or-false}
 use Rattle.rows.proofs.Lists.{any-at}
 use Rattle.rows.proofs.Places.{subdirectory-no-end, clist-not-node, system-no-node}
 use Rattle.tables.proofs.Sound.{Sound, sound-open}
-use Rattle.tables.proofs.SoundFacts.{next-some, placed-at, active-node}
+use Rattle.tables.proofs.SoundFacts.{next-some, active-node}
 use Rattle.tables.proofs.Standing.{via-listed}
 use Rattle.calls.specs.declared.Call.{Call}
 use Rattle.calls.specs.declared.Call.the-variants.{Register}
@@ -31,7 +27,7 @@ use Rattle.security.specs.Sessions.{IsRow, Has}
 use Rattle.security.specs.Authority.{Arrives, held as a-held, registered as a-registered, client as a-client, server as a-server, copied as a-copied, lent as a-lent, fetched as a-fetched, returned as a-returned}
 use Rattle.security.specs.Reach.{Reaches, here, down, Behind, taken, copied, FirstLender, has-it, of-copy, of-way, ReachedBy, ReachOfRows, OnlyRegisterWidens}
 use Rattle.security.proofs.Sessions.{session-sound}
-use Rattle.security.proofs.Rows.{source-listed, Through, through-at, clist-apart}
+use Rattle.security.proofs.Rows.{source-listed, Through, through-at, clist-apart, in-prime-node}
 use Rattle.security.proofs.Numbers.{source-row}
 use Rattle.security.proofs.Effects.{heldRow, Effect}
 use Rattle.security.proofs.NewRows.{Newly, held, registered, client, server, copied as lent-copied}
@@ -173,15 +169,13 @@ module _ (st st′ : State) (c : Call) (s : Sound st) (s′ : Sound st′) (x : 
 
     -- in the prime node, through none
     at-prime : v ≡ 0 → ReachedAs st′ n
-    unfolding processPlaced noRow
+    unfolding noRow
     at-prime z =
         reached-with p (has-it n p unborne (ap (λ k. R′ k .request) (way ∙ z) ∙ ap (λ r. r .request) (no-row-zero st′ s′)) mine)
         (subst (λ k. Reaches st′ k (processAt (st .processes) p .active)) (sym (prime-kept st st′ c s s′ x p)) (subst (Reaches st′ (processAt (st .processes) p .prime)) (sym home) here))
       where
         home : processAt (st .processes) p .active ≡ processAt (st .processes) p .prime
-        home =
-            ⊎-elim (λ y. eqb-true _ _ (and-r (eqb v 0) _ y)) (λ y. let l = some-pos v (and-l (some v) _ y) in absurd (omega arith))
-            (or-cases (eqb v 0 && eqb (processAt (st .processes) p .active) (processAt (st .processes) p .prime)) _ (placed-at st (s .placed) p (a .caller)))
+        home = in-prime-node st s p (a .caller) z
 
     -- through a subdirectory row of its own c-list
     went : some v ≡ true → ReachedAs st′ n

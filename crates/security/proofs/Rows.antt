@@ -24,7 +24,7 @@ use Rattle.kept.proofs.Fetch.{asked-found, asked-there}
 use Rattle.rows.proofs.Places.{copied-no-end, subdirectory-no-end, no-row-listed, between-range}
 use Rattle.rows.proofs.RowSources.{row-there, Shape, opening, registered, held, port-end, lent-copy, node-there, subdirectory-there}
 use Rattle.tables.proofs.Sound.{Sound}
-use Rattle.tables.proofs.SoundFacts.{in-node-copied, placed-from, requests-between}
+use Rattle.tables.proofs.SoundFacts.{in-node-copied, placed-at, placed-from, requests-between}
 use Rattle.closing.proofs.Facts.{listed-right}
 use Rattle.tables.proofs.Standing.{standing-shape}
 use Rattle.security.specs.Sessions.{IsRow, IsOpen}
@@ -331,3 +331,11 @@ through-at st s (suc i) h = pick (or-cases (eqb (x .through) 0 && eqb (x .active
           kind = k;
           object = eqb-true (r .object) (x .active) (search (and-l, and-r));
         }
+
+-- a process that went through none is in its prime node
+pub in-prime-node : (st : State) → Sound st → (p : ℕ) → isListed (st .processes) p ≡ true → processAt (st .processes) p .through ≡ 0 → processAt (st .processes) p .active ≡ processAt (st .processes) p .prime
+unfolding processPlaced
+in-prime-node st s p l z =
+    let x = processAt (st .processes) p in
+    ⊎-elim (λ y. eqb-true (x .active) (x .prime) (and-r (eqb (x .through) 0) _ y)) (λ y. let lt = some-pos (x .through) (and-l (some (x .through)) _ y) in absurd (omega arith))
+    (or-cases (eqb (x .through) 0 && eqb (x .active) (x .prime)) _ (placed-at st (s .placed) p l))

@@ -12,6 +12,7 @@ use Rattle.security.proofs.Revocation.{never-blocked, oldest-loan-bring
 use Rattle.security.proofs.Room.{frees, room-comes-back}
 use Rattle.security.proofs.Isolation.{view-decides, isolation}
 use Rattle.security.proofs.OnLoan.{on-loan-as-said}
+use Rattle.security.proofs.Holders.{who-has-what}
 
 pub security : Security
 security =
@@ -38,4 +39,5 @@ security =
       view = view-decides;
       isolation = isolation;
       on-loan = on-loan-as-said;
+      holders = who-has-what;
     }

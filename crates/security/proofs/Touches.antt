@@ -126,15 +126,17 @@ at-set (y ∷ xs) (suc i) x h (suc j) = at-set xs i x (omega arith) j ∙ ap (λ
     suc-eqb : (a b : ℕ) → eqb a b ≡ eqb (suc a) (suc b)
     suc-eqb a b = bool-eq (eqb a b) (eqb (suc a) (suc b)) (λ e. let z = eqb-true a b e in eq-eqb (suc a) (suc b) (omega arith)) (λ e. let z = eqb-true (suc a) (suc b) e in eq-eqb a b (omega arith))
 
-record-set : (st : State) (p q : ℕ) (x : Process) → isListed (st .processes) p ≡ true → processAt (withRecord p x st .processes) q ≡ (if eqb q p then x else processAt (st .processes) q)
-unfolding withRecord processAt
-record-set st p zero x l = let (lo, hi) = listed-has-record (st .processes) p l in rw (ne-eqb 0 p (λ z. omega arith)) refl
-record-set st p (suc j) x l =
-    let (lo, hi) = listed-has-record (st .processes) p l in
-    at-set (st .processes) (p - 1) x (omega arith) j ∙ ap (λ b. cond b x (getD (st .processes) j noProcess)) (same lo)
+pub set-at : (ps : List Process) (p q : ℕ) (x : Process) → 0 < p → p ≤ length ps → processAt (set ps (p - 1) x) q ≡ (if eqb q p then x else processAt ps q)
+unfolding processAt
+set-at ps p zero x lo hi = rw (ne-eqb 0 p (λ z. omega arith)) refl
+set-at ps p (suc j) x lo hi = at-set ps (p - 1) x (omega arith) j ∙ ap (λ b. cond b x (getD ps j noProcess)) same
   where
-    same : 0 < p → eqb j (p - 1) ≡ eqb (suc j) p
-    same lo = bool-eq (eqb j (p - 1)) (eqb (suc j) p) (λ e. let z = eqb-true j (p - 1) e in eq-eqb (suc j) p (omega arith)) (λ e. let z = eqb-true (suc j) p e in eq-eqb j (p - 1) (omega arith))
+    same : eqb j (p - 1) ≡ eqb (suc j) p
+    same = bool-eq (eqb j (p - 1)) (eqb (suc j) p) (λ e. let z = eqb-true j (p - 1) e in eq-eqb (suc j) p (omega arith)) (λ e. let z = eqb-true (suc j) p e in eq-eqb j (p - 1) (omega arith))
+
+record-set : (st : State) (p q : ℕ) (x : Process) → isListed (st .processes) p ≡ true → processAt (withRecord p x st .processes) q ≡ (if eqb q p then x else processAt (st .processes) q)
+unfolding withRecord
+record-set st p q x l = let (lo, hi) = listed-has-record (st .processes) p l in set-at (st .processes) p q x lo hi
 
 -- ---- what is new, where the old rows and requests are told by their numbers
 new-above : (k n : ℕ) (a b : Bool) → (n < k → a ≡ b) → a ≡ true → (b ≡ true → ⊥) → k ≤ n

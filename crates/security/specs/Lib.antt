@@ -23,6 +23,8 @@ pub mod Revocation
 pub mod Isolation
 -- what the history has on loan is what its words say
 pub mod OnLoan
+-- who has each row, by the history
+pub mod Holders
 -- all of them, by name
 pub mod Security
 pub mod Computes

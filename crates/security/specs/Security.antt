@@ -11,6 +11,7 @@ use Rattle.security.specs.Reach.{ReachOfRows, OnlyRegisterWidens}
 use Rattle.security.specs.Revocation.{NeverBlocked, OldestLoanBringsHome, Frees, RoomComesBack}
 use Rattle.security.specs.Isolation.{ViewDecides, Isolation}
 use Rattle.security.specs.OnLoan.{OnLoanAsSaid}
+use Rattle.security.specs.Holders.{WhoHasWhat}
 
 pub record Security : Type 0 where
   -- the states of sessions are those after any lines that the entry points are lent
@@ -49,3 +50,5 @@ pub record Security : Type 0 where
   pub isolation : Isolation
   -- what the history has on loan is what its words say
   pub on-loan : OnLoanAsSaid
+  -- who has each row, by the history
+  pub holders : WhoHasWhat

@@ -18,7 +18,7 @@ use Rattle.security.specs.Changes.{goes, shuts, placeAfter, recordAfter}
 use Rattle.security.specs.Places.{homeOf, listers, whereabouts}
 use Rattle.security.specs.Revocation.{afterCalls, revokeEach}
 use Rattle.security.specs.Isolation.{View, view}
-use Rattle.security.specs.tests.Runs.{Run, afterLines, afterOpening, run, then, stands, isAsked, isWith, hasOnLoan}
+use Rattle.security.specs.tests.Runs.{Run, afterLine, afterLines, opened, afterOpening, run, then, stands, isAsked, isWith, hasOnLoan, placesSaid}
 
 unfoldable pub row : Run → ℕ → Row
 row r n = rowOf (r .state .rows) n
@@ -48,7 +48,7 @@ elsewhere = then lentOn ("(3 hold 1)\n" ∷ [])
 
 -- to unfold this is to unfold all that the tests compute
 unfoldable everything : Unit {0}
-unfolding afterLines afterOpening run then stands isAsked isWith hasOnLoan row lent lentOn revoked way registered elsewhere Rattle.rows.specs.Computes.computes Rattle.closing.specs.Computes.computes Rattle.calls.specs.Computes.computes Rattle.text.specs.Computes.computes Rattle.history.specs.Computes.computes Rattle.security.specs.Computes.computes
+unfolding afterLine afterLines opened afterOpening run then stands isAsked isWith hasOnLoan placesSaid row lent lentOn revoked way registered elsewhere Rattle.rows.specs.Computes.computes Rattle.closing.specs.Computes.computes Rattle.calls.specs.Computes.computes Rattle.text.specs.Computes.computes Rattle.history.specs.Computes.computes Rattle.security.specs.Computes.computes
 everything = tt
 
 -- rights: the copy 10 has 3 of the 7 that row 6 has, and row 6 those of the text's row 2
@@ -144,3 +144,8 @@ unseen = tt
 pub loans-told : T (hasOnLoan lent 9 7 && (hasOnLoan lentOn 9 7 && (hasOnLoan lentOn 13 7 && not (hasOnLoan revoked 9 7 || hasOnLoan revoked 13 7))))
 unfolding everything
 loans-told = tt
+
+-- who has what: by the notes of the history of every row of these sessions, with a fetch and without, before and after a revoke and a register
+pub holders-told : T (all placesSaid (lent ∷ lentOn ∷ revoked ∷ way ∷ registered ∷ []))
+unfolding everything
+holders-told = tt
