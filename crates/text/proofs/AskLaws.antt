@@ -51,7 +51,7 @@ distinct-snoc [] y = refl
 distinct-snoc (x ∷ xs) y =
     rw (distinct-snoc xs y, member-snoc x xs y, eqb-sym y x) (regrouped (member x xs) (eqb x y) (distinct xs) (member y xs))
 
-take-pad : (n : ℕ) (xs : List ℕ) → length xs ≤ n → take (length xs) (pad 0 n xs) ≡ xs
+pub take-pad : (n : ℕ) (xs : List ℕ) → length xs ≤ n → take (length xs) (pad 0 n xs) ≡ xs
 unfolding pad
 take-pad n [] h = refl
 take-pad zero (x ∷ xs) h = absurd (omega arith)

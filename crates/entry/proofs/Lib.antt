@@ -1,0 +1,9 @@
+-- Laws behind the entry points. One line a file:
+-- what a line that was read is answered, on sound tables
+pub mod Answered
+-- words that are sound tables, or not, and what the definition makes of them
+pub mod Entered
+-- a reply handed out byte by byte
+pub mod Handed
+-- each reply has room in 256 bytes
+pub mod Short

@@ -1,0 +1,2 @@
+-- The vocabulary of the entry points' contracts.
+pub mod Entries

@@ -1,0 +1,75 @@
+-- What the entry points say: the reply and both runs are those of the definition (crates/text/specs/Entry.antt).
+use Prim.Native.Nat.{ℕ, _<_, _≤_}
+use mathlib.Core.Bool.{Bool, true}
+use mathlib.Core.List.{List, _++_}
+use mathlib.Core.Path.{_≡_}
+use lib.ListN.{length, drop, take}
+use Rattle.rows.specs.Tables.{State}
+use Rattle.rows.specs.Sound.{sound}
+use Rattle.rows.specs.Layout.{recordsIn, recordsOf}
+use Rattle.rows.specs.contracts.Represents.{Represents}
+use Rattle.calls.specs.declared.Answer.{Answer}
+use Rattle.calls.specs.declared.Call.{Call}
+use Rattle.calls.specs.Rules.{Out}
+use Rattle.calls.specs.Calls.{perform}
+use Rattle.calls.specs.contracts.Performs.{CallerListed, CallerInRange}
+use Rattle.text.specs.declared.Reading.{Reading}
+use Rattle.text.specs.declared.Reading.the-variants.{Asks, Crowded}
+use Rattle.text.specs.declared.Reply.{Reply}
+use Rattle.text.specs.Entry.{Replied, callerUnlisted, answered}
+use Rattle.text.specs.contracts.Replies.{inReply}
+use Rattle.text.specs.contracts.Sizes.{REPLY}
+
+-- ---- on sound tables
+-- both runs after it are those of the definition
+abbrev pub RunsAfter : List ℕ → List ℕ → Out → Type 0
+RunsAfter u v o = Represents u (o .after) × (v ≡ recordsOf (o .after .processes))
+
+-- the sound tables t with the records p become u with the records v, and r is answered, as f says
+abbrev pub AnswersOn : List ℕ → List ℕ → (State → Out) → List ℕ → List ℕ → Answer → Type 0
+AnswersOn t p f u v r =
+    (st : State) → sound st ≡ true → Represents t st → st .processes ≡ recordsIn p
+    → RunsAfter u v (f st) × (r ≡ f st .answer)
+
+-- the same of a call whose caller is listed
+abbrev pub PerformsOn : List ℕ → List ℕ → Call → List ℕ → List ℕ → Answer → Type 0
+PerformsOn t p c u v r =
+    (st : State) → sound st ≡ true → Represents t st → st .processes ≡ recordsIn p → CallerListed st c
+    → RunsAfter u v (perform st c) × (r ≡ perform st c .answer)
+
+-- r says whether the caller is not listed
+abbrev pub TellsUnlisted : List ℕ → Call → Bool → Type 0
+TellsUnlisted p c r = (st : State) → st .processes ≡ recordsIn p → r ≡ callerUnlisted st c
+
+-- an ask with too many items changes nothing, and r is its refusal
+abbrev pub AnswersCrowded : List ℕ → ℕ → Answer → Type 0
+AnswersCrowded p caller r =
+    (st : State) → st .processes ≡ recordsIn p
+    → (answered st (Crowded caller) .after ≡ st) × (r ≡ answered st (Crowded caller) .answer)
+
+-- a call that was read has a caller in range
+abbrev pub ReadInRange : Reading → Type 0
+ReadInRange line = (c : Call) → line ≡ Asks c → CallerInRange c
+
+-- ---- the entry points
+-- the reply r and both runs t and p are those of the definition
+abbrev pub Replies : Replied → Reply → List ℕ → List ℕ → Type 0
+Replies o r t p = (r ≡ inReply (o .reply)) × (t ≡ o .tables) × (p ≡ o .processes)
+
+-- ---- under C names
+-- the run `out` has the reply's bytes in front, and n is their number
+abbrev pub HandsOut : Reply → List ℕ → List ℕ → ℕ → Type 0
+HandsOut r out after n = (n ≡ r .length) × (after ≡ take (r .length) (r .bytes) ++ drop (r .length) out)
+
+-- where the reply has room: reply and runs are those of the definition, and the bytes after the reply stay
+abbrev pub Given : Replied → List ℕ → List ℕ → List ℕ → List ℕ → ℕ → Type 0
+Given o out t p after n =
+    (n ≡ length (o .reply)) × (after ≡ o .reply ++ drop (length (o .reply)) out) × (t ≡ o .tables) × (p ≡ o .processes)
+
+-- where it has none, all stay
+abbrev pub AllStay : List ℕ → List ℕ → List ℕ → List ℕ → List ℕ → List ℕ → ℕ → Type 0
+AllStay t p out u v after n = (n ≡ 0) × (after ≡ out) × (u ≡ t) × (v ≡ p)
+
+pub record Exports (o : Replied) (t p out u v after : List ℕ) (n : ℕ) : Type 0 where
+  pub answered : REPLY ≤ length out → Given o out u v after n
+  pub short : length out < REPLY → AllStay t p out u v after n

@@ -1,0 +1,66 @@
+// The entry points under the names that C calls: each run and each text as a pointer and a length.
+use crate::calling;
+use crate::opening;
+use text::REPLY;
+use text::Reply;
+ghost use mathlib.Core.Path.{_≡_};
+ghost use Prim.Native.Nat.{_≤_};
+ghost use lib.ListN.{length};
+ghost use Rattle.text.specs.Entry.{openEntry, callEntry};
+ghost use Rattle.text.specs.contracts.Sizes.{REPLY};
+ghost use Rattle.entry.specs.contracts.Entries.{HandsOut, Exports};
+
+// Writes a reply to the front of the run lent for it, and gives its length; the bytes after it stay.
+fn hand_out(r: Reply, out: &mut [u8]) -> usize
+    requires { ⌜ (r .length ≤ REPLY) × (REPLY ≤ length (now out)) ⌝ }
+    ensures { λ n. ⌜ HandsOut r (now (out .entry)) (now (out .exit)) n ⌝ }
+{
+    let n = r.length;
+    let bytes = r.bytes;
+    let mut i = 0;
+    while i < n {
+        out[i] = bytes[i];
+        i += 1;
+    }
+    n
+}
+
+// An opening text. With fewer than 256 bytes lent for the reply nothing is touched, and the length is 0.
+// Ruled out: a reply one byte short; a word changed where the reply has no room.
+#[no_mangle]
+pub extern "C" fn tablet_open(
+    tables: &mut [u32],
+    processes: &mut [u32],
+    text: &[u8],
+    reply: &mut [u8],
+) -> usize
+    ensures { λ n. ⌜ Exports (openEntry (now (tables .entry)) (now (processes .entry)) (now (text .entry)))
+        (now (tables .entry)) (now (processes .entry)) (now (reply .entry))
+        (now (tables .exit)) (now (processes .exit)) (now (reply .exit)) n ⌝ }
+{
+    if reply.len() < REPLY {
+        return 0;
+    }
+    let r = opening::open(tables, processes, text);
+    hand_out(r, reply)
+}
+
+// A call line. With fewer than 256 bytes lent for the reply nothing is touched, and the length is 0.
+// Ruled out: the reply of another call; bytes after the reply that change.
+#[no_mangle]
+pub extern "C" fn tablet_call(
+    tables: &mut [u32],
+    processes: &mut [u32],
+    line: &[u8],
+    reply: &mut [u8],
+) -> usize
+    ensures { λ n. ⌜ Exports (callEntry (now (tables .entry)) (now (processes .entry)) (now (line .entry)))
+        (now (tables .entry)) (now (processes .entry)) (now (reply .entry))
+        (now (tables .exit)) (now (processes .exit)) (now (reply .exit)) n ⌝ }
+{
+    if reply.len() < REPLY {
+        return 0;
+    }
+    let r = calling::call(tables, processes, line);
+    hand_out(r, reply)
+}
