@@ -3,16 +3,13 @@ use calls::Answer;
 use calls::Call;
 use calls::Item;
 use calls::Items;
-use calls::perform;
+use entry::calling::carry_out;
 use rows::codes::LAST_PROCESS;
 use rows::layout::RECORDS;
 use rows::layout::TABLES;
-use rows::records;
 ghost use mathlib.Core.Path.{_≡_};
-ghost use Rattle.rows.specs.contracts.Sizes.{IsTables, IsRecords};
-ghost use Rattle.calls.specs.contracts.Performs.{CallerInRange};
 ghost use Rattle.test_exports.specs.contracts.Calls.{itemsOfWords, callOfWords, callFits, wordsOfAnswer};
-ghost use Rattle.test_exports.specs.contracts.Calls.{PerformsOn, PerformsWords, AllStay};
+ghost use Rattle.test_exports.specs.contracts.Calls.{PerformsWords, AllStay};
 
 // a call: its code, its two numbers, row and rights of each item of an ask; an answer: its code and its numbers
 pub const CALL_WORDS: usize = 11;
@@ -98,17 +95,6 @@ fn words_of(a: Answer) -> [u32; ANSWER_WORDS]
     }
 }
 
-fn perform_on(t: &mut [u32], p: &mut [u32], c: Call) -> Answer
-    requires { ⌜ IsTables (now t) × IsRecords (now p) × CallerInRange c ⌝ }
-    ensures { λ r. ⌜ PerformsOn (now (t .entry)) (now (p .entry)) c (now (t .exit)) (now (p .exit)) r ⌝ }
-{
-    let ps = records::load(p);
-    let done = perform::perform(t, ps, c);
-    let left = done.records;
-    records::store(left, p);
-    done.answer
-}
-
 #[no_mangle]
 pub extern "C" fn kernel_perform(
     t: &mut [u32],
@@ -131,6 +117,6 @@ pub extern "C" fn kernel_perform(
         return;
     }
     let c = call_of(w);
-    let answer = perform_on(t, p, c);
+    let answer = carry_out(t, p, c);
     *out = words_of(answer);
 }

@@ -20,6 +20,7 @@ use Rattle.calls.specs.declared.Call.the-variants.{Go, Hold, Register, Drop, Po
 use Rattle.calls.specs.Rules.{Out}
 use Rattle.calls.specs.Calls.{perform}
 use Rattle.calls.specs.contracts.Performs.{CallerListed}
+use Rattle.entry.specs.contracts.Entries.{RunsAfter}
 use Rattle.test_exports.specs.contracts.Exports.{Unless}
 
 -- ---- a call in words: its code, its two numbers, row and rights of each item of an ask
@@ -61,16 +62,6 @@ wordsOfAnswer (Told b) = 3 ∷ (if b then 1 else 0) ∷ 0 ∷ 0 ∷ 0 ∷ 0 ∷ 
 wordsOfAnswer (Refused k) = 4 ∷ k ∷ 0 ∷ 0 ∷ 0 ∷ 0 ∷ []
 
 -- ---- the call on both runs
--- both runs after it are those of the definition
-abbrev pub RunsAfter : List ℕ → List ℕ → Out → Type 0
-RunsAfter u v o = Represents u (o .after) × (v ≡ recordsOf (o .after .processes))
-
--- the sound tables t with the records p become u with the records v, and r is answered
-abbrev pub PerformsOn : List ℕ → List ℕ → Call → List ℕ → List ℕ → Answer → Type 0
-PerformsOn t p c u v r =
-    (st : State) → sound st ≡ true → Represents t st → st .processes ≡ recordsIn p → CallerListed st c
-    → RunsAfter u v (perform st c) × (r ≡ perform st c .answer)
-
 -- lengths and caller fit
 abbrev pub Fits : List ℕ → List ℕ → List ℕ → Type 0
 Fits t p w = IsTables t × IsRecords p × (callFits w ≡ true)

@@ -6,7 +6,8 @@ use lib.ListN.{getD}
 use Rattle.rows.proofs.Bools.{clash, not-t, not-f}
 use Rattle.calls.specs.declared.Call.{Call}
 use Rattle.calls.specs.contracts.Performs.{CallerInRange}
-use Rattle.test_exports.specs.contracts.Calls.{itemsOfWords, wordsOfAnswer, PerformsOn}
+use Rattle.entry.specs.contracts.Entries.{PerformsOn}
+use Rattle.test_exports.specs.contracts.Calls.{itemsOfWords, wordsOfAnswer}
 use Rattle.test_exports.proofs.CallWords.{fits-in-range}
 use Rattle.test_exports.proofs.performing.kernel_perform.Statement.{statement}
 use Rattle.test_exports.proofs.performing.kernel_perform.Tie as tie
@@ -28,8 +29,8 @@ returns-3 c =
 call-of-requires : tie.Need-call-of-requires
 call-of-requires c κs = search needs
 
-perform-on-requires : tie.Need-perform-on-requires
-perform-on-requires c κs =
+carry-out-requires : tie.Need-carry-out-requires
+carry-out-requires c κs =
     let fit = c .before .before .before .before .caller-fits in
     let w = now (c .before .before .before .before .before .before .before .before .before .args .w) in
     let range = fits-in-range (getD w 0 0) (getD w 1 0) (getD w 2 0) (itemsOfWords w) (sym (fit .ensures) ∙ not-f (fit .result) (c .before .before .before .if3 .left)) in
@@ -46,7 +47,7 @@ same-length-2 c = search needs
 
 returns-4 : tie.Need-returns-4
 returns-4 c =
-    let done = c .before .before .before .before .before .perform-on in
+    let done = c .before .before .before .before .before .carry-out in
     let fit = c .before .before .before .before .before .before .before .before .before .before .caller-fits in
     let a = c .before .before .before .before .before .before .before .before .before .before .before .before .before .before .before .args in
     let own = subst (λ (x : Call). PerformsOn (now (a .t)) (now (a .p)) x (done .last .0) (done .last .1 .0) (done .result)) (c .before .before .before .before .before .before .before .before .call-of .ensures) (done .ensures) in (
@@ -65,7 +66,7 @@ kernel-perform-spec =
     caller-fits-requires
     returns-3
     call-of-requires
-    perform-on-requires
+    carry-out-requires
     words-of-requires
     same-length
     same-length-2
