@@ -1,4 +1,4 @@
--- One record goes home or stays, and the loop over all of them: the first records are done, the others as they were.
+-- One record goes home or stays; the loop over a run of them: the first are done, the others as they were; all records of sound tables.
 use Prim.Native.Nat.{ℕ, zero, suc, _+_, _≤_, _<_}
 use mathlib.Core.Bool.{Bool, true, cond, _&&_}
 use mathlib.Core.List.{List, [], _∷_, map}
@@ -8,19 +8,20 @@ use native.Mathlib.Nat.{not-suc-le-zero}
 use native.Mathlib.Omega.{arith}
 use borrow.Author.Count.{below-more}
 use lib.Dec.{eqb}
-use lib.ListN.{length, length-map, getD, set}
+use lib.ListN.{length, length-map, length-set, getD, set}
 use lib.Seq.{getD-set-same, getD-set-other, ext-getD}
 use Rattle.rows.specs.declared.Row.{Row}
 use Rattle.rows.specs.declared.Process.{Process}
 use Rattle.rows.specs.Lists.{member, some}
 use Rattle.rows.specs.Codes.{isSubdirectory, inClist}
-use Rattle.rows.specs.Tables.{State, noProcess, rowOf, processAt, numbers}
-use Rattle.rows.specs.Sound.{sound, processPlaced, placedFrom, processesPlaced}
+use Rattle.rows.specs.Tables.{noProcess, rowOf, processAt, numbers}
+use Rattle.rows.specs.Sound.{processPlaced, placedFrom, processesPlaced}
 use Rattle.rows.proofs.Bools.{clash, and-l, and-r, or-cases, zero-none}
 use Rattle.rows.proofs.RowSources.{subdirectory-there}
 use Rattle.tables.proofs.Sound.{sound-open}
 use Rattle.closing.specs.Closing.{homed}
 use Rattle.closing.specs.contracts.Marks.{Stands}
+use Rattle.closing.specs.contracts.Takes.{HomesEach, HomesAll}
 use Rattle.closing.proofs.Processes.{homed-at}
 
 -- ---- one record
@@ -60,36 +61,41 @@ placed-there rs p (x ∷ ps) e zero sm = through-there rs p x (and-l (processPla
 placed-there rs p (x ∷ ps) e (suc k) sm = placed-there rs (suc p) ps (and-r (processPlaced rs p x) (placedFrom rs (suc p) ps) e) k sm
 
 -- ---- the loop
--- the records below i are home, the others are as they were
-pub record HomedTo (g : List ℕ) (from to : List Process) (i : ℕ) : Type 0 where
-  pub done : (k : ℕ) → k < i → getD to k noProcess ≡ homed g (getD from k noProcess)
+-- there are as many records; those below i are as P has it, the others as they were
+pub record HomedTo (P : Process → Process → Type 0) (from to : List Process) (i : ℕ) : Type 0 where
+  pub long : length to ≡ length from
+  pub done : (k : ℕ) → k < i → P (getD from k noProcess) (getD to k noProcess)
   pub left : (k : ℕ) → i ≤ k → getD to k noProcess ≡ getD from k noProcess
 
-module _ (g : List ℕ) (from : List Process) where
-  pub homed-start : HomedTo g from from 0
-  homed-start = record { done = λ k lt. absurd (not-suc-le-zero lt); left = λ k le. refl }
+module _ {P : Process → Process → Type 0} {from : List Process} where
+  pub homed-start : HomedTo P from from 0
+  homed-start = record { long = refl; done = λ k lt. absurd (not-suc-le-zero lt); left = λ k le. refl }
 
-  -- the row through which the next process stands in its node is there
-  pub homed-next : (st : State) → sound st ≡ true → st .processes ≡ from → (to : List Process) (i : ℕ) → HomedTo g from to i
-      → some (getD to i noProcess .through) ≡ true → Stands st (getD to i noProcess .through)
-  unfolding processesPlaced
-  homed-next st sd e to i so =
-      subst (λ (x : Process). some (x .through) ≡ true → Stands st (x .through))
-      (ap (λ (ps : List Process). getD ps i noProcess) e ∙ sym (so .left i (omega arith)))
-      (placed-there (st .rows) 1 (st .processes) (sound-open st sd .placed .processes-placed) i)
-
-  pub homed-turn : (to : List Process) (i : ℕ) (y : Process) → i < length to → y ≡ homed g (getD to i noProcess)
-      → HomedTo g from to i → HomedTo g from (set to i y) (i + 1)
-  homed-turn to i y h e so =
+  pub homed-turn : (to : List Process) (i : ℕ) (y : Process) → i < length to → P (getD to i noProcess) y
+      → HomedTo P from to i → HomedTo P from (set to i y) (i + 1)
+  homed-turn to i y h p so =
       record {
-        done = below-more (λ k. getD (set to i y) k noProcess ≡ homed g (getD from k noProcess)) i
-            (λ k lt. getD-set-other to i k y noProcess (λ q. omega arith) ∙ so .done k lt)
-            (getD-set-same to i y noProcess h ∙ e ∙ ap (homed g) (so .left i (omega arith)));
+        long = length-set to i y ∙ so .long;
+        done = below-more (λ k. P (getD from k noProcess) (getD (set to i y) k noProcess)) i
+            (λ k lt. subst (P (getD from k noProcess)) (sym (getD-set-other to i k y noProcess (λ q. omega arith))) (so .done k lt))
+            (subst (λ (x : Process). P x (getD (set to i y) i noProcess)) (so .left i (omega arith))
+            (subst (P (getD to i noProcess)) (sym (getD-set-same to i y noProcess h)) p));
         left = λ k le. getD-set-other to i k y noProcess (λ q. omega arith) ∙ so .left k (omega arith);
       }
 
-  pub homed-end : (to : List Process) (i : ℕ) → length to ≡ i → length from ≡ i → HomedTo g from to i → to ≡ map (homed g) from
-  unfolding processAt
-  homed-end to i l f so =
-      ext-getD noProcess to (map (homed g) from) (l ∙ sym f ∙ sym (length-map from (homed g)))
-      (λ k lt. so .done k (omega arith) ∙ sym (homed-at g from (suc k)))
+  pub homed-end : (to : List Process) (i : ℕ) → i ≡ length from → HomedTo P from to i
+      → (length to ≡ length from) × ((k : ℕ) → k < length from → P (getD from k noProcess) (getD to k noProcess))
+  homed-end to i e so = (so .long, (λ k lt. so .done k (omega (arith, lt, e))))
+
+-- ---- all records
+pub homes-all : (t : List ℕ) (n : ℕ) (ps : List Process) (removed : List Bool) (rs : List Process)
+    → HomesEach t n ps removed rs → HomesAll t n ps removed rs
+unfolding processAt processesPlaced
+homes-all t n ps removed rs each st g sd rep count gone same =
+    ext-getD noProcess rs (map (homed g) ps) (each .0 ∙ sym (length-map ps (homed g)))
+    (λ k lt. each .1 k (omega (arith, lt, each .0)) st g rep count gone (stands k) ∙ sym (homed-at g ps (suc k)))
+  where
+    stands : (k : ℕ) → some (getD ps k noProcess .through) ≡ true → Stands st (getD ps k noProcess .through)
+    stands k =
+        subst (λ (qs : List Process). some (getD qs k noProcess .through) ≡ true → Stands st (getD qs k noProcess .through)) same
+        (placed-there (st .rows) 1 (st .processes) (sound-open st sd .placed .processes-placed) k)

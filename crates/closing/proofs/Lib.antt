@@ -25,7 +25,9 @@ pub mod MarksPass
 pub mod MarksRows
 -- the marks of the requests that close
 pub mod MarksRequests
--- process records that go home: one, and the loop over all
+-- process records that go home: one, and the loop over a run of them
 pub mod HomesAll
+-- what the functions of homes.rt are lent, for their walks
+pub mod HomesLent
 -- the parts of a closing joined
 pub mod CloseParts

@@ -1,12 +1,11 @@
 // Processes that stand in a node through a removed row go to their prime node.
 use crate::marks::is_marked;
 use rows::Process;
-use rows::layout::PROCESSES;
 use rows::layout::RowMarks;
 use rows::records::Records;
 ghost use Prim.Native.Nat.{_≤_};
 ghost use Rattle.rows.specs.contracts.Sizes.{ROWS, IsTables};
-ghost use Rattle.closing.specs.contracts.Takes.{Homes, HomesAll};
+ghost use Rattle.closing.specs.contracts.Takes.{Homes, HomesEach, HomesAll};
 
 // One record.
 fn home(t: &[u32], n: usize, x: Process, removed: &RowMarks) -> Process
@@ -26,17 +25,24 @@ fn home(t: &[u32], n: usize, x: Process, removed: &RowMarks) -> Process
     x
 }
 
+// Each record of a run of them.
+fn home_each(ps: &mut [Process], t: &[u32], n: usize, removed: &RowMarks)
+    requires { ⌜ IsTables (now t) × (n ≤ ROWS) ⌝ }
+    ensures { λ _. ⌜ HomesEach (now (t .entry)) n (now (ps .entry)) (now (removed .entry)) (now (ps .exit)) ⌝ }
+{
+    let mut i = 0;
+    while i < ps.len() {
+        ps[i] = home(t, n, ps[i], removed);
+        i += 1;
+    }
+}
+
 // All records.
 // Ruled out: a process stays in a node that it reached through a removed row; one in its prime node moves.
-pub fn home_all(t: &[u32], n: usize, ps: Records, removed: &RowMarks) -> Records
+pub fn home_all(t: &[u32], n: usize, mut ps: Records, removed: &RowMarks) -> Records
     requires { ⌜ IsTables (now t) × (n ≤ ROWS) ⌝ }
     ensures { λ r. ⌜ HomesAll (now (t .entry)) n ps (now (removed .entry)) r ⌝ }
 {
-    let mut to = ps;
-    let mut i = 0;
-    while i < PROCESSES {
-        to[i] = home(t, n, to[i], removed);
-        i += 1;
-    }
-    to
+    home_each(&mut ps, t, n, removed);
+    ps
 }

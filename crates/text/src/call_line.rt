@@ -1,6 +1,7 @@
 // A call line of any bytes: the call that it asks for, or the refusal of its text (specs/CallLines.antt).
 use crate::Asked;
 use crate::Read;
+use crate::Reader;
 use crate::Reading;
 use crate::patterns::ends_at;
 use crate::patterns::is_whole;
@@ -14,10 +15,11 @@ ghost use mathlib.Core.Path.{_≡_};
 ghost use Prim.Native.Nat.{_+_, _<_};
 ghost use lib.ListN.{length};
 ghost use Rattle.rows.specs.Lists.{member};
+ghost use Rattle.text.specs.Patterns.{form};
 ghost use Rattle.text.specs.CallLines.{isProcess, isNumber, ranged, simple, simpleForm, Gathered, gathered};
 ghost use Rattle.text.specs.CallLines.{packed, judged, askForm, readingOf};
 ghost use Rattle.text.specs.contracts.Sizes.{GROUPS};
-ghost use Rattle.text.specs.contracts.Asks.{askedFrom, withItem, otherCall};
+ghost use Rattle.text.specs.contracts.Asks.{askedFrom, withItem, otherCall, JudgesAsk};
 
 const GREATEST_NUMBER: u32 = 1000000;
 
@@ -227,18 +229,34 @@ fn judge(p: u32, c: u32, a: Asked) -> Reading
     Reading::Asks(Call::Ask(p, c, first_four(a)))
 }
 
-// `(p ask c (e r) ..)`, else another form.
-fn ask_form(line: &[u8]) -> Reading
-    ensures { λ r. ⌜ r ≡ askForm (now (line .entry)) (otherCall (now (line .entry))) ⌝ }
+// The head of an ask at a position: its caller and its client end.
+fn ask_head(line: &[u8], at: usize) -> Read
+    ensures { λ r. ⌜ r ≡ form (now (line .entry)) at "(# ask #" ⌝ }
 {
-    let f = read_form(line, 0, b"(# ask #");
-    let at = f.next;
-    let a = gather(line, at);
-    let end = a.next;
-    if f.good & ends_at(line, end) {
+    read_form(line, at, b"(# ask #")
+}
+
+// Head and items read as an ask if the line ends after them, else as another form.
+fn ask_if_ended(line: &[u8], f: Read, a: Asked, ended: bool) -> Reading
+    ensures { λ r. ⌜ JudgesAsk (now (line .entry)) f a ended r ⌝ }
+{
+    if f.good & ended {
         return judge(f.b, f.c, a);
     }
     comes_form(line)
+}
+
+// `(p ask c (e r) ..)`, else another form: head, items and end, one after the other.
+fn ask_form(line: &[u8]) -> Reading
+    ensures { λ r. ⌜ r ≡ askForm (now (line .entry)) (otherCall (now (line .entry))) ⌝ }
+{
+    let mut r = Reader { line, at: 0 };
+    let f = ask_head(r.line, r.at);
+    r.at = f.next;
+    let a = gather(r.line, r.at);
+    r.at = a.next;
+    let ended = ends_at(r.line, r.at);
+    ask_if_ended(r.line, f, a, ended)
 }
 
 // The call that a line of any bytes asks for, or the refusal of its text.

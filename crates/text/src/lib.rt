@@ -17,6 +17,12 @@ pub struct Read {
     pub c: u32,
 }
 
+// A line, and the position up to which it is read.
+pub struct Reader<'a> {
+    pub line: &'a [u8],
+    pub at: usize,
+}
+
 // What a call line is: a call; an ask with too many items, of a caller; or refused by its text alone.
 pub enum Reading {
     Asks(Call),

@@ -3,6 +3,8 @@ use crate::EntriesRead;
 use crate::Entry;
 use crate::EntryRead;
 use crate::LineRead;
+use crate::Read;
+use crate::Reader;
 use crate::call_line::GROUPS;
 use crate::call_line::LONGEST_LINE;
 use crate::call_line::is_process;
@@ -17,9 +19,11 @@ use rows::codes::is_node;
 ghost use mathlib.Core.Path.{_≡_};
 ghost use Prim.Native.Nat.{_+_, _≤_};
 ghost use lib.ListN.{length, drop};
-ghost use Rattle.text.specs.Opening.{entriesFrom, entryRanged, lineOf, openLine, badLine};
+ghost use Rattle.text.specs.Patterns.{form};
+ghost use Rattle.text.specs.Opening.{entriesFrom, entryRanged, nodeLine, lineOf, openLine, badLine};
 ghost use Rattle.text.specs.contracts.Sizes.{GROUPS};
 ghost use Rattle.text.specs.contracts.Openings.{firstLine, entryRead, entriesRead, otherLine, lineRead};
+ghost use Rattle.text.specs.contracts.Openings.{JudgesNode};
 
 // ---- lines
 // The position after the line that begins at a position, its line feed with it.
@@ -132,6 +136,36 @@ fn process_form(line: &[u8]) -> LineRead
     last_form(line)
 }
 
+// The head of a node form at a position: its node.
+fn node_head(line: &[u8], at: usize) -> Read
+    ensures { λ r. ⌜ r ≡ form (now (line .entry)) at "(node #" ⌝ }
+{
+    read_form(line, at, b"(node #")
+}
+
+// Head and entries read as a node form if the line ends after them, else as another form.
+fn node_if_ended(line: &[u8], f: Read, es: EntriesRead, ended: bool) -> LineRead
+    ensures { λ r. ⌜ JudgesNode (now (line .entry)) f es ended r ⌝ }
+{
+    if f.good & ended {
+        return LineRead::Node(f.c, es.count, es.ranged);
+    }
+    process_form(line)
+}
+
+// `(node n ENTRY ..)`, else another form: head, entries and end, one after the other.
+fn node_form(line: &[u8]) -> LineRead
+    ensures { λ r. ⌜ r ≡ lineRead (nodeLine (now (line .entry)) (otherLine (now (line .entry)))) ⌝ }
+{
+    let mut r = Reader { line, at: 0 };
+    let f = node_head(r.line, r.at);
+    r.at = f.next;
+    let es = entries_at(r.line, r.at);
+    r.at = es.next;
+    let ended = ends_at(r.line, r.at);
+    node_if_ended(r.line, f, es, ended)
+}
+
 // What a line is: a node form, a process form, `(open)`, or bad.
 // Ruled out: `(open)` without its line feed; a form in a line of more than 255 bytes.
 pub fn read_line(line: &[u8]) -> LineRead
@@ -140,12 +174,5 @@ pub fn read_line(line: &[u8]) -> LineRead
     if LONGEST_LINE < line.len() {
         return LineRead::Bad;
     }
-    let f = read_form(line, 0, b"(node #");
-    let at = f.next;
-    let es = entries_at(line, at);
-    let end = es.next;
-    if f.good & ends_at(line, end) {
-        return LineRead::Node(f.c, es.count, es.ranged);
-    }
-    process_form(line)
+    node_form(line)
 }

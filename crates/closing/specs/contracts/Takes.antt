@@ -1,11 +1,12 @@
 -- What a closing makes of words and records: the whole, and its parts (records go home, the marked rows and requests are taken out).
-use Prim.Native.Nat.{ℕ}
+use Prim.Native.Nat.{ℕ, _<_}
 use mathlib.Core.Bool.{Bool, true}
 use mathlib.Core.List.{List, map}
 use mathlib.Core.Path.{_≡_}
 use Rattle.rows.specs.declared.Process.{Process}
 use Rattle.rows.specs.Lists.{some}
-use Rattle.rows.specs.Tables.{State}
+use lib.ListN.{length, getD}
+use Rattle.rows.specs.Tables.{State, noProcess}
 use Rattle.rows.specs.Sound.{sound}
 use Rattle.rows.specs.contracts.Represents.{Represents}
 use Rattle.changes.specs.contracts.Marks.{closedUnder}
@@ -24,6 +25,11 @@ abbrev pub Homes : List ℕ → ℕ → Process → List Bool → Process → Ty
 Homes t n x removed r =
     (st : State) (g : List ℕ) → Represents t st → RowCount n st → RowsMarked removed g st
     → (some (x .through) ≡ true → Stands st (x .through)) → r ≡ homed g x
+
+-- as many records, and each in its place is gone home or stays
+abbrev pub HomesEach : List ℕ → ℕ → List Process → List Bool → List Process → Type 0
+HomesEach t n ps removed r =
+    (length r ≡ length ps) × ((k : ℕ) → k < length ps → Homes t n (getD ps k noProcess) removed (getD r k noProcess))
 
 -- if the rows g are marked, r are the records gone home
 abbrev pub HomesAll : List ℕ → ℕ → List Process → List Bool → List Process → Type 0

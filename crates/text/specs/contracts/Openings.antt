@@ -1,11 +1,12 @@
 -- What the reader of an opening text tells of it: an entry, entries, a line, what is given, and how the passes end.
 use Prim.Native.Nat.{ℕ, suc, _+_, _<_}
 use mathlib.Core.Path.{_≡_}
-use mathlib.Core.Bool.{Bool, true, false, _||_}
+use mathlib.Core.Bool.{Bool, true, false, _&&_, _||_}
 use mathlib.Core.List.{List, [], _∷_}
 use lib.Dec.{eqb}
 use lib.ListN.{length, getD}
 use Rattle.rows.specs.Lists.{if_then_else_, all, any}
+use Rattle.text.specs.declared.Read.{Read}
 use Rattle.text.specs.declared.Entry.{Entry}
 use Rattle.text.specs.declared.EntryRead.{EntryRead}
 use Rattle.text.specs.declared.EntriesRead.{EntriesRead}
@@ -53,6 +54,12 @@ lineRead lastLine = Last
 lineRead badLine = Bad
 lineRead (formLine (nodeForm n es)) = Node n (length es) (all entryRanged es)
 lineRead (formLine (processForm p n)) = Process p n
+
+-- if es are the entries g, r is the node form of the head f and of them where the head was read and the line ended, else another line
+abbrev pub JudgesNode : List ℕ → Read → EntriesRead → Bool → LineRead → Type 0
+JudgesNode s f es ended r =
+    (g : Entries) → es ≡ entriesRead g
+    → r ≡ lineRead (if f .good && ended then formLine (nodeForm (f .c) (g .entries)) else otherLine s)
 
 -- ---- what forms have given
 pub record Gives (g : Given) (fs : List Form) : Type 0 where
