@@ -78,8 +78,7 @@ impl Named {
             } else if let Some(name) = lines[0].strip_prefix("tables: ") {
                 let mut lent = Lent::of(Tables::empty());
                 for line in &lines[1..] {
-                    lent.add(line)
-                        .ok_or(format!("{at}: no line of tables: '{line}'"))?;
+                    add(&mut lent, line).map_err(|said| format!("{at}: '{line}': {said}"))?;
                 }
                 lent.replaces = true;
                 self.tables.insert(name.to_string(), lent);
@@ -180,7 +179,7 @@ impl Reading<'_> {
         if line.starts_with('(') || line.contains(" -> ") {
             return self.said(line);
         }
-        self.lent(line)
+        add(self.now(), line)
     }
 
     /// What is lent, or what is there afterwards.
@@ -190,19 +189,6 @@ impl Reading<'_> {
             Some(after) => after,
             None => self.case.start.get_or_insert_with(empty),
         }
-    }
-
-    /// A line of it.
-    fn lent(&mut self, line: &str) -> Result<(), String> {
-        let lent = self.now();
-        for line in ranges(line)? {
-            lent.add(&line).ok_or("no line of a case")?;
-        }
-        if line.contains("..") {
-            lent.tables.rows.sort_by_key(|r| r.number);
-            lent.tables.requests.sort_by_key(|q| q.number);
-        }
-        Ok(())
     }
 
     /// Lines of input with their answers, ` | ` between them.
@@ -248,6 +234,18 @@ impl Reading<'_> {
             .iter()
             .any(|s| matches!(s, Step::Open { .. }))
     }
+}
+
+/// Adds a line of what is lent; where it has ranges, rows and requests are put in order.
+fn add(lent: &mut Lent, line: &str) -> Result<(), String> {
+    for line in ranges(line)? {
+        lent.add(&line).ok_or("no line of a case")?;
+    }
+    if line.contains("..") {
+        lent.tables.rows.sort_by_key(|r| r.number);
+        lent.tables.requests.sort_by_key(|q| q.number);
+    }
+    Ok(())
 }
 
 /// Whether a line begins with a form of the opening text.
