@@ -70,7 +70,7 @@ fn on_tables(case: &Case) -> bool {
         assert_eq!(text(&printed), text(answer), "{} {}", case.at, text(line));
     }
     if let Some(after) = &case.after {
-        assert_eq!(tables.print(), after.tables.print(), "{}", case.at);
+        assert_eq!(tables, after.tables, "{}", case.at);
     }
     true
 }

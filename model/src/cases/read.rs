@@ -212,7 +212,9 @@ impl Reading<'_> {
             Some(cut) => text = cut.to_vec(),
             None => text.push(b'\n'),
         }
-        let opening = opens(&text) && !self.has_opened();
+        // Only an opening answers `(no k n)`.
+        let at_line = answer.is_some_and(|a| a.starts_with("(no ") && a.split(' ').count() == 3);
+        let opening = at_line || opens(&text) && !self.has_opened();
         let answer = answer.map(|a| format!("{a}\n").into_bytes());
         match (opening || !self.text.is_empty(), answer) {
             (true, None) => self.text.extend(text),
