@@ -107,6 +107,15 @@ impl Call {
         }
     }
 
+    /// The word that names the call.
+    pub fn word(&self) -> String {
+        match self {
+            Call::One { word, .. } => word.text(),
+            Call::Ask { .. } => "ask".to_string(),
+            Call::Comes { .. } => "comes".to_string(),
+        }
+    }
+
     /// The items of an ask; no other call has any.
     pub fn items(&self) -> &[Item] {
         match self {

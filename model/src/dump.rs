@@ -15,9 +15,14 @@ impl Tables {
     pub fn parse(text: &str) -> Option<Tables> {
         let mut tables = Tables::empty();
         for line in text.lines() {
-            add_line(&mut tables, line)?;
+            tables.add_line(line)?;
         }
         Some(tables)
+    }
+
+    /// Adds what one line says; none if it is not one of the four kinds.
+    pub fn add_line(&mut self, line: &str) -> Option<()> {
+        add_line(self, line)
     }
 
     pub fn print(&self) -> String {

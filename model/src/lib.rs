@@ -2,6 +2,7 @@
 
 pub mod answer;
 pub mod call;
+pub mod cases;
 pub mod chains;
 pub mod check;
 pub mod closing;

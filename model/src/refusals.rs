@@ -28,6 +28,25 @@ pub fn tests(tables: &Tables, call: &Call) -> Tests {
     tests
 }
 
+/// What decides the answer, by the rule's name: the one ground of the lowest number that
+/// applies (`hold-12`, or `reply-14b` for the second of two), or that none does
+/// (`hold-ok`). None if two grounds of that number apply.
+pub fn decided_by(tables: &Tables, call: &Call) -> Option<String> {
+    let tests = tests(tables, call);
+    let word = call.word();
+    let Some(k) = lowest(&tests) else {
+        return Some(format!("{word}-ok"));
+    };
+    let grounds = tests.iter().filter(|(number, _)| *number == k);
+    let count = grounds.clone().count();
+    let mut applying = grounds.zip('a'..).filter(|((_, applies), _)| *applies);
+    match (applying.next(), applying.next()) {
+        (Some(_), None) if count == 1 => Some(format!("{word}-{k}")),
+        (Some((_, letter)), None) => Some(format!("{word}-{k}{letter}")),
+        _ => None,
+    }
+}
+
 /// Refused for the input, 3 to 6 (docs/MANUAL.md, chapter 3).
 fn input_tests(tables: &Tables, call: &Call) -> Tests {
     vec![

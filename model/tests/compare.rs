@@ -7,6 +7,8 @@ use model::run_session;
 use std::collections::BTreeSet;
 
 const SIZES: Sizes = Sizes {
+    by_hand: 1,
+    states: 12,
     lines: 30,
     sessions: 6,
     chosen: 4,
@@ -30,6 +32,7 @@ fn cases_of_a_seed() {
     for (sort, count) in [
         ("session", 6),
         ("damaged", 10),
+        ("state", 12),
         ("sound", 52),
         ("words", 10),
     ] {

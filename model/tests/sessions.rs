@@ -5,6 +5,7 @@ use model::chains;
 use model::check::{self, Tally};
 use model::history::History;
 use model::random::{self, Profile, PROFILES};
+use model::run_session;
 use model::session::Session;
 use std::sync::OnceLock;
 
@@ -132,4 +133,41 @@ fn seeds_determine_sessions() {
         assert_eq!(one, random::session(5, profile, 40));
         assert_ne!(one, random::session(6, profile, 40));
     }
+}
+
+/// One operation of process 1, with all rights; row 1.
+const ONE: &str = "(node 1 (op 1 0 7))\n(process 1 1)\n(open)\n";
+
+/// (rules X7, X10, hold-16) Row 1,025 gives 16, and after a drop hold works.
+#[test]
+fn rows_run_out_in_a_session() {
+    let mut session = ONE.to_string();
+    let mut expected = "(ok 0)\n".to_string();
+    for row in 2..=1024 {
+        session += "(1 hold 1)\n";
+        expected += &format!("(ok {row})\n");
+    }
+    session += "(1 hold 1)\n(1 register 3)\n(1 drop 2)\n(1 port 3)\n(1 hold 1)\n(1 hold 1)\n";
+    expected += "(no 16)\n(no 16)\n(ok 0)\n(no 16)\n(ok 1025)\n(no 16)\n";
+    let printed = run_session(session.as_bytes());
+    assert_eq!(String::from_utf8(printed).unwrap(), expected);
+}
+
+/// (rules X9, X13, ask-18) 1,000,000 is given, then 18: four copies and a request take 5
+/// numbers.
+#[test]
+fn numbers_run_out_in_a_session() {
+    let mut session = ONE.to_string() + &"(1 hold 1)\n".repeat(4) + "(1 port 2)\n";
+    let mut next = 8;
+    while next + 5 <= 999_999 {
+        session += &format!("(1 ask 6 (2 7) (3 7) (4 7) (5 7))\n(1 revoke {next})\n");
+        next += 5;
+    }
+    assert_eq!(next, 999_998);
+    session += "(1 ask 6 (2 7) (3 7) (4 7))\n(1 ask 6 (2 7))\n(1 port 2)\n(1 ask 6)\n";
+    session += "(1 hold 1)\n(1 hold 1)\n(1 register 2)\n(1 port 2)\n(1 revoke 999998)\n(1 ask 6)\n";
+    let printed = String::from_utf8(run_session(session.as_bytes())).unwrap();
+    let end = "(no 18)\n(ok 999998)\n(no 18)\n(no 10)\n\
+        (ok 1000000)\n(no 18)\n(no 18)\n(no 18)\n(ok 0)\n(no 18)\n";
+    assert!(printed.ends_with(end));
 }

@@ -67,6 +67,8 @@ fn sizes(options: &[&str]) -> Result<Sizes, Box<dyn std::error::Error>> {
         value.map_or(Ok(0), |value| value.parse::<usize>())
     };
     Ok(Sizes {
+        by_hand: number("--by-hand")?,
+        states: number("--states")?,
         lines: number("--lines")?,
         sessions: number("--sessions")?,
         calls: number("--calls")?,

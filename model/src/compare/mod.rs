@@ -3,6 +3,7 @@
 pub mod altered;
 pub mod antt;
 pub mod bits;
+pub mod by_hand;
 pub mod case;
 pub mod conformance;
 pub mod features;
@@ -12,6 +13,7 @@ pub mod limits;
 pub mod random_tables;
 pub mod sessions;
 pub mod smaller;
+pub mod states;
 pub mod tables;
 pub mod words;
 pub mod write;
@@ -23,6 +25,8 @@ use crate::random::Rng;
 /// How many cases of each sort are written.
 #[derive(Clone, Copy, Debug)]
 pub struct Sizes {
+    /// 0: none of the cases of cases/, else all.
+    pub by_hand: usize,
     /// Lines of the longest conformance session; 0: none, and none of the manual.
     pub lines: usize,
     /// Random sessions, others chosen for their features, the calls of each.
@@ -34,6 +38,8 @@ pub struct Sizes {
     /// Conformance tables; single calls, chosen for their features.
     pub tables: usize,
     pub single: usize,
+    /// Calls on sound tables that no session made.
+    pub states: usize,
     /// Calls on full tables, at most 6.
     pub full: usize,
     pub words: usize,
@@ -44,7 +50,11 @@ pub struct Sizes {
 /// All cases of a seed.
 pub fn cases(seed: u64, sizes: Sizes) -> std::io::Result<Vec<Case>> {
     let mut rng = Rng::new(seed);
-    let mut cases = sessions::conformance(sizes.lines)?;
+    let mut cases = match sizes.by_hand {
+        0 => Vec::new(),
+        _ => by_hand::by_hand()?,
+    };
+    cases.extend(sessions::conformance(sizes.lines)?);
     if sizes.lines > 0 {
         cases.extend(sessions::of_manual()?);
     }
@@ -54,6 +64,7 @@ pub fn cases(seed: u64, sizes: Sizes) -> std::io::Result<Vec<Case>> {
     cases.extend(sessions::damaged(&mut rng, sizes.damaged));
     cases.extend(tables::conformance(sizes.tables)?);
     cases.extend(tables::single(&mut rng, sizes.single));
+    cases.extend(states::states(&mut rng, sizes.states));
     cases.extend(full::full().into_iter().take(sizes.full));
     cases.extend(altered::altered(&mut rng, sizes.altered));
     cases.extend(words::words(&mut rng, sizes.words)?);

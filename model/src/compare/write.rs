@@ -12,15 +12,16 @@ const HELP: &str = include_str!("help.txt");
 /// What every module of cases uses.
 const HEAD: &str = "-- Cases that the model wrote.
 use Prim.Native.Nat.{ℕ}
-use mathlib.Core.Bool.{Bool, true, false, not}
+use mathlib.Core.Bool.{Bool, true, false, not, _&&_}
 use mathlib.Core.List.{List, [], _∷_, _++_}
 use lib.Dec.{T}
 use lib.ListN.{replicate}
 use Rattle.rows.specs.Lists.{sameList, bytes}
 use Rattle.rows.specs.Tables.{noProcess}
 use Rattle.rows.specs.Sound.{sound}
+use Rattle.rows.specs.Layout.{stateOf}
 use Rattle.text.specs.Session.{session}
-use Rattle.compare.specs.Help.{row, request, process, state, tellNext, tellRows, tellRequests, tellProcesses, answerTo, stateAfter, calledSound, called, calledWords, openedWords, told, bitOf}
+use Rattle.compare.specs.Help.{row, request, process, state, tellNext, tellRows, tellRequests, tellProcesses, clauses, answerTo, stateAfter, calledSound, called, calledAll, sessionThen, calledWords, openedWords, wordsThen, openedThen, told, bitOf}
 
 ";
 

@@ -65,6 +65,18 @@ pub fn line(rng: &mut Rng, profile: Profile, tables: &Tables) -> Vec<u8> {
     }
 }
 
+/// A call with a caller and rows that nearly fit it.
+pub fn near_call(rng: &mut Rng, profile: Profile, tables: &Tables) -> Call {
+    let near = true;
+    Maker {
+        rng,
+        profile,
+        tables,
+        near,
+    }
+    .propose()
+}
+
 /// What a line is made from. A near proposal has a row of the caller's that
 /// need not fit the call.
 struct Maker<'a> {
@@ -149,7 +161,11 @@ impl<'a> Maker<'a> {
             Plan::Ask => self.propose_ask(),
             Plan::Comes => {
                 let rows: Vec<&Row> = self.tables.rows.iter().collect();
-                let row = self.pick_row(&rows).map_or(1, |r| r.number);
+                let row = match self.near && self.rng.percent(30) {
+                    true => Some(self.any_number()),
+                    false => self.pick_row(&rows).map(|r| r.number),
+                };
+                let row = row.unwrap_or(1);
                 let request = self.some_request(|_| true).map_or(1, |q| q.number);
                 Call::Comes { row, request }
             }

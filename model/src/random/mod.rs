@@ -1,4 +1,4 @@
-//! Random sessions, damaged texts and altered tables, from a seed.
+//! Random sessions, damaged texts, altered tables and sound tables, from a seed.
 
 pub mod aimed;
 pub mod alter;
@@ -7,9 +7,11 @@ pub mod lines;
 pub mod openings;
 pub mod prng;
 pub mod profile;
+pub mod sound_states;
 
 pub use prng::Rng;
 pub use profile::{Profile, PROFILES, SMALL};
+pub use sound_states::{sound_state, sound_state_of, Calls, Shape, SHAPES, SMALL_SHAPES};
 
 use crate::session::{call_sound, open};
 use crate::tables::Tables;

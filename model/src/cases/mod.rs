@@ -1,0 +1,110 @@
+//! The cases of cases/ (its README.md says how they are written), those of conformance/ and
+//! the sessions of docs/MANUAL.md, all in one form, for every runner.
+
+mod conformance;
+mod lent;
+mod read;
+mod run;
+
+pub use lent::Lent;
+pub use read::{ranges, read_text, Named};
+pub use run::{run, Entries};
+
+use crate::manual;
+use std::io;
+use std::path::{Path, PathBuf};
+
+/// What is said to the kernel, and what it answers, with its line feed.
+#[derive(Clone, Debug)]
+pub enum Step {
+    Open { text: Vec<u8>, answer: Vec<u8> },
+    Call { line: Vec<u8>, answer: Vec<u8> },
+}
+
+/// A case: what is lent, what is said and answered, what is lent afterwards.
+#[derive(Clone, Debug)]
+pub struct Case {
+    /// Where it stands, and what it is called.
+    pub at: String,
+    pub name: String,
+    pub rules: Vec<String>,
+    /// The one clause of soundness that what is lent breaks, 1 to 27.
+    pub breaks: Option<usize>,
+    /// None: words of any content, and the first step is an opening.
+    pub start: Option<Lent>,
+    pub steps: Vec<Step>,
+    /// None: nothing is said of it.
+    pub after: Option<Lent>,
+}
+
+impl Step {
+    pub fn answer(&self) -> &[u8] {
+        match self {
+            Step::Open { answer, .. } | Step::Call { answer, .. } => answer,
+        }
+    }
+
+    pub fn text(&self) -> &[u8] {
+        match self {
+            Step::Open { text, .. } => text,
+            Step::Call { line, .. } => line,
+        }
+    }
+}
+
+impl Case {
+    /// All that is said, as one text, and all answers.
+    pub fn session(&self) -> (Vec<u8>, Vec<u8>) {
+        let texts = self.steps.iter().flat_map(Step::text).copied();
+        let answers = self.steps.iter().flat_map(Step::answer).copied();
+        (texts.collect(), answers.collect())
+    }
+
+    /// Whether it is a session: an opening first, then calls, each a line by itself.
+    pub fn is_session(&self) -> bool {
+        let last = self.steps.len().saturating_sub(1);
+        let mut steps = self.steps.iter().enumerate();
+        let whole = |at: usize, text: &[u8]| {
+            let feed = text.iter().position(|b| *b == b'\n');
+            feed == text.len().checked_sub(1) || (feed.is_none() && at == last && at > 0)
+        };
+        let alone = steps.all(|(at, step)| match step {
+            Step::Open { .. } => at == 0,
+            Step::Call { line, .. } => at > 0 && whole(at, line),
+        });
+        self.start.is_none() && alone
+    }
+}
+
+/// The root of the repository.
+fn root() -> PathBuf {
+    Path::new(env!("CARGO_MANIFEST_DIR")).join("..")
+}
+
+/// The cases of cases/, in the order of the files' names.
+pub fn by_hand() -> io::Result<Vec<Case>> {
+    read::read_directory(&root().join("cases"))
+}
+
+/// The sessions of the manual, as cases.
+pub fn of_manual() -> io::Result<Vec<Case>> {
+    let sessions = manual::sessions(&manual::read()?).into_iter();
+    let cases = sessions.map(|told| {
+        let at = format!("docs/MANUAL.md:{}", told.line);
+        conformance::session(at, told.input.clone(), &told.output())
+    });
+    Ok(cases.collect())
+}
+
+/// The sessions and tables of conformance/, as cases.
+pub fn of_conformance() -> io::Result<Vec<Case>> {
+    conformance::read(&root().join("model/conformance"))
+}
+
+/// All of them.
+pub fn all() -> io::Result<Vec<Case>> {
+    let mut cases = by_hand()?;
+    cases.extend(of_manual()?);
+    cases.extend(of_conformance()?);
+    Ok(cases)
+}

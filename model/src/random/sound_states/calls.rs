@@ -1,0 +1,42 @@
+//! Calls on sound tables, chosen so that each ground of each refusal decides as often as any.
+
+use crate::call::Call;
+use crate::random::lines::near_call;
+use crate::random::{Rng, PROFILES};
+use crate::refusals::decided_by;
+use crate::tables::Tables;
+use std::collections::BTreeMap;
+
+/// How many calls are proposed for one.
+const PROPOSALS: usize = 40;
+
+/// How often each ground decided so far, by its rule's name.
+#[derive(Default)]
+pub struct Calls {
+    pub seen: BTreeMap<String, u64>,
+}
+
+impl Calls {
+    /// Of some calls on the tables the one whose ground decided the fewest so far.
+    pub fn call(&mut self, rng: &mut Rng, tables: &Tables) -> Call {
+        let profile = rng.pick(&PROFILES).unwrap_or(PROFILES[0]);
+        let mut chosen = near_call(rng, profile, tables);
+        let mut name = decided_by(tables, &chosen);
+        for _ in 0..PROPOSALS {
+            let call = near_call(rng, profile, tables);
+            let other = decided_by(tables, &call);
+            if other.is_some() && (name.is_none() || self.often(&other) < self.often(&name)) {
+                (chosen, name) = (call, other);
+            }
+        }
+        if let Some(name) = name {
+            *self.seen.entry(name).or_default() += 1;
+        }
+        chosen
+    }
+
+    fn often(&self, name: &Option<String>) -> u64 {
+        let seen = name.as_ref().and_then(|name| self.seen.get(name));
+        seen.copied().unwrap_or(0)
+    }
+}
