@@ -21,10 +21,9 @@ pub fn explain(start: Start, input: &[u8], out: &mut dyn Write) -> io::Result<()
 }
 
 fn opened(mut session: Session, out: &mut dyn Write) -> io::Result<()> {
-    let begun = if session.resumed() {
-        "tables handed in"
-    } else {
-        "opening -> (ok 0)"
+    let begun = match session.opening() {
+        b"" => "tables handed in",
+        _ => "opening -> (ok 0)",
     };
     writeln!(out, "{begun}")?;
     writeln!(out, "    {}", sentence(&opening(session.state())))?;

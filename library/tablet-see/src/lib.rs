@@ -12,6 +12,7 @@ mod grounds_one;
 mod json;
 mod list;
 pub mod opening;
+mod page;
 mod relations;
 pub mod run;
 mod session;

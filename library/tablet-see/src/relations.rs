@@ -81,12 +81,17 @@ pub fn around(state: &State, row: u32) -> BTreeSet<u32> {
             found.insert(row.number);
         }
     }
-    let mut above = BTreeSet::from([row]);
+    found.extend(above(state, &BTreeSet::from([row])));
+    found
+}
+
+/// Rows and all that they come from. Sources are older, so one pass in falling number finds them all.
+pub fn above(state: &State, rows: &BTreeSet<u32>) -> BTreeSet<u32> {
+    let mut found = rows.clone();
     for row in state.rows.iter().rev() {
-        if above.contains(&row.number) {
-            above.extend(row.sources());
+        if found.contains(&row.number) {
+            found.extend(row.sources());
         }
     }
-    found.extend(above);
     found
 }

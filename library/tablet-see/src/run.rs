@@ -4,6 +4,7 @@ use crate::args::{self, Args, Command, Form};
 use crate::draw;
 use crate::explain::{explain, unsound_words};
 use crate::list;
+use crate::page::page;
 use crate::session::{open, resume, Session, Start};
 use crate::what_if::what_if;
 use std::io::{self, Read, Write};
@@ -98,7 +99,8 @@ fn show(args: &Args, session: Session, out: &mut dyn Write) -> Result<(), Proble
             out.write_all(text.as_bytes())?;
         }
         Command::WhatIf { line } => what_if(&played(session, args.after)?, line, out)?,
-        _ => {}
+        Command::Page => page(session, out)?,
+        Command::Help | Command::Explain => {}
     }
     Ok(())
 }

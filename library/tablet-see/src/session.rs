@@ -25,7 +25,7 @@ pub struct Session {
     lines: std::vec::IntoIter<Vec<u8>>,
     calls: usize,
     gone: Gone,
-    resumed: bool,
+    opening: Vec<u8>,
 }
 
 /// One call: its number from 1, its line, its answer, the state before and after.
@@ -49,7 +49,7 @@ pub fn open(input: &[u8]) -> Start {
     }
     let opening = input.get(..length).unwrap_or(input);
     match Tables::open(opening) {
-        Ok(tables) => begin(tables, text.map(<[u8]>::to_vec).collect(), false),
+        Ok(tables) => begin(tables, text.map(<[u8]>::to_vec).collect(), opening),
         Err(refusal) => Start::Refused(refusal, refused(opening)),
     }
 }
@@ -59,12 +59,12 @@ pub fn resume(words: Words, input: &[u8]) -> Start {
     let lines = input.split_inclusive(|&b| b == b'\n');
     let lines = lines.map(<[u8]>::to_vec).collect();
     match Tables::from_words(words) {
-        Ok(tables) => begin(tables, lines, true),
+        Ok(tables) => begin(tables, lines, b""),
         Err(words) => Start::Unsound(unsound(&words.tables, &words.processes), lines),
     }
 }
 
-fn begin(tables: Tables<'static>, lines: Vec<Vec<u8>>, resumed: bool) -> Start {
+fn begin(tables: Tables<'static>, lines: Vec<Vec<u8>>, opening: &[u8]) -> Start {
     let state = tables.state();
     let lines = lines.into_iter();
     Start::Open(Session {
@@ -73,7 +73,7 @@ fn begin(tables: Tables<'static>, lines: Vec<Vec<u8>>, resumed: bool) -> Start {
         lines,
         calls: 0,
         gone: Gone::new(),
-        resumed,
+        opening: opening.to_vec(),
     })
 }
 
@@ -93,9 +93,9 @@ impl Session {
         &self.gone
     }
 
-    /// Whether it began with words handed in, not with an opening.
-    pub fn resumed(&self) -> bool {
-        self.resumed
+    /// The opening text; empty if it began with words handed in.
+    pub fn opening(&self) -> &[u8] {
+        &self.opening
     }
 
     /// Makes the next call of the input.

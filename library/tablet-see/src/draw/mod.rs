@@ -6,7 +6,7 @@ pub mod svg;
 
 use crate::args::Focus;
 use crate::list;
-use crate::relations::{around, coming_from, listing, why_lent};
+use crate::relations::{above, around, coming_from, listing, why_lent};
 use crate::wording::right_names;
 use std::collections::BTreeSet;
 use tablet::{Kind, Place, Request, Row, State};
@@ -15,8 +15,8 @@ use tablet::{Kind, Place, Request, Row, State};
 pub struct Picture {
     pub lanes: Vec<Lane>,
     pub requests: Vec<RequestCard>,
-    /// Cards that come from the request looked at; none if none is.
-    pub marked: Option<BTreeSet<u32>>,
+    /// The request looked at and the rows that come from it; none if none is.
+    pub marked: Option<(u32, BTreeSet<u32>)>,
 }
 
 /// A holder: a node, a c-list or the system.
@@ -37,9 +37,10 @@ pub struct Card {
     pub note: String,
 }
 
-/// An open request, under the column of its port's ends.
+/// An open request.
 pub struct RequestCard {
     pub request: Request,
+    /// Of the ends of its port.
     pub depth: u32,
     pub title: String,
     pub subtitle: String,
@@ -58,13 +59,13 @@ pub fn picture(state: &State, focus: Focus) -> Result<Picture, String> {
     Ok(Picture {
         lanes: lanes(state, &drawn, part.is_some()),
         requests: requests(state, &drawn),
-        marked: focus.request.map(|q| coming_from(state, q)),
+        marked: focus.request.map(|q| (q, coming_from(state, q))),
     })
 }
 
-/// The part of a state around some rows: these, what they come from and what comes from them.
+/// Some rows and all that they come from.
 pub fn part(state: &State, rows: &BTreeSet<u32>) -> Picture {
-    let part: BTreeSet<u32> = rows.iter().flat_map(|row| around(state, *row)).collect();
+    let part = above(state, rows);
     let drawn = |row: &Row| part.contains(&row.number);
     Picture {
         lanes: lanes(state, &drawn, true),
@@ -92,7 +93,7 @@ fn lanes(state: &State, drawn: &dyn Fn(&Row) -> bool, only_part: bool) -> Vec<La
         .collect()
 }
 
-fn lane_words(state: &State, place: Place) -> (String, String) {
+pub fn lane_words(state: &State, place: Place) -> (String, String) {
     let inside = match place {
         Place::CList(p) => state
             .process(p)
@@ -105,7 +106,7 @@ fn lane_words(state: &State, place: Place) -> (String, String) {
     match place {
         Place::Node(n) => (format!("node {n}"), inside),
         Place::CList(p) => (format!("process {p}"), inside),
-        Place::System => ("system".to_string(), "not fetched".to_string()),
+        Place::System => ("system".to_string(), "lent, not fetched".to_string()),
     }
 }
 

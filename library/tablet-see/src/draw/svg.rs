@@ -39,13 +39,16 @@ struct Plan<'a> {
 pub fn svg(picture: &Picture, styled: bool) -> String {
     let plan = plan(picture);
     let (w, h) = (plan.width, plan.height);
-    let style = if styled {
-        format!("<style>\n{STYLE}</style>\n")
-    } else {
-        String::new()
+    // in a page it shrinks to three quarters at most, then it is scrolled
+    let (style, least) = match styled {
+        true => (format!("<style>\n{STYLE}</style>\n"), String::new()),
+        false => (
+            String::new(),
+            format!(" style=\"min-width:{}px\"", w * 3 / 4),
+        ),
     };
     let mut out = format!(
-        "<svg xmlns=\"http://www.w3.org/2000/svg\" class=\"tablet\" viewBox=\"0 0 {w} {h}\" width=\"{w}\" height=\"{h}\" \
+        "<svg xmlns=\"http://www.w3.org/2000/svg\" class=\"tablet\" viewBox=\"0 0 {w} {h}\" width=\"{w}\" height=\"{h}\"{least} \
          role=\"img\" aria-label=\"who holds what, and what comes from what\">\n{style}"
     );
     out += "<defs><marker id=\"tip\" viewBox=\"0 0 8 8\" refX=\"7\" refY=\"4\" markerWidth=\"7\" markerHeight=\"7\" \
@@ -58,7 +61,7 @@ pub fn svg(picture: &Picture, styled: bool) -> String {
         plan.lanes.get(picture.lanes.len()),
         picture.requests.is_empty(),
     ) {
-        out += &label("requests", "open requests", "", *top, *height, w);
+        out += &label("requests", "requests", "open", *top, *height, w);
     }
     let cards = || picture.lanes.iter().flat_map(|lane| &lane.cards);
     cards().for_each(|card| out += &sources(&plan, card));
@@ -79,7 +82,6 @@ pub fn svg(picture: &Picture, styled: bool) -> String {
 fn plan(picture: &Picture) -> Plan<'_> {
     let cards = || picture.lanes.iter().flat_map(|lane| &lane.cards);
     let mut depths: Vec<u32> = cards().map(|card| card.row.depth).collect();
-    depths.extend(picture.requests.iter().map(|q| q.depth));
     depths.sort_unstable();
     depths.dedup();
     let letters =
@@ -111,11 +113,23 @@ fn plan(picture: &Picture) -> Plan<'_> {
         plan.rows.extend(spots);
     }
     if !picture.requests.is_empty() {
-        let cards = picture.requests.iter().map(|q| (q.request.number, q.depth));
+        let cards = beside_ports(picture, &depths).into_iter();
         plan.requests = plan.lane(cards, &x).into_iter().collect();
     }
     plan.height += MARGIN;
     plan
+}
+
+/// Each request in a column that has the fewest, and of these in the one nearest to its port's.
+fn beside_ports(picture: &Picture, depths: &[u32]) -> Vec<(u32, u32)> {
+    let mut taken: BTreeMap<u32, u32> = depths.iter().map(|depth| (*depth, 0)).collect();
+    let place = |q: &RequestCard| {
+        let nearest = |(depth, count): &(&u32, &mut u32)| (**count, depth.abs_diff(q.depth));
+        let (depth, count) = taken.iter_mut().min_by_key(nearest)?;
+        *count += 1;
+        Some((q.request.number, *depth))
+    };
+    picture.requests.iter().filter_map(place).collect()
 }
 
 impl Plan<'_> {
@@ -145,7 +159,7 @@ impl Plan<'_> {
     fn mark(&self, row: u32) -> &'static str {
         match &self.picture.marked {
             None => "",
-            Some(marked) if marked.contains(&row) => " marked",
+            Some((_, marked)) if marked.contains(&row) => " marked",
             Some(_) => " dim",
         }
     }
@@ -222,27 +236,29 @@ fn port(plan: &Plan, card: &Card) -> String {
     format!("<path class=\"port{mark}\" d=\"M{x} {y1}C{bend} {y1} {bend} {y2} {x} {y2}\"/>\n")
 }
 
-/// From a request to the client end of its port, and to what it lends.
+/// From a request to the client end of its port, and to what it lends: up beside the column, and into the card's right.
 fn request_lines(plan: &Plan, q: &RequestCard) -> String {
     let Some(at) = plan.requests.get(&q.request.number) else {
         return String::new();
     };
     let mut out = String::new();
-    let mut line = |row: u32, class: &str, shift: u32| {
+    let mut line = |row: u32, class: &str, shift: u32, k: u32| {
         if let Some(to) = plan.rows.get(&row) {
-            let (x1, y1) = (at.x + shift, at.y);
-            let (x2, y2) = (to.x + shift, to.y + CARD_HEIGHT);
-            let bend = (y1.saturating_sub(y2) / 2).max(10);
+            let (x1, y1) = (at.x + plan.card_width - 24 - 14 * k, at.y);
+            let (x2, y2) = (to.x + plan.card_width, to.y + shift);
+            let beside = x2 + 8 + q.request.number * 7 % 36;
             out += &format!(
-                "<path class=\"{class}\" d=\"M{x1} {y1}C{x1} {} {x2} {} {x2} {y2}\"/>\n",
-                y1 - bend,
-                y2 + bend
+                "<path class=\"{class}\" d=\"M{x1} {y1}C{x1} {} {beside} {} {beside} {}V{}Q{beside} {y2} {x2} {y2}\"/>\n",
+                y1 - 30,
+                y1 - 6,
+                y1 - 36,
+                y2 + 12
             );
         }
     };
-    line(q.request.port, "asks", plan.card_width - 24);
-    for (item, k) in q.request.listed().zip(0..) {
-        line(item, "lends", plan.card_width / 2 + 12 * k);
+    line(q.request.port, "asks", 12, 0);
+    for (item, k) in q.request.listed().zip(1..) {
+        line(item, "lends", CARD_HEIGHT - 8, k);
     }
     out
 }
@@ -278,10 +294,15 @@ fn request_box(plan: &Plan, q: &RequestCard) -> String {
         return String::new();
     };
     let words = (q.request.number, q.title.as_str(), q.subtitle.as_str());
+    let looked_at = plan.picture.marked.as_ref().map(|(request, _)| *request);
+    let class = match looked_at == Some(q.request.number) {
+        true => "card request marked",
+        false => "card request",
+    };
     boxed(
         plan,
         *at,
-        "card request",
+        class,
         4,
         words,
         &crate::list::request(&q.request),
