@@ -1,8 +1,9 @@
-/* check.c: what tablet.h promises of lengths, short replies and bytes after an answer, each checked once. */
+/* check.c: what tablet.h promises of lengths, short replies, bytes after an answer and the stack, each checked once. */
 #include "tablet.h"
 
 #include <stdio.h>
 #include <string.h>
+#include <ucontext.h>
 
 static uint32_t tables[TABLET_TABLES_WORDS + 1], tables_before[TABLET_TABLES_WORDS + 1];
 static uint32_t processes[TABLET_PROCESSES_WORDS + 1], processes_before[TABLET_PROCESSES_WORDS + 1];
@@ -85,9 +86,49 @@ static void calls(void) {
     check("words that are not sound", answered(call(t, p, "(1 hold 1)\n", 256), "(no 1)\n") && unchanged());
 }
 
-int main(void) {
+/* every call once, so that the stack of each is seen */
+static void twelve(void) {
+    static const char *const lines[] = {
+        "(1 hold 1)\n", "(1 port 2)\n",  "(1 ask 3 (2 7))\n", "(1 fetch 4)\n", "(1 port 6)\n",   "(comes 7 5)\n",   "(1 revoke 5)\n",
+        "(1 port 2)\n", "(1 ask 9)\n",   "(1 fetch 10)\n",    "(1 reply 10)\n", "(1 ask 9)\n",   "(1 refuse 10)\n", "(1 close 9)\n",
+        "(1 go 0)\n",   "(1 register 2)\n", "(1 hold 1)\n",   "(1 drop 14)\n",
+    };
+    const char *text = "(node 1 (op 1 0 7))\n(process 1 1)\n(open)\n";
+    open_text(TABLET_TABLES_WORDS, TABLET_PROCESSES_WORDS, text, 256);
+    for (size_t i = 0; i < sizeof lines / sizeof *lines; i++) {
+        call(TABLET_TABLES_WORDS, TABLET_PROCESSES_WORDS, lines[i], 256);
+        check(lines[i], memcmp(reply, "(ok ", 4) == 0);
+    }
+}
+
+/* a stack of its own, filled with a pattern, shows how much of it was used */
+static unsigned char stack[4 * TABLET_STACK_BYTES];
+static ucontext_t here, there;
+
+static void on_that_stack(void) {
     openings();
     calls();
+    twelve();
+}
+
+static size_t stack_used(void) {
+    memset(stack, 0xa5, sizeof stack);
+    getcontext(&there);
+    there.uc_stack.ss_sp = stack;
+    there.uc_stack.ss_size = sizeof stack;
+    there.uc_link = &here;
+    makecontext(&there, on_that_stack, 0);
+    swapcontext(&here, &there);
+    size_t unused = 0;
+    while (unused < sizeof stack && stack[unused] == 0xa5)
+        unused++;
+    return sizeof stack - unused;
+}
+
+int main(void) {
+    size_t used = stack_used();
+    printf("%lu bytes of stack used\n", (unsigned long)used);
+    check("the stack that tablet.h names suffices", used <= TABLET_STACK_BYTES);
     printf("%d passed, %d failed\n", passed, failed);
     return failed != 0;
 }

@@ -209,12 +209,19 @@ fn sources(plan: &Plan, card: &Card) -> String {
         let shift = if class == "first" { 0 } else { 10 };
         let (x1, y1) = (at.x, at.y + CARD_HEIGHT / 2 + shift);
         let (x2, y2) = (to.x + plan.card_width, to.y + CARD_HEIGHT / 2);
-        let bend = (x1.saturating_sub(x2) / 2).clamp(30, 120);
+        let apart = x1.saturating_sub(x2);
+        // over more than one column it goes above the cards between
+        let (bend, lift) = match apart > COLUMN_GAP {
+            true => (apart / 4, 40),
+            false => (apart / 2, 0),
+        };
         let mark = plan.mark(card.row.number);
         out += &format!(
-            "<path class=\"source {class}{mark}\" marker-end=\"url(#tip)\" d=\"M{x1} {y1}C{} {y1} {} {y2} {x2} {y2}\"/>\n",
+            "<path class=\"source {class}{mark}\" marker-end=\"url(#tip)\" d=\"M{x1} {y1}C{} {} {} {} {x2} {y2}\"/>\n",
             x1 - bend,
-            x2 + bend
+            y1.saturating_sub(lift),
+            x2 + bend,
+            y2.saturating_sub(lift)
         );
     }
     out
