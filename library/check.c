@@ -1,0 +1,134 @@
+/* check.c: what tablet.h promises of lengths, short replies, bytes after an answer and the stack, each checked once. */
+#include "tablet.h"
+
+#include <stdio.h>
+#include <string.h>
+#include <ucontext.h>
+
+static uint32_t tables[TABLET_TABLES_WORDS + 1], tables_before[TABLET_TABLES_WORDS + 1];
+static uint32_t processes[TABLET_PROCESSES_WORDS + 1], processes_before[TABLET_PROCESSES_WORDS + 1];
+static uint8_t reply[TABLET_REPLY_BYTES + 1];
+static int passed, failed;
+
+static void check(const char *what, int holds) {
+    if (holds) {
+        passed++;
+    } else {
+        failed++;
+        printf("fails: %s\n", what);
+    }
+}
+
+static size_t open_text(size_t tables_len, size_t processes_len, const char *text, size_t reply_len) {
+    memset(reply, '#', sizeof reply);
+    return tablet_open(tables, tables_len, processes, processes_len, (const uint8_t *)text, strlen(text), reply, reply_len);
+}
+
+static size_t call(size_t tables_len, size_t processes_len, const char *line, size_t reply_len) {
+    memset(reply, '#', sizeof reply);
+    memcpy(tables_before, tables, sizeof tables);
+    memcpy(processes_before, processes, sizeof processes);
+    return tablet_call(tables, tables_len, processes, processes_len, (const uint8_t *)line, strlen(line), reply, reply_len);
+}
+
+/* the answer is this line, and every byte after it is as it was */
+static int answered(size_t length, const char *line) {
+    if (length != strlen(line) || memcmp(reply, line, length) != 0)
+        return 0;
+    for (size_t i = length; i < sizeof reply; i++)
+        if (reply[i] != '#')
+            return 0;
+    return 1;
+}
+
+static int unchanged(void) {
+    return memcmp(tables, tables_before, sizeof tables) == 0 && memcmp(processes, processes_before, sizeof processes) == 0;
+}
+
+static int all(const uint32_t *words, size_t length, uint32_t value) {
+    for (size_t i = 0; i < length; i++)
+        if (words[i] != value)
+            return 0;
+    return 1;
+}
+
+static void openings(void) {
+    const size_t t = TABLET_TABLES_WORDS, p = TABLET_PROCESSES_WORDS;
+    memset(tables, 0xff, sizeof tables);
+    memset(processes, 0xff, sizeof processes);
+    check("a reply of 255 bytes: 0", open_text(t, p, "(open)\n", 255) == 0 && answered(0, ""));
+    check("and nothing is written", all(tables, t, 0xffffffff) && all(processes, p, 0xffffffff));
+    check("an opening with other words before", answered(open_text(t, p, "(open)\n", 256), "(ok 0)\n"));
+    check("leaves empty tables, next number 1", all(tables, t - 1, 0) && tables[t - 1] == 1 && all(processes, p, 0));
+    check("the word after the tables is not touched", tables[t] == 0xffffffff && processes[p] == 0xffffffff);
+    check("a refused opening", answered(open_text(t, p, "(node 1)\n(node 1)\n(open)\n", 257), "(no 4 2)\n"));
+    check("no text", answered(open_text(t, p, "", 256), "(no 2 1)\n"));
+    check("a run too long", answered(open_text(t + 1, p, "(open)\n", 256), "(no 1 0)\n"));
+    check("is set to 0", all(tables, t + 1, 0));
+    check("a run too short", answered(open_text(t, p - 1, "(open)\n", 256), "(no 1 0)\n"));
+    check("and the other run is that of empty tables", all(tables, t - 1, 0) && tables[t - 1] == 1);
+    check("no words", answered(open_text(0, 0, "(open)\n", 256), "(no 1 0)\n"));
+}
+
+static void calls(void) {
+    const size_t t = TABLET_TABLES_WORDS, p = TABLET_PROCESSES_WORDS;
+    const char *text = "(node 1 (op 1 0 7))\n(process 1 1)\n(open)\nwhat follows does not matter";
+    check("an opening", answered(open_text(t, p, text, 256), "(ok 0)\n"));
+    check("a reply of no bytes: 0", call(t, p, "(1 hold 1)\n", 0) == 0 && answered(0, "") && unchanged());
+    check("a call", answered(call(t, p, "(1 hold 1)\n", 256), "(ok 2)\n") && !unchanged());
+    check("a refused call", answered(call(t, p, "(1 hold 2)\n", 256), "(no 7)\n") && unchanged());
+    check("a line without its line feed", answered(call(t, p, "(1 hold 1)", 256), "(no 2)\n") && unchanged());
+    check("no line", answered(call(t, p, "", 256), "(no 2)\n") && unchanged());
+    check("a run too short", answered(call(t - 1, p, "(1 hold 1)\n", 256), "(no 1)\n") && unchanged());
+    check("a run too long", answered(call(t, p + 1, "(1 hold 1)\n", 256), "(no 1)\n") && unchanged());
+    check("no words", answered(call(0, 0, "(1 hold 1)\n", 256), "(no 1)\n") && unchanged());
+    tables[4 * 1024] = 8; /* the rights of the first row */
+    check("words that are not sound", answered(call(t, p, "(1 hold 1)\n", 256), "(no 1)\n") && unchanged());
+}
+
+/* every call once, so that the stack of each is seen */
+static void twelve(void) {
+    static const char *const lines[] = {
+        "(1 hold 1)\n", "(1 port 2)\n",  "(1 ask 3 (2 7))\n", "(1 fetch 4)\n", "(1 port 6)\n",   "(comes 7 5)\n",   "(1 revoke 5)\n",
+        "(1 port 2)\n", "(1 ask 9)\n",   "(1 fetch 10)\n",    "(1 reply 10)\n", "(1 ask 9)\n",   "(1 refuse 10)\n", "(1 close 9)\n",
+        "(1 go 0)\n",   "(1 register 2)\n", "(1 hold 1)\n",   "(1 drop 14)\n",
+    };
+    const char *text = "(node 1 (op 1 0 7))\n(process 1 1)\n(open)\n";
+    open_text(TABLET_TABLES_WORDS, TABLET_PROCESSES_WORDS, text, 256);
+    for (size_t i = 0; i < sizeof lines / sizeof *lines; i++) {
+        call(TABLET_TABLES_WORDS, TABLET_PROCESSES_WORDS, lines[i], 256);
+        check(lines[i], memcmp(reply, "(ok ", 4) == 0);
+    }
+}
+
+/* a stack of its own, filled with a pattern, shows how much of it was used */
+static unsigned char stack[4 * TABLET_STACK_BYTES];
+static ucontext_t here, there;
+
+static void on_that_stack(void) {
+    openings();
+    calls();
+    twelve();
+}
+
+static size_t stack_used(void) {
+    memset(stack, 0xa5, sizeof stack);
+    getcontext(&there);
+    there.uc_stack.ss_sp = stack;
+    there.uc_stack.ss_size = sizeof stack;
+    there.uc_link = &here;
+    makecontext(&there, on_that_stack, 0);
+    swapcontext(&here, &there);
+    size_t unused = 0;
+    while (unused < sizeof stack && stack[unused] == 0xa5)
+        unused++;
+    return sizeof stack - unused;
+}
+
+int main(void) {
+    size_t used = stack_used();
+    printf("%lu bytes of stack used\n", (unsigned long)used);
+    check("the stack that tablet.h names suffices", used <= TABLET_STACK_BYTES);
+    printf("%d passed, %d failed\n", passed, failed);
+    return failed != 0;
+}

@@ -1,0 +1,184 @@
+//! A call line: the call that it names, with the bytes of each number.
+
+use crate::form::{bad, read_line, BadForm, Number, Part, Span};
+
+/// (rule F2) The words that take a caller and one number.
+#[derive(Clone, Copy, PartialEq, Eq, Debug)]
+pub enum Verb {
+    Go,
+    Hold,
+    Register,
+    Drop,
+    Port,
+    Close,
+    Fetch,
+    Reply,
+    Refuse,
+    Revoke,
+}
+
+const VERBS: [(&str, Verb); 10] = [
+    ("go", Verb::Go),
+    ("hold", Verb::Hold),
+    ("register", Verb::Register),
+    ("drop", Verb::Drop),
+    ("port", Verb::Port),
+    ("close", Verb::Close),
+    ("fetch", Verb::Fetch),
+    ("reply", Verb::Reply),
+    ("refuse", Verb::Refuse),
+    ("revoke", Verb::Revoke),
+];
+
+/// An item of an ask: a row and the rights lent.
+#[derive(Clone, Copy, PartialEq, Eq, Debug)]
+pub struct Item {
+    pub row: Number,
+    pub rights: Number,
+}
+
+/// A call of good form; its numbers may be out of range.
+#[derive(Clone, PartialEq, Eq, Debug)]
+pub enum Call {
+    One {
+        caller: Number,
+        verb: Verb,
+        number: Number,
+    },
+    Ask {
+        caller: Number,
+        client: Number,
+        items: Vec<Item>,
+    },
+    Comes {
+        row: Number,
+        request: Number,
+    },
+}
+
+/// (rules F1, F2, F3) The call on a line, or where and why it is none.
+pub fn read_call(line: &[u8]) -> Result<Call, BadForm> {
+    let parts = read_line(line)?;
+    match parts.as_slice() {
+        [Part::Word(word, _), rest @ ..] if word == "comes" => {
+            let [row, request] =
+                numbers(rest, line, "comes wants a row and a request: (comes e q)")?;
+            Ok(Call::Comes { row, request })
+        }
+        [Part::Number(caller), Part::Word(word, _), rest @ ..] if word == "ask" => {
+            ask(*caller, rest, line)
+        }
+        [Part::Number(caller), Part::Word(word, span), rest @ ..] => {
+            let verb = VERBS.into_iter().find(|(text, _)| text == word);
+            let (_, verb) = verb.ok_or_else(|| no_call(word, *span))?;
+            let why = format!("{word} wants one number: (p {word} n)");
+            let [number] = numbers(rest, line, &why)?;
+            Ok(Call::One {
+                caller: *caller,
+                verb,
+                number,
+            })
+        }
+        [Part::Word(_, span), ..] => Err(bad(
+            span.from,
+            span.to,
+            "F3",
+            "a call begins with the caller's number, only comes does not",
+        )),
+        [Part::Form(_, span), ..] | [_, Part::Form(_, span), ..] => Err(bad(
+            span.from,
+            span.to,
+            "F3",
+            "here should be the caller's number and a word",
+        )),
+        _ => Err(bad(
+            0,
+            line.len() - 1,
+            "F3",
+            "the word of the call is missing: (p WORD n)",
+        )),
+    }
+}
+
+fn no_call(word: &str, span: Span) -> BadForm {
+    let why = match word {
+        "comes" => "comes has no caller: (comes e q)".to_string(),
+        _ => format!("'{word}' is no call"),
+    };
+    bad(span.from, span.to, "F3", why)
+}
+
+fn ask(caller: Number, parts: &[Part], line: &[u8]) -> Result<Call, BadForm> {
+    let Some((Part::Number(client), items)) = parts.split_first() else {
+        let why = "ask wants a client end and items: (p ask c (e r) ..)";
+        return Err(misfit(parts.first(), line, why));
+    };
+    let items = items
+        .iter()
+        .map(|part| item(part, line))
+        .collect::<Result<_, _>>()?;
+    Ok(Call::Ask {
+        caller,
+        client: *client,
+        items,
+    })
+}
+
+fn item(part: &Part, line: &[u8]) -> Result<Item, BadForm> {
+    let why = "an item is a row and the rights lent: (e r)";
+    let Part::Form(parts, _) = part else {
+        return Err(misfit(Some(part), line, why));
+    };
+    match parts.as_slice() {
+        [Part::Number(row), Part::Number(rights)] => Ok(Item {
+            row: *row,
+            rights: *rights,
+        }),
+        _ => Err(misfit(Some(part), line, why)),
+    }
+}
+
+/// So many numbers and no more.
+fn numbers<const N: usize>(parts: &[Part], line: &[u8], why: &str) -> Result<[Number; N], BadForm> {
+    let fitting = parts
+        .iter()
+        .take(N)
+        .take_while(|part| matches!(part, Part::Number(_)));
+    let fitting: Vec<Number> = fitting
+        .filter_map(|p| {
+            if let Part::Number(n) = p {
+                Some(*n)
+            } else {
+                None
+            }
+        })
+        .collect();
+    let odd = parts.get(fitting.len());
+    match (fitting.try_into(), odd) {
+        (Ok(numbers), None) => Ok(numbers),
+        _ => Err(misfit(odd, line, why)),
+    }
+}
+
+/// (rule T5) A part that does not belong here, or the place where one is missing.
+pub fn misfit(part: Option<&Part>, line: &[u8], why: &str) -> BadForm {
+    let last = line.len().saturating_sub(2);
+    let span = part.map_or(
+        Span {
+            from: last,
+            to: last + 1,
+        },
+        Part::span,
+    );
+    bad(span.from, span.to, "T5", why)
+}
+
+impl Call {
+    /// None for `(comes e q)`.
+    pub fn caller(&self) -> Option<Number> {
+        match self {
+            Call::One { caller, .. } | Call::Ask { caller, .. } => Some(*caller),
+            Call::Comes { .. } => None,
+        }
+    }
+}

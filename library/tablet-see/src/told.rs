@@ -1,0 +1,271 @@
+//! A call told in sentences: what was made, moved, lent, brought back or removed, or why it was refused.
+
+use crate::call::{read_call, Call};
+use crate::change::{change, Change};
+use crate::ground::ground;
+use crate::relations::why_comes;
+use crate::session::{Gone, Step};
+use crate::wording::*;
+use tablet::{Answer, Kind, Place, Record, Refusal, Request, Row, State};
+
+/// What a call did, or why it was refused, one sentence each.
+pub fn told(step: &Step, gone: &Gone) -> Vec<String> {
+    let lines = match &step.answer {
+        Answer::No(refusal) => vec![
+            refused(step, *refusal, gone),
+            refusal.remedy().trim_end_matches('.').to_string(),
+        ],
+        Answer::Ok(numbers) => match read_call(&step.line) {
+            Ok(Call::Comes { row, request }) => {
+                vec![comes(&step.before, row.value, request.value, numbers)]
+            }
+            _ => accepted(step),
+        },
+    };
+    lines.iter().map(|line| sentence(line)).collect()
+}
+
+/// What an accepted call changed.
+fn accepted(step: &Step) -> Vec<String> {
+    let told = changes(&step.before, &step.after);
+    if told.is_empty() {
+        return vec!["nothing is changed".to_string()];
+    }
+    told.into_iter().map(|(_, line)| line).collect()
+}
+
+/// `refusal 7, rule ask-7a: no row 9 stands: it has gone`
+fn refused(step: &Step, refusal: Refusal, gone: &Gone) -> String {
+    let number = refusal.number();
+    match ground(&step.before, &step.line) {
+        Some(ground) if ground.number == number => {
+            let by = gone.get(&ground.subject).filter(|_| number == 7);
+            let by = by.map_or(String::new(), |call| format!(", by call {call}"));
+            format!(
+                "refusal {number}, rule {}: {}{by}",
+                ground.rule, ground.text
+            )
+        }
+        _ => format!(
+            "refusal {number}: {}",
+            refusal.meaning().trim_end_matches('.')
+        ),
+    }
+}
+
+fn comes(state: &State, row: u32, request: u32, numbers: &[u32]) -> String {
+    let chain = state.row(row).and_then(|r| why_comes(state, r, request));
+    match (numbers, chain.as_deref()) {
+        ([1], Some([_])) => format!("row {row} comes from request {request}: it bears its number"),
+        ([1], Some([_, sources @ ..])) => {
+            let last = sources.last().copied().unwrap_or_default();
+            let sources = chained(sources);
+            format!("row {row} comes from request {request}: it was made from {sources}, and {last} bears its number")
+        }
+        ([1], _) => format!("row {row} comes from request {request}"),
+        _ => format!("row {row} does not come from request {request}; nothing is changed"),
+    }
+}
+
+/// `row 9, that from row 8`
+fn chained(rows: &[u32]) -> String {
+    let rows: Vec<String> = rows.iter().map(|n| format!("row {n}")).collect();
+    rows.join(", that from ")
+}
+
+/// What a sentence about a change tells of.
+#[derive(Clone, Copy, PartialEq, Eq, Debug)]
+pub enum Part {
+    Made,
+    Moved,
+    Back,
+    Closed,
+    Gone,
+}
+
+/// What is different after a call that was accepted.
+pub fn changes(before: &State, after: &State) -> Vec<(Part, String)> {
+    let change = change(before, after);
+    let moves = if change.closed.is_empty() {
+        Part::Moved
+    } else {
+        Part::Back
+    };
+    let mut told: Vec<(Part, String)> = Vec::new();
+    let mut tell = |part: Part, lines: &mut dyn Iterator<Item = String>| {
+        told.extend(lines.map(|line| (part, line)));
+    };
+    tell(
+        Part::Made,
+        &mut change.opened.iter().map(|q| opened(after, q)),
+    );
+    tell(
+        Part::Moved,
+        &mut change.fetched.iter().map(|q| fetched(after, q)),
+    );
+    tell(Part::Closed, &mut change.closed.iter().map(closed));
+    tell(
+        Part::Made,
+        &mut change.made.iter().filter_map(|row| made(after, row)),
+    );
+    tell(
+        moves,
+        &mut change
+            .moved
+            .iter()
+            .map(|(row, from)| moved(row, *from, moves)),
+    );
+    tell(Part::Gone, &mut gone(before, &change).into_iter());
+    tell(
+        Part::Moved,
+        &mut change.left.iter().map(|(q, row)| left(*q, *row)),
+    );
+    tell(
+        Part::Moved,
+        &mut change.records.iter().map(|(p, record)| stands(*p, record)),
+    );
+    told
+}
+
+fn opened(state: &State, q: &Request) -> String {
+    let items: Vec<u32> = q.listed().collect();
+    let items = match items.as_slice() {
+        [] => "lends nothing".to_string(),
+        items => format!("lends {}", numbers(items)),
+    };
+    let server = server_of(state, q.port);
+    format!(
+        "request {} is open on port {}: process {} asks {server} and {items}",
+        q.number, q.port, q.asker
+    )
+}
+
+fn fetched(state: &State, q: &Request) -> String {
+    format!(
+        "request {} of process {} is fetched by {}",
+        q.number,
+        q.asker,
+        server_of(state, q.port)
+    )
+}
+
+fn closed(q: &Request) -> String {
+    format!(
+        "request {} of process {} on port {} is closed",
+        q.number, q.asker, q.port
+    )
+}
+
+/// A new row; a server end is told with its client end.
+fn made(state: &State, row: &Row) -> Option<String> {
+    let n = row.number;
+    let [first, second] = row.sources;
+    let thing = thing(row);
+    if row.bears != 0 {
+        return Some(format!(
+            "row {n}: {thing}, {}; a copy of row {first}",
+            lent(state, row)
+        ));
+    }
+    match (row.kind, row.place) {
+        (Kind::Server, _) => None,
+        (Kind::Client, _) => {
+            let server = state.row(n + 1).map_or(String::new(), |s| {
+                format!(", server end {} {}", n + 1, at(s.place))
+            });
+            Some(format!(
+                "port {n} is made from row {first}: client end {n} {}{server}",
+                at(row.place)
+            ))
+        }
+        (_, Place::Node(node)) => Some(format!(
+            "row {n} is registered in node {node}: {thing}; its source is row {first}"
+        )),
+        (_, place) => {
+            let through = if second == 0 {
+                String::new()
+            } else {
+                format!(", through row {second}")
+            };
+            Some(format!(
+                "row {n} {}: {thing}, held from row {first}{through}",
+                at(place)
+            ))
+        }
+    }
+}
+
+/// `lent by 1 to 2 in request 7`
+pub fn lent(state: &State, row: &Row) -> String {
+    let Some(q) = state.request(row.bears) else {
+        return format!("lent in request {}", row.bears);
+    };
+    let to = match row.place {
+        Place::CList(p) => format!("process {p}"),
+        _ => server_of(state, q.port),
+    };
+    let waits = if q.fetched == 0 {
+        ", not fetched yet"
+    } else {
+        ""
+    };
+    format!(
+        "lent by process {} to {to} in request {}{waits}",
+        q.asker, q.number
+    )
+}
+
+/// A row that moved, or came back since a request was closed.
+fn moved(row: &Row, from: Place, part: Part) -> String {
+    let from = match from {
+        Place::CList(p) => format!("from process {p}"),
+        Place::Node(n) => format!("from node {n}"),
+        Place::System => "from the system".to_string(),
+    };
+    let moves = if part == Part::Back {
+        "comes back"
+    } else {
+        "moves"
+    };
+    format!("{} {moves} {from} {}", short(row), towards(row.place))
+}
+
+/// The rows that went, place by place.
+fn gone(before: &State, change: &Change) -> Vec<String> {
+    let mut places: Vec<Place> = change.removed.iter().map(|r| r.place).collect();
+    places.sort();
+    places.dedup();
+    let rows = |place| change.removed.iter().filter(move |r| r.place == place);
+    let line = |place: Place| {
+        let rows: Vec<String> = rows(place).map(|row| gone_row(before, row)).collect();
+        let verb = if rows.len() == 1 { "goes" } else { "go" };
+        format!("{} {verb}, {}", and(&rows), out_of(place))
+    };
+    places.into_iter().map(line).collect()
+}
+
+fn out_of(place: Place) -> String {
+    match place {
+        Place::CList(p) => format!("out of the c-list of process {p}"),
+        Place::Node(n) => format!("out of node {n}"),
+        Place::System => "which lay with the system".to_string(),
+    }
+}
+
+fn gone_row(before: &State, row: &Row) -> String {
+    match before.request(row.bears) {
+        Some(q) => format!("{}, lent by process {}", short(row), q.asker),
+        None => short(row),
+    }
+}
+
+fn left(request: u32, row: u32) -> String {
+    format!("row {row} leaves the list of request {request}, which stays open")
+}
+
+fn stands(p: u32, record: &Record) -> String {
+    match record.through {
+        0 => format!("process {p} is in its prime node {}", record.active),
+        row => format!("process {p} is in node {} through row {row}", record.active),
+    }
+}

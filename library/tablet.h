@@ -1,0 +1,58 @@
+/* tablet.h: the C interface of the kernel, two functions over words that the caller owns (docs/MANUAL.md has the rules).
+ *
+ * Words. The tables are TABLET_TABLES_WORDS words of 32 bits, the process records TABLET_PROCESSES_WORDS. The caller
+ * owns both runs and lends them for one call. Lengths are counts of elements: words of the runs, bytes of the others.
+ *
+ * Reply. Each function writes its answer, one line with its line feed, to the front of `reply` and returns its length.
+ * The bytes after the answer stay as they were; there is no zero byte at its end. Lend TABLET_REPLY_BYTES or more. If
+ * `reply_len` is less, 0 is returned and nothing is read or written.
+ *
+ * What is answered. Any words, any bytes and any lengths are answered; nothing is asked of what the words hold. A run
+ * of another length is (no 1), and (no 1 0) of an opening, which sets that run to 0. A refused call changes no word. A
+ * refused opening leaves empty tables. Equal words and equal bytes give equal answers and equal words afterwards.
+ *
+ * What the caller must see to. Each pointer is to as many elements as its length says (a length of 0 allows any pointer
+ * that is not null); the words are aligned as uint32_t; no two of the four ranges overlap.
+ *
+ * Threads. The functions keep nothing: no global state, no allocation, no lock, no input or output. Any number of
+ * threads may call them at once, each on its own words. On one pair of runs one call may run at a time; nobody else
+ * writes or reads these words meanwhile.
+ *
+ * Stack. TABLET_STACK_BYTES suffice for either function.
+ */
+#ifndef TABLET_H
+#define TABLET_H
+
+#include <stddef.h>
+#include <stdint.h>
+
+/* the version of the layout of the words: compare it where words are kept between two kernels */
+#define TABLET_LAYOUT_VERSION 1
+
+#define TABLET_TABLES_WORDS 11265
+#define TABLET_PROCESSES_WORDS 192
+#define TABLET_REPLY_BYTES 256
+#define TABLET_STACK_BYTES 16384
+
+/* a call line has at most so many bytes before its line feed */
+#define TABLET_LINE_BYTES 255
+
+#ifdef __cplusplus
+extern "C" {
+#endif
+
+/* Opens tables by a text, whatever the words held. `text` is the opening text up to and with its line (open); what
+ * follows that line does not matter. Answers (ok 0), or (no k n): refusal k at line n. */
+size_t tablet_open(uint32_t *tables, size_t tables_len, uint32_t *processes, size_t processes_len, const uint8_t *text,
+                   size_t text_len, uint8_t *reply, size_t reply_len);
+
+/* Makes one call. `line` is one call line with its line feed, its last byte. Answers (ok n), n the new number or 0;
+ * for fetch (ok q e ..); or (no k), k from 1 to 18. */
+size_t tablet_call(uint32_t *tables, size_t tables_len, uint32_t *processes, size_t processes_len, const uint8_t *line,
+                   size_t line_len, uint8_t *reply, size_t reply_len);
+
+#ifdef __cplusplus
+}
+#endif
+
+#endif

@@ -1,0 +1,47 @@
+//! A proved capability kernel, safe to call: privileges are handed out, lent and taken back.
+//!
+//! The kernel is written and proved in Rattle; this crate links it and adds nothing to what it decides.
+//! docs/MANUAL.md of the repository says what to write and what is answered.
+//!
+//! ```
+//! use tablet::{Answer, Tables};
+//!
+//! let text = "(node 1 (op 2 5 7))\n(process 1 1)\n(process 2 1)\n(open)\n";
+//! let mut tables = Tables::open(text)?;
+//!
+//! assert_eq!(tables.call("(1 hold 1)\n"), Answer::Ok(vec![2]));
+//! assert_eq!(tables.call("(1 port 2)\n"), Answer::Ok(vec![3]));
+//! assert_eq!(tables.call("(1 ask 3 (2 3))\n").to_string(), "(ok 5)");
+//! assert_eq!(tables.call("(2 fetch 4)\n").to_string(), "(ok 5 6)");
+//!
+//! // a refusal has its number and its meaning
+//! let answer = tables.call("(2 ask 3)\n");
+//! let refusal = answer.refusal().unwrap();
+//! assert_eq!(refusal.number(), 7);
+//! println!("{refusal}: {}", refusal.meaning());
+//!
+//! // the lender takes the loan back
+//! assert!(tables.call("(1 revoke 5)\n").accepted());
+//! assert!(tables.state().row(6).is_none());
+//! # Ok::<(), tablet::Refusal>(())
+//! ```
+//!
+//! # Threads
+//!
+//! The kernel keeps nothing of its own: [`Tables`] are its words. They may be sent to another thread; one call at a time
+//! is made on them, which `&mut self` sees to. A call needs no more than 16 KB of stack.
+
+mod answer;
+mod kernel;
+pub mod layout;
+mod refusal;
+mod show;
+mod state;
+mod tables;
+mod words;
+
+pub use answer::Answer;
+pub use refusal::Refusal;
+pub use state::{Kind, Place, Record, Request, Row, State};
+pub use tables::Tables;
+pub use words::{LoadError, Words};

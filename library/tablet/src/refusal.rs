@@ -1,0 +1,137 @@
+//! The eighteen refusals: number, line, meaning and what to do (docs/MANUAL.md, chapter 9).
+
+use std::fmt;
+
+/// A refusal of a call or of an opening.
+///
+/// ```
+/// use tablet::Tables;
+///
+/// let refusal = Tables::open("(node 1)\n(node 1)\n(open)\n").err().unwrap();
+/// assert_eq!((refusal.number(), refusal.line()), (4, Some(2)));
+/// assert_eq!(refusal.to_string(), "(no 4 2)");
+/// assert!(refusal.meaning().starts_with("Two forms for one node"));
+/// ```
+#[derive(Clone, Copy, PartialEq, Eq, Debug)]
+pub struct Refusal {
+    number: u32,
+    line: Option<u32>,
+}
+
+/// Meaning and remedy of the refusals, the first of 1.
+const MEANINGS: [(&str, &str); 18] = [
+    (
+        "The lent words are not sound tables, or a run has a wrong length.",
+        "Something else wrote into the words. Open again; do not repair them by hand.",
+    ),
+    (
+        "The line does not have one of the forms.",
+        "Look for spaces, zeros in front, the line feed, the count of parts.",
+    ),
+    (
+        "A number is out of its range.",
+        "Correct it; 0 is right only for go, operations and rights.",
+    ),
+    (
+        "Two forms for one node or process; one row twice in an ask.",
+        "Write one form; name each row once.",
+    ),
+    (
+        "A process or node is not listed: the caller, or named in the text.",
+        "Add the form that is missing.",
+    ),
+    (
+        "More than 16 entries or 4 items.",
+        "Use a second node; ask over a second port.",
+    ),
+    (
+        "What is named is not the caller's: not in its c-list, not in its active node (hold), not its own open request \
+         (revoke), not there (comes).",
+        "Hold it first, go to its node, wait for a loan to come back, or it has been taken back.",
+    ),
+    (
+        "It is of another kind.",
+        "go wants a subdirectory; port an operation; ask and close a client end; fetch, reply, refuse a server end; \
+         register and drop anything but an end.",
+    ),
+    (
+        "A right is missing (hold, register, transfer), or the rights lent are more than the row has.",
+        "Lend fewer rights; for an end write 0; else the office must give the right in the text.",
+    ),
+    (
+        "A port is busy with an open request, or an ask would lend an end of its own port.",
+        "Wait for the reply, revoke the request, or use another port.",
+    ),
+    (
+        "The port has no request for this: none open, fetched already (fetch), not fetched (reply).",
+        "fetch before reply; refuse needs no fetch.",
+    ),
+    (
+        "A loan forbids it: a lent row cannot be registered, a port whose client end is on loan cannot be closed, and \
+         no subdirectory can be held through a lent one.",
+        "End the loan first; ask the lender for the inner subdirectory itself.",
+    ),
+    (
+        "The row is in use: another row has it as a source, or the caller is in a node through it.",
+        "Revoke or close what was made from it, go 0, then drop.",
+    ),
+    (
+        "A lent end is not back: with another, or listed by a newer request.",
+        "Get it back (revoke the loan), or refuse.",
+    ),
+    (
+        "The row would be of depth 13.",
+        "Make it from a row nearer to the text's.",
+    ),
+    ("Too few free rows.", "Drop, close, end loans."),
+    (
+        "128 requests are open.",
+        "Reply, refuse or revoke some.",
+    ),
+    ("Too few numbers are left.", "Open again."),
+];
+
+impl Refusal {
+    /// The refusal of that number, 1 to 18; of an opening with its line.
+    pub fn new(number: u32, line: Option<u32>) -> Option<Refusal> {
+        let known = (1..=MEANINGS.len() as u32).contains(&number);
+        known.then_some(Refusal { number, line })
+    }
+
+    /// 1 to 18.
+    pub fn number(&self) -> u32 {
+        self.number
+    }
+
+    /// (rule K7) The line of a refused opening, counted from 1; 0 if a run has a wrong length. A call has none.
+    pub fn line(&self) -> Option<u32> {
+        self.line
+    }
+
+    /// What it means, in plain words.
+    pub fn meaning(&self) -> &'static str {
+        self.texts().0
+    }
+
+    /// What to do.
+    pub fn remedy(&self) -> &'static str {
+        self.texts().1
+    }
+
+    fn texts(&self) -> (&'static str, &'static str) {
+        let at = self.number as usize - 1;
+        MEANINGS.get(at).copied().unwrap_or_default()
+    }
+}
+
+/// As it is printed, without the line feed: `(no 9)`, `(no 4 2)`.
+impl fmt::Display for Refusal {
+    fn fmt(&self, f: &mut fmt::Formatter) -> fmt::Result {
+        match self.line {
+            None => write!(f, "(no {})", self.number),
+            Some(line) => write!(f, "(no {} {line})", self.number),
+        }
+    }
+}
+
+impl std::error::Error for Refusal {}

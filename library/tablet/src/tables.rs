@@ -1,0 +1,215 @@
+//! Tables: the kernel's words, owned or lent by the caller, always sound.
+
+use crate::answer::Answer;
+use crate::kernel;
+use crate::layout::{PROCESSES_WORDS, TABLES_WORDS};
+use crate::refusal::Refusal;
+use crate::state::State;
+use crate::words::{LoadError, Words};
+use std::fmt;
+
+/// Sound tables. They are made by an opening or by words that the kernel finds sound, and changed by calls alone, so
+/// no call on them answers refusal 1 (rule P3).
+pub struct Tables<'a> {
+    tables: Run<'a>,
+    processes: Run<'a>,
+}
+
+/// A run of words.
+enum Run<'a> {
+    Owned(Box<[u32]>),
+    Lent(&'a mut [u32]),
+}
+
+impl Run<'_> {
+    fn words(&self) -> &[u32] {
+        match self {
+            Run::Owned(words) => words,
+            Run::Lent(words) => words,
+        }
+    }
+
+    fn words_mut(&mut self) -> &mut [u32] {
+        match self {
+            Run::Owned(words) => words,
+            Run::Lent(words) => words,
+        }
+    }
+}
+
+/// A line that changes nothing, whatever it is answered: refusal 1 if and only if the words are not sound (rule F8).
+const ASKS_SOUNDNESS: &[u8] = b"(comes 1 1)\n";
+
+impl Tables<'static> {
+    /// Opens tables with words of their own by a text, up to and with its line `(open)`.
+    ///
+    /// ```
+    /// use tablet::Tables;
+    /// let tables = Tables::open("(node 1 (dir 1 7))\n(process 3 1)\n(open)\n")?;
+    /// assert_eq!(tables.state().listed().collect::<Vec<_>>(), [3]);
+    /// assert!(Tables::open("(open)").is_err()); // no line feed
+    /// # Ok::<(), tablet::Refusal>(())
+    /// ```
+    pub fn open(text: impl AsRef<[u8]>) -> Result<Tables<'static>, Refusal> {
+        let tables = Run::Owned(vec![0; TABLES_WORDS].into());
+        let processes = Run::Owned(vec![0; PROCESSES_WORDS].into());
+        opened(Tables { tables, processes }, text.as_ref())
+    }
+
+    /// Takes words over, if the kernel finds them sound; else gives them back.
+    pub fn from_words(words: Words) -> Result<Tables<'static>, Words> {
+        let tables = Tables {
+            tables: Run::Owned(words.tables.into()),
+            processes: Run::Owned(words.processes.into()),
+        };
+        sound(tables).map_err(|unsound| unsound.words())
+    }
+
+    /// Reads what [`Tables::save`] gave, and asks the kernel whether it is sound.
+    ///
+    /// ```
+    /// use tablet::{LoadError, Tables};
+    /// let mut tables = Tables::open("(node 1 (op 1 0 7))\n(process 1 1)\n(open)\n").unwrap();
+    /// tables.call("(1 hold 1)\n");
+    /// let mut saved = tables.save();
+    /// let again = Tables::load(&saved)?;
+    /// assert_eq!(again.state(), tables.state());
+    ///
+    /// saved[11] = 200; // the number of the first row
+    /// assert!(matches!(Tables::load(&saved), Err(LoadError::Unsound)));
+    /// # Ok::<(), LoadError>(())
+    /// ```
+    pub fn load(saved: &[u8]) -> Result<Tables<'static>, LoadError> {
+        let words = Words::from_bytes(saved)?;
+        Tables::from_words(words).map_err(|_| LoadError::Unsound)
+    }
+}
+
+impl<'a> Tables<'a> {
+    /// Opens tables in words that the caller lends: 11,265 and 192 of them, whatever they hold. Runs of other lengths
+    /// are refused with 1 at line 0. A refused opening leaves empty tables in the words.
+    ///
+    /// ```
+    /// use tablet::{layout, Tables};
+    /// let (mut words, mut records) = ([7; layout::TABLES_WORDS], [7; layout::PROCESSES_WORDS]);
+    /// let mut tables = Tables::open_in(&mut words, &mut records, "(open)\n").unwrap();
+    /// assert_eq!(tables.call("(comes 1 2)\n").to_string(), "(no 7)");
+    /// assert_eq!(words[layout::NEXT_AT], 1);
+    /// assert!(Tables::open_in(&mut words[1..], &mut records, "(open)\n").is_err());
+    /// ```
+    pub fn open_in(
+        tables: &'a mut [u32],
+        processes: &'a mut [u32],
+        text: impl AsRef<[u8]>,
+    ) -> Result<Tables<'a>, Refusal> {
+        let tables = Run::Lent(tables);
+        let processes = Run::Lent(processes);
+        opened(Tables { tables, processes }, text.as_ref())
+    }
+
+    /// Borrows words that hold tables, if the kernel finds them sound; else refusal 1. The words are not changed.
+    ///
+    /// ```
+    /// use tablet::{layout, Tables};
+    /// let (mut words, mut records) = ([0; layout::TABLES_WORDS], [0; layout::PROCESSES_WORDS]);
+    /// assert_eq!(Tables::borrow(&mut words, &mut records).err().unwrap().number(), 1);
+    /// words[layout::NEXT_AT] = 1;
+    /// assert!(Tables::borrow(&mut words, &mut records).is_ok());
+    /// ```
+    pub fn borrow(tables: &'a mut [u32], processes: &'a mut [u32]) -> Result<Tables<'a>, Refusal> {
+        let tables = Run::Lent(tables);
+        let processes = Run::Lent(processes);
+        let unsound = Refusal::new(1, None).expect("1 is a refusal");
+        sound(Tables { tables, processes }).map_err(|_| unsound)
+    }
+
+    /// Makes one call: a line with its line feed.
+    ///
+    /// ```
+    /// # use tablet::Tables;
+    /// let mut tables = Tables::open("(node 1 (op 1 0 7))\n(process 1 1)\n(open)\n").unwrap();
+    /// assert_eq!(tables.call("(1 hold 1)\n").to_string(), "(ok 2)");
+    /// assert_eq!(tables.call("(1 hold 1)").to_string(), "(no 2)"); // no line feed
+    /// assert_eq!(tables.call(b"(1 \xff 1)\n").to_string(), "(no 2)");
+    /// ```
+    pub fn call(&mut self, line: impl AsRef<[u8]>) -> Answer {
+        let (tables, processes) = (self.tables.words_mut(), self.processes.words_mut());
+        let reply = kernel::call(tables, processes, line.as_ref());
+        Answer::read(reply.line()).expect("the kernel prints an answer")
+    }
+
+    /// The state that the words say, to be read.
+    pub fn state(&self) -> State {
+        let state = State::read(self.tables.words(), self.processes.words());
+        state.expect("sound words are laid out as the manual says")
+    }
+
+    /// A copy of the words.
+    pub fn words(&self) -> Words {
+        Words {
+            tables: self.tables.words().to_vec(),
+            processes: self.processes.words().to_vec(),
+        }
+    }
+
+    /// The bytes to keep for [`Tables::load`]; [`Words`] says their form.
+    pub fn save(&self) -> Vec<u8> {
+        self.words().to_bytes()
+    }
+}
+
+fn opened<'a>(mut tables: Tables<'a>, text: &[u8]) -> Result<Tables<'a>, Refusal> {
+    let reply = kernel::open(
+        tables.tables.words_mut(),
+        tables.processes.words_mut(),
+        text,
+    );
+    match Answer::read(reply.line()).expect("the kernel prints an answer") {
+        Answer::Ok(_) => Ok(tables),
+        Answer::No(refusal) => Err(refusal),
+    }
+}
+
+/// The tables if they are sound, else the tables as they are.
+fn sound<'a>(mut tables: Tables<'a>) -> Result<Tables<'a>, Tables<'a>> {
+    let unsound = tables
+        .call(ASKS_SOUNDNESS)
+        .refusal()
+        .is_some_and(|no| no.number() == 1);
+    if unsound {
+        return Err(tables);
+    }
+    Ok(tables)
+}
+
+/// What the tables hold, place by place.
+///
+/// ```
+/// # use tablet::Tables;
+/// let tables = Tables::open("(node 1 (op 1 0 7))\n(process 1 1)\n(open)\n").unwrap();
+/// let text = "node 1\n  row 1: operation 0 of manager 1, rights 7\n\
+///             process 1: in node 1, its prime node\nsystem\nnext number 2\n";
+/// assert_eq!(tables.to_string(), text);
+/// ```
+impl fmt::Display for Tables<'_> {
+    fn fmt(&self, f: &mut fmt::Formatter) -> fmt::Result {
+        self.state().fmt(f)
+    }
+}
+
+/// A copy with words of its own.
+impl Clone for Tables<'_> {
+    fn clone(&self) -> Self {
+        let words = self.words();
+        Tables {
+            tables: Run::Owned(words.tables.into()),
+            processes: Run::Owned(words.processes.into()),
+        }
+    }
+}
+
+impl fmt::Debug for Tables<'_> {
+    fn fmt(&self, f: &mut fmt::Formatter) -> fmt::Result {
+        self.state().fmt(f)
+    }
+}

@@ -1,0 +1,151 @@
+//! The wrapper beside the independent model: answers, words, states, saved bytes, unsound words.
+
+use model::random::{alter, session, Rng, SMALL};
+use model::session::Session;
+use model::tables::Kind as ModelKind;
+use model::words::{decode, encode};
+use tablet::{Kind, LoadError, Place, State, Tables, Words};
+
+/// The opening text at the front of a session, through the line `(open)`.
+fn opening(input: &[u8]) -> &[u8] {
+    let end = b"\n(open)\n";
+    let at = input.windows(end.len()).position(|w| w == end);
+    &input[..at.expect("an opening") + end.len()]
+}
+
+fn words_of(tables: &model::Tables) -> Words {
+    let (tables, processes) = encode(tables).expect("tables of a session fit");
+    Words { tables, processes }
+}
+
+/// A state holds what the model's tables hold.
+fn same(state: &State, tables: &model::Tables) -> bool {
+    let rows = state.rows.iter().zip(&tables.rows).all(|(a, b)| {
+        let kind = match b.kind {
+            ModelKind::Operation => Kind::Operation,
+            ModelKind::Subdirectory => Kind::Subdirectory,
+            ModelKind::Client => Kind::Client,
+            ModelKind::Server => Kind::Server,
+        };
+        let place = match b.place {
+            model::tables::Place::Node(n) => Place::Node(n),
+            model::tables::Place::CList(p) => Place::CList(p),
+            model::tables::Place::System => Place::System,
+        };
+        let numbers = (
+            a.number,
+            a.object,
+            a.operation,
+            a.rights,
+            a.sources,
+            a.depth,
+            a.bears,
+        );
+        (a.kind, a.place) == (kind, place)
+            && numbers
+                == (
+                    b.number,
+                    b.object,
+                    b.operation,
+                    b.rights,
+                    [b.source, b.via],
+                    b.depth,
+                    b.request,
+                )
+    });
+    let requests = state.requests.iter().zip(&tables.requests).all(|(a, b)| {
+        let items = b.items.map(|item| item.unwrap_or(0));
+        (a.number, a.port, a.asker, a.fetched, a.items)
+            == (b.number, b.port, b.asker, b.fetched, items)
+    });
+    let records = state.processes.iter().zip(&tables.processes);
+    let records = records
+        .into_iter()
+        .all(|(a, b)| (a.prime, a.active, a.through) == (b.prime, b.active, b.through));
+    let counts = (state.rows.len(), state.requests.len(), state.next);
+    rows && requests && records && counts == (tables.rows.len(), tables.requests.len(), tables.next)
+}
+
+#[test]
+fn sessions_are_answered_as_by_the_model() {
+    for seed in 0..20 {
+        let profile = SMALL[seed % SMALL.len()];
+        let input = session(seed as u64, profile, 60);
+        let mut model = Session::begin(&input);
+        let mut tables = Tables::open(opening(&input)).expect("an accepted opening");
+        while let Some((line, answer)) = model.step() {
+            let printed = format!("{}\n", tables.call(line)).into_bytes();
+            assert_eq!(
+                printed,
+                answer.print(),
+                "seed {seed}: {}",
+                String::from_utf8_lossy(line)
+            );
+            assert_eq!(tables.words(), words_of(&model.tables), "seed {seed}");
+        }
+        assert!(same(&tables.state(), &model.tables), "seed {seed}");
+        let again = Tables::load(&tables.save()).expect("sound tables are loaded");
+        assert_eq!(again.words(), tables.words());
+    }
+}
+
+#[test]
+fn words_are_taken_if_they_are_sound() {
+    let mut counts = [0, 0];
+    for seed in 0..200 {
+        let mut rng = Rng::new(seed);
+        let base = model::random::tables(seed, SMALL[seed as usize % SMALL.len()], 30);
+        let altered = alter::alter(&mut rng, &base);
+        let Some((tables, processes)) = encode(&altered) else {
+            continue;
+        };
+        let words = Words { tables, processes };
+        let read = decode(&words.tables, &words.processes);
+        let sound = read.as_ref().is_some_and(model::sound);
+        counts[usize::from(sound)] += 1;
+        let bytes = words.to_bytes();
+        assert_eq!(Words::from_bytes(&bytes), Ok(words.clone()));
+        match Tables::load(&bytes) {
+            Ok(loaded) => assert!(sound && loaded.words() == words, "seed {seed}"),
+            Err(error) => assert!(!sound && error == LoadError::Unsound, "seed {seed}"),
+        }
+        let (mut tables, mut processes) = (words.tables.clone(), words.processes.clone());
+        assert_eq!(Tables::borrow(&mut tables, &mut processes).is_ok(), sound);
+        assert_eq!((&tables, &processes), (&words.tables, &words.processes));
+        match (State::read(&words.tables, &words.processes), read) {
+            (Some(state), Some(model)) => assert!(same(&state, &model), "seed {seed}"),
+            (state, model) => assert_eq!(state.is_none(), model.is_none(), "seed {seed}"),
+        }
+    }
+    assert!(counts[0] > 40 && counts[1] > 20, "{counts:?}");
+}
+
+#[test]
+fn other_bytes_are_not_loaded() {
+    let saved = Tables::open("(open)\n").expect("an opening").save();
+    let error = |bytes: &[u8]| Words::from_bytes(bytes).expect_err("not loaded");
+    assert_eq!(error(b""), LoadError::NotSaved);
+    assert_eq!(error(&saved[1..]), LoadError::NotSaved);
+    assert_eq!(error(b"(tablet 2)\n"), LoadError::Version(2));
+    assert_eq!(error(&saved[..saved.len() - 1]), LoadError::Length(45_838));
+    assert_eq!(error(b"(tablet 1)"), LoadError::NotSaved);
+    assert!(error(&saved[..20]).to_string().contains("45839"));
+}
+
+#[test]
+fn runs_of_other_lengths_are_refused() {
+    for (tables, processes) in [
+        (0, 0),
+        (11_264, 192),
+        (11_266, 192),
+        (11_265, 191),
+        (11_265, 193),
+    ] {
+        let (mut tables, mut processes) = (vec![5; tables], vec![5; processes]);
+        let refusal =
+            Tables::open_in(&mut tables, &mut processes, "(open)\n").expect_err("refused");
+        assert_eq!(refusal.to_string(), "(no 1 0)");
+        let refusal = Tables::borrow(&mut tables, &mut processes).expect_err("refused");
+        assert_eq!(refusal.to_string(), "(no 1)");
+    }
+}
