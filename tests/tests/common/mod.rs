@@ -2,8 +2,12 @@
 #![allow(dead_code)]
 
 pub mod built;
+pub mod calls;
 pub mod closings;
 pub mod features;
+pub mod performed;
+pub mod refused;
+pub mod tried;
 
 use model::compare::full::{with_requests, with_rows};
 use model::limits::{REQUESTS, ROWS};
