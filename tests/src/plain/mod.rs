@@ -1,5 +1,6 @@
 //! The same functions in plain Rust over the same words, for the benchmark: what the proved code is measured against.
 
+pub mod calls;
 pub mod closing;
 pub mod closing_tables;
 pub mod find;
