@@ -1,8 +1,7 @@
 //! Closing of a request: of one with a single copy, at 10, 100 and 1,024 rows,
 //! and of one whose closing closes 85.
 
-use crate::operations::{About, Measured, Operation};
-use crate::tables::Size;
+use crate::measure::{About, Layer, Measured, Operation, Size};
 use kernel::plain::closing_tables as built;
 use kernel::{closing, plain};
 use model::words::encode;
@@ -66,9 +65,11 @@ fn closed(by: &mut dyn Measured, what: &str, (tables, request): (Tables, u32)) {
         requests: tables.requests.len(),
     };
     let about = About {
+        layer: Layer::Closing,
+        size,
         name: format!("closing of {what}"),
         bytes: 4 * (10 * size.rows + 8 * size.requests + operation.processes.len()),
         calls,
     };
-    by.measure(size, about, &mut operation);
+    by.measure(about, &mut operation);
 }
