@@ -6,14 +6,17 @@
 mod common;
 
 use common::calls::{calls_of_round, others_stay, the_last_number, the_last_request, the_last_row};
+use common::performed::Perform;
 use common::refused::Refused;
 use kernel::performing::perform;
+
+const PERFORM: Perform = perform;
 
 #[test]
 fn calls_as_the_model_makes_them() {
     let mut seen = Refused::default();
     for round in 0..5 {
-        calls_of_round(perform, round, &mut seen);
+        calls_of_round(&PERFORM, round, &mut seen);
     }
     seen.print("performed as the model performs");
     seen.check(100);
@@ -26,7 +29,7 @@ fn more_calls() {
     let rounds = std::env::var("ROUNDS").map_or(50, |n| n.parse().expect("a number of rounds"));
     let mut seen = Refused::default();
     for round in 5..5 + rounds {
-        calls_of_round(perform, round, &mut seen);
+        calls_of_round(&PERFORM, round, &mut seen);
         println!("round {round}: {} calls", seen.calls());
     }
     seen.print("performed as the model performs");
@@ -35,17 +38,17 @@ fn more_calls() {
 
 #[test]
 fn row_1025() {
-    the_last_row(perform);
+    the_last_row(&PERFORM);
 }
 
 #[test]
 fn request_129() {
-    the_last_request(perform);
+    the_last_request(&PERFORM);
 }
 
 #[test]
 fn number_1000000() {
-    the_last_number(perform);
+    the_last_number(&PERFORM);
 }
 
 #[test]

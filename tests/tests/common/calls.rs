@@ -1,13 +1,13 @@
 //! The calls that are made on words and compared: sessions of all profiles,
 //! all calls on altered but sound tables, full tables.
 
-use super::performed::{Pair, Perform};
+use super::performed::{Made, Pair, Perform};
 use super::refused::Refused;
 use super::tried::calls;
 use super::words;
 use kernel::call_words::{call_words, AnswerWords, ASK, COMES};
 use kernel::fuller::{with_deep_rows, with_numbers_left, with_requests, with_rows};
-use model::call::{read_call, Call, Word};
+use model::call::{Call, Word};
 use model::compare::full;
 use model::limits::{LAST_NUMBER, REQUESTS, ROWS};
 use model::random::alter::alter_gently;
@@ -23,7 +23,7 @@ const CALLS: usize = 150;
 const LOOK: usize = 30;
 
 /// A part of the run; each round has other seeds.
-pub fn calls_of_round(made: Perform, round: u64, seen: &mut Refused) {
+pub fn calls_of_round(made: &dyn Made, round: u64, seen: &mut Refused) {
     for session in 0..SESSIONS {
         let profile = SMALL[session as usize % SMALL.len()];
         let mut rng = Rng::new(round * 10_000 + session);
@@ -40,7 +40,7 @@ pub fn calls_of_round(made: Perform, round: u64, seen: &mut Refused) {
 
 /// A random session; now and then all sorts of calls are tried on its tables
 /// as they are then, and altered.
-fn played(made: Perform, rng: &mut Rng, profile: Profile, count: usize, seen: &mut Refused) {
+fn played(made: &dyn Made, rng: &mut Rng, profile: Profile, count: usize, seen: &mut Refused) {
     let (tables, _, _) = open(&openings::opening(rng, profile));
     let mut pair = Pair::new(tables);
     if rng.percent(4) {
@@ -48,9 +48,7 @@ fn played(made: Perform, rng: &mut Rng, profile: Profile, count: usize, seen: &m
     }
     for at in 1..=count {
         let line = lines::line(rng, profile, &pair.tables);
-        if let Some(call) = read_call(&line) {
-            pair.step(made, &call, seen);
-        }
+        pair.line(made, &line, seen);
         if at % LOOK == 0 && profile != Profile::Full {
             tried(made, rng, &pair.tables, seen);
         }
@@ -58,7 +56,7 @@ fn played(made: Perform, rng: &mut Rng, profile: Profile, count: usize, seen: &m
 }
 
 /// All sorts of calls on these tables and on one that is made from them.
-fn tried(made: Perform, rng: &mut Rng, tables: &Tables, seen: &mut Refused) {
+fn tried(made: &dyn Made, rng: &mut Rng, tables: &Tables, seen: &mut Refused) {
     let other = match rng.below(8) {
         0 => with_rows(tables.clone(), ROWS - rng.below(4) / 3),
         1 => with_requests(tables.clone(), REQUESTS - rng.below(2)),
@@ -94,14 +92,14 @@ fn one(word: Word, number: u32) -> Call {
 }
 
 /// A call after others, with its refusal, 0 for none.
-fn step(pair: &mut Pair, made: Perform, call: &Call) -> u32 {
+fn step(pair: &mut Pair, made: &dyn Made, call: &Call) -> u32 {
     let mut seen = Refused::default();
-    pair.step(made, call, &mut seen);
+    pair.line(made, &call.print(), &mut seen);
     seen.only()
 }
 
 /// Row 1,024 is held, row 1,025 is refused; after a drop one is held again.
-pub fn the_last_row(made: Perform) {
+pub fn the_last_row(made: &dyn Made) {
     let mut pair = Pair::new(full::with_rows(ROWS - 1));
     let held = pair.tables.next;
     assert_eq!(step(&mut pair, made, &one(Word::Hold, 1)), 0);
@@ -120,7 +118,7 @@ pub fn the_last_row(made: Perform) {
 }
 
 /// Request 128 is made, request 129 refused; after a revoke one is made again.
-pub fn the_last_request(made: Perform) {
+pub fn the_last_request(made: &dyn Made) {
     let mut pair = Pair::new(full::with_requests(REQUESTS - 1));
     let ask = |client: u32| Call::Ask {
         caller: 1,
@@ -139,7 +137,7 @@ pub fn the_last_request(made: Perform) {
 }
 
 /// Number 1,000,000 is given; then there is none.
-pub fn the_last_number(made: Perform) {
+pub fn the_last_number(made: &dyn Made) {
     let start = with_numbers_left(full::with_requests(1), 2);
     for (call, given) in [
         (one(Word::Hold, 1), 1),

@@ -3,28 +3,62 @@
 
 use super::refused::Refused;
 use super::{words, Lent};
-use kernel::call_words::{answer_words, call_words, AnswerWords, CallWords};
-use model::call::Call;
+use kernel::call_words::{answer_words, call_words, code, AnswerWords, CallWords};
+use model::call::{read_call, Call};
 use model::effects::perform;
-use model::refusals::{lowest, tests, Tests};
+use model::refusals::refusal;
 use model::{Answer, Tables};
 
-/// A call in place, on the two lent runs.
+/// What makes a call on words.
+pub trait Made {
+    /// The call of that line, made on the words; its answer is compared with
+    /// the model's. No if there is no way to make it.
+    fn makes(&self, asked: &Asked, lent: &mut Lent) -> bool;
+
+    /// A line that is no call.
+    fn bad_form(&self, line: &[u8], lent: &mut Lent);
+}
+
+/// A call, its line, the tables before it, and the model's answer.
+pub struct Asked<'a> {
+    pub before: &'a Tables,
+    pub call: &'a Call,
+    pub line: &'a [u8],
+    pub answer: Answer,
+}
+
+/// A call in words, in place.
 pub type Perform = fn(&mut [u32], &mut [u32], &CallWords, &mut AnswerWords);
 
-/// The model's answer to a call of a listed process, and the tables after it;
-/// none for a call that the reading of its line refuses (rules F3 to F7).
-fn by_model(tables: &Tables, call: &Call) -> Option<(Answer, Option<Tables>)> {
-    let (input, state): (Tests, Tests) = tests(tables, call).into_iter().partition(|t| t.0 < 7);
-    if lowest(&input).is_some() {
-        return None;
+impl Made for Perform {
+    /// Not one that the reading of its line refuses, or has no words.
+    fn makes(&self, asked: &Asked, lent: &mut Lent) -> bool {
+        let read = asked.answer.refusal().is_none_or(|k| k >= 7);
+        let Some(call) = call_words(asked.call).filter(|_| read) else {
+            return false;
+        };
+        let mut said: AnswerWords = [9; 6];
+        self(&mut lent.0, &mut lent.1, &call, &mut said);
+        let expected = answer_words(asked.before, asked.call, &asked.answer);
+        assert_eq!(said, expected, "{}", about(asked));
+        true
     }
-    if let Some(k) = lowest(&state) {
-        return Some((Answer::No(k), None));
+
+    fn bad_form(&self, _: &[u8], _: &mut Lent) {}
+}
+
+pub fn about(asked: &Asked) -> String {
+    format!("{:?} on\n{}", asked.call, asked.before.print())
+}
+
+/// The model's answer to a call, and the tables after one that is accepted.
+fn by_model(tables: &Tables, call: &Call) -> (Answer, Option<Tables>) {
+    if let Some(k) = refusal(tables, call) {
+        return (Answer::No(k), None);
     }
     let mut after = tables.clone();
     let answer = perform(&mut after, call).expect("no refusal applies");
-    Some((answer, Some(after)))
+    (answer, Some(after))
 }
 
 /// Tables and the words that stand for them, which take the same calls.
@@ -39,49 +73,52 @@ impl Pair {
         Pair { tables, lent }
     }
 
-    /// The call made on both; the tables after it, none if it was refused or
-    /// its line would be.
+    /// The call made on both; the pair after one that is accepted.
     fn compare(
         &self,
-        made: Perform,
+        made: &dyn Made,
         call: &Call,
+        line: &[u8],
         seen: &mut Refused,
         lent: &mut Lent,
-    ) -> Option<Tables> {
-        let words_in = call_words(call)?;
-        let (answer, after) = by_model(&self.tables, call)?;
-        let about = || format!("{call:?} on\n{}", self.tables.print());
-        let mut said: AnswerWords = [9; 6];
-        made(&mut lent.0, &mut lent.1, &words_in, &mut said);
-        let expected = answer_words(&self.tables, call, &answer);
-        assert_eq!(said, expected, "{}", about());
-        let left = after.as_ref().map(words);
-        let (tables, records) = left.as_ref().unwrap_or(&self.lent);
-        assert!(lent.0 == *tables, "the tables after {}", about());
-        assert!(lent.1 == *records, "the records after {}", about());
-        seen.count(words_in[0], answer.refusal());
+    ) -> Option<Pair> {
+        let (answer, after) = by_model(&self.tables, call);
+        let asked = Asked {
+            before: &self.tables,
+            call,
+            line,
+            answer,
+        };
+        if !made.makes(&asked, lent) {
+            return None;
+        }
+        let after = after.map(Pair::new);
+        let expected = after.as_ref().map_or(&self.lent, |after| &after.lent);
+        assert!(lent.0 == expected.0, "the tables after {}", about(&asked));
+        assert!(lent.1 == expected.1, "the records after {}", about(&asked));
+        seen.count(code(call), asked.answer.refusal());
         after
     }
 
-    /// One call after the others.
-    pub fn step(&mut self, made: Perform, call: &Call, seen: &mut Refused) {
-        let mut lent = std::mem::take(&mut self.lent);
-        let mut before = Pair {
-            lent: lent.clone(),
-            tables: std::mem::replace(&mut self.tables, Tables::empty()),
+    /// One line after the others.
+    pub fn line(&mut self, made: &dyn Made, line: &[u8], seen: &mut Refused) {
+        let mut lent = self.lent.clone();
+        let Some(call) = read_call(line) else {
+            made.bad_form(line, &mut lent);
+            assert!(lent == self.lent, "words changed by a bad form");
+            return;
         };
-        if let Some(after) = before.compare(made, call, seen, &mut lent) {
-            before.tables = after;
+        if let Some(after) = self.compare(made, &call, line, seen, &mut lent) {
+            *self = after;
         }
-        self.tables = before.tables;
-        self.lent = lent;
     }
 
     /// Each call by itself, on these tables.
-    pub fn each(&self, made: Perform, calls: &[Call], seen: &mut Refused) {
+    pub fn each(&self, made: &dyn Made, calls: &[Call], seen: &mut Refused) {
         let mut lent = self.lent.clone();
         for call in calls {
-            if self.compare(made, call, seen, &mut lent).is_some() {
+            let accepted = self.compare(made, call, &call.print(), seen, &mut lent);
+            if accepted.is_some() {
                 lent.0.copy_from_slice(&self.lent.0);
                 lent.1.copy_from_slice(&self.lent.1);
             }
