@@ -59,7 +59,7 @@ fn played(made: &dyn Made, rng: &mut Rng, profile: Profile, count: usize, seen: 
 fn tried(made: &dyn Made, rng: &mut Rng, tables: &Tables, seen: &mut Refused) {
     let other = match rng.below(8) {
         0 => with_rows(tables.clone(), ROWS - rng.below(4) / 3),
-        1 => with_requests(tables.clone(), REQUESTS - rng.below(2)),
+        1 | 4 => with_requests(tables.clone(), REQUESTS - rng.below(2)),
         2 => with_numbers_left(tables.clone(), rng.between(0, 5)),
         3 => with_deep_rows(tables.clone()),
         _ => altered(rng, tables),

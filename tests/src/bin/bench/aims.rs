@@ -202,7 +202,7 @@ const AIMS: [Aim; 16] = [
     ),
 ];
 
-/// A line for each aim: met or not, with the greatest value, and all operations that miss it.
+/// A line for each aim: met or not, how many miss it, and the greatest value.
 pub fn verdicts(results: &[Result]) -> String {
     AIMS.iter().map(|aim| verdict(aim, results)).collect()
 }
@@ -212,29 +212,22 @@ fn verdict(aim: &Aim, results: &[Result]) -> String {
     assert!(!meant.is_empty(), "nothing is measured for: {}", aim.says);
     let measured = meant.iter().filter_map(|r| Some((*r, aim.measure.of(r)?)));
     let measured: Vec<(&Result, f64)> = measured.collect();
-    let greatest = measured.iter().map(|(_, value)| *value).reduce(f64::max);
-    let Some(greatest) = greatest else {
+    let greatest = measured.iter().max_by(|a, b| a.1.total_cmp(&b.1));
+    let Some(&greatest) = greatest else {
         return format!("not measured: {}\n", aim.says);
     };
-    let missed = measured.iter().filter(|(_, value)| *value > aim.most);
-    let missed: String = missed.map(|(result, value)| miss(result, *value)).collect();
-    let verdict = if missed.is_empty() { "met" } else { "not met" };
-    format!(
-        "{verdict}: {} (the most is {})\n{missed}",
-        aim.says,
-        shown(greatest)
-    )
-}
-
-fn miss(result: &Result, value: f64) -> String {
+    let missed = measured
+        .iter()
+        .filter(|(_, value)| *value > aim.most)
+        .count();
+    let (result, most) = greatest;
     let about = &result.line.about;
-    let size = about.size;
-    let (rows, requests) = (size.rows, size.requests);
-    format!(
-        "    {}: {} ({rows} rows, {requests} requests)\n",
-        about.name,
-        shown(value)
-    )
+    let (says, all, rows) = (aim.says, measured.len(), about.size.rows);
+    let greatest = format!("the most is {}: {}, {rows} rows", shown(most), about.name);
+    match missed {
+        0 => format!("met: {says} ({greatest})\n"),
+        _ => format!("not met: {says} ({missed} of {all} above it; {greatest})\n"),
+    }
 }
 
 /// Ratios with two digits, counts with none.

@@ -9,7 +9,8 @@ use model::Tables;
 pub struct Case {
     pub name: &'static str,
     pub tables: Tables,
-    pub line: &'static str,
+    /// With its line feed.
+    pub line: String,
     /// 0 for none.
     pub refusal: u32,
 }
@@ -151,6 +152,10 @@ pub fn cases(rows: usize) -> impl Iterator<Item = Case> {
                 tables = with_numbers_left(tables, 0);
             }
             assert!(model::sound(&tables), "{name}");
+            let line = format!(
+                "{line}
+"
+            );
             Case {
                 name,
                 tables,
@@ -163,7 +168,6 @@ pub fn cases(rows: usize) -> impl Iterator<Item = Case> {
 /// The refusal of a call on the model, 0 for none.
 pub fn refusal(case: &Case) -> u32 {
     let mut tables = case.tables.clone();
-    let line = format!("{}\n", case.line);
-    let answer = model::session::call_sound(&mut tables, line.as_bytes());
+    let answer = model::session::call_sound(&mut tables, case.line.as_bytes());
     answer.refusal().unwrap_or(0)
 }

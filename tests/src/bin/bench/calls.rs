@@ -1,53 +1,13 @@
-//! The calls on sound tables, each on tables of its own.
+//! The calls on sound tables.
 
 use crate::call_cases::{cases, refusal, Case};
-use crate::measure::{About, Layer, Measured, Operation, Size};
-use kernel::call_words::{call_words, AnswerWords, CallWords};
+use crate::closings::closing_reads;
+use crate::measure::{Layer, Measured};
+use crate::on_runs::{measure, On};
+use kernel::call_words::{call_words, AnswerWords};
 use kernel::{performing, plain};
-use model::call::read_call;
-use model::words::encode;
+use model::call::{read_call, Call};
 use std::hint::black_box as hidden;
-
-const CALLS: usize = 10;
-
-struct Calls {
-    call: CallWords,
-    words: Vec<u32>,
-    processes: Vec<u32>,
-    runs: Vec<(Vec<u32>, Vec<u32>)>,
-    answer: AnswerWords,
-}
-
-impl Operation for Calls {
-    fn prepare(&mut self) {
-        for (words, processes) in &mut self.runs {
-            words.copy_from_slice(&self.words);
-            processes.copy_from_slice(&self.processes);
-        }
-    }
-
-    fn proved(&mut self, calls: usize) {
-        for (words, processes) in &mut self.runs[..calls] {
-            performing::perform(
-                hidden(words),
-                hidden(processes),
-                hidden(&self.call),
-                &mut self.answer,
-            );
-        }
-    }
-
-    fn plain(&mut self, calls: usize) {
-        for (words, processes) in &mut self.runs[..calls] {
-            plain::calls::perform(
-                hidden(words),
-                hidden(processes),
-                hidden(&self.call),
-                &mut self.answer,
-            );
-        }
-    }
-}
 
 pub fn on_calls(by: &mut dyn Measured) {
     for rows in crate::SIZES {
@@ -59,40 +19,45 @@ pub fn on_calls(by: &mut dyn Measured) {
 
 fn called(by: &mut dyn Measured, case: &Case) {
     assert_eq!(refusal(case), case.refusal, "{}", case.name);
-    let (words, processes) = encode(&case.tables).expect("they fit");
-    let call = read_call(format!("{}\n", case.line).as_bytes());
-    let call = call.as_ref().and_then(call_words).expect("a call");
-    let runs = vec![(words.clone(), processes.clone()); CALLS];
-    let mut operation = Calls {
-        call,
-        words,
-        processes,
-        runs,
-        answer: [0; 6],
-    };
-    operation.proved(CALLS);
-    let proved = (operation.runs.clone(), operation.answer);
-    operation.prepare();
-    operation.plain(CALLS);
-    let plain = (operation.runs.clone(), operation.answer);
-    assert!(proved == plain, "{}: the same words", case.name);
-    let about = About {
+    let call = read_call(case.line.as_bytes()).expect("a call");
+    let words = call_words(&call).expect("its words");
+    let on = On {
         layer: Layer::Calls,
-        size: Size {
-            rows: case.tables.rows.len(),
-            requests: case.tables.requests.len(),
-        },
         name: case.name.to_string(),
-        bytes: bytes(&operation),
-        calls: CALLS,
+        tables: &case.tables,
+        reads: reads(case, &call),
     };
-    by.measure(about, &mut operation);
+    let answer: AnswerWords = [0; 6];
+    let proved = |t: &mut [u32], p: &mut [u32]| {
+        let mut answer = answer;
+        performing::perform(t, p, hidden(&words), &mut answer);
+        answer
+    };
+    let plain = |t: &mut [u32], p: &mut [u32]| {
+        let mut answer = answer;
+        plain::calls::perform(t, p, hidden(&words), &mut answer);
+        answer
+    };
+    measure(by, on, proved, plain);
 }
 
-/// At the least the steps of two searches by halves and the words that change.
-fn bytes(operation: &Calls) -> usize {
-    let (words, processes) = &operation.runs[0];
-    let changed = |old: &[u32], new: &[u32]| old.iter().zip(new).filter(|(a, b)| a != b).count();
-    let changed = changed(&operation.words, words) + changed(&operation.processes, processes);
-    4 * (10 + 7 + changed)
+/// At the least: a search by halves for each row named, and its words; for a
+/// drop both sources of each newer row; for one that closes, what closing reads.
+fn reads(case: &Case, call: &Call) -> usize {
+    let searches = 1 + call.items().len();
+    let steps = usize::BITS - case.tables.rows.len().leading_zeros();
+    let searched = 4 * searches * (steps as usize + 5);
+    let closes = ["close", "reply", "refuse", "revoke", "drop"].contains(&case.name);
+    let sources = if case.name.starts_with("drop") {
+        8 * case.tables.rows.len()
+    } else {
+        0
+    };
+    searched
+        + sources
+        + if closes {
+            closing_reads(&case.tables)
+        } else {
+            0
+        }
 }

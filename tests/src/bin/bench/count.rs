@@ -19,6 +19,11 @@ const STOP: u64 = BASE + 5;
 /// The argument of the benchmark that runs under callgrind.
 pub const COUNTED: &str = "--counted";
 
+/// memset and memcpy move whole registers: an instruction that repeats itself, as they use it for more bytes, would be
+/// counted once a byte.
+const WHOLE_REGISTERS: &str =
+    "glibc.cpu.x86_rep_movsb_threshold=1000000000:glibc.cpu.x86_rep_stosb_threshold=1000000000";
+
 /// Instructions a call, of the proved function and of the plain one.
 #[derive(Clone, Copy)]
 pub struct Counts {
@@ -74,6 +79,7 @@ pub fn all() -> Option<Vec<Counts>> {
         .arg(format!("--callgrind-out-file={}/out", folder.display()))
         .arg(env::current_exe().expect("this program"))
         .arg(COUNTED)
+        .env("GLIBC_TUNABLES", WHOLE_REGISTERS)
         .status();
     let counts = status.ok().filter(|s| s.success()).map(|_| read(&folder));
     fs::remove_dir_all(&folder).expect("the folder is removed");

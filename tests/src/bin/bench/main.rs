@@ -12,6 +12,7 @@ mod calls;
 mod closings;
 mod count;
 mod measure;
+mod on_runs;
 mod operations;
 mod report;
 mod stack;

@@ -48,28 +48,32 @@ pub fn tables(results: &[Result]) -> String {
 fn row(result: &Result) -> String {
     let Line {
         about,
-        proved,
-        plain,
+        times,
         proved_stack,
         plain_stack,
         ..
     } = result.line;
-    let size = about.size;
-    let counts = match result.counts {
-        None => "| | | ".to_string(),
-        Some(c) => format!(
-            "{:.0} | {:.0} | {:.2}",
-            c.proved,
-            c.plain,
-            c.proved / c.plain
-        ),
-    };
+    let counts = result.counts.map(|c| (c.proved, c.plain));
     format!(
-        "| {} | {} | {} | {counts} | {proved:.1} | {plain:.1} | {:.2} | {} | {proved_stack} | {plain_stack} |\n",
-        size.rows,
-        size.requests,
+        "| {} | {} | {} | {} | {} | {} | {proved_stack} | {plain_stack} |\n",
+        about.size.rows,
+        about.size.requests,
         about.name,
-        proved / plain,
+        beside(counts, 0),
+        beside(*times, 1),
         about.bytes,
     )
+}
+
+/// Two numbers and their ratio, or nothing.
+fn beside(both: Option<(f64, f64)>, digits: usize) -> String {
+    match both {
+        None => "| |".to_string(),
+        Some((proved, plain)) => {
+            format!(
+                "{proved:.digits$} | {plain:.digits$} | {:.2}",
+                proved / plain
+            )
+        }
+    }
 }

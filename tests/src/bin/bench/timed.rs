@@ -6,9 +6,8 @@ use crate::{allocations, stack, time};
 /// What was measured of an operation.
 pub struct Line {
     pub about: About,
-    /// Nanoseconds a call.
-    pub proved: f64,
-    pub plain: f64,
+    /// Nanoseconds a call, of the proved function and of the plain one.
+    pub times: Option<(f64, f64)>,
     pub proved_stack: usize,
     pub plain_stack: usize,
     pub allocations: usize,
@@ -23,10 +22,7 @@ pub struct Timed {
 
 impl Measured for Timed {
     fn measure(&mut self, about: About, operation: &mut dyn Operation) {
-        let (proved, plain) = match self.untimed {
-            true => (0.0, 0.0),
-            false => time::medians(about.calls, operation),
-        };
+        let times = (!self.untimed).then(|| time::medians(about.calls, operation));
         let before = allocations::made();
         operation.prepare();
         operation.proved(about.calls);
@@ -35,14 +31,13 @@ impl Measured for Timed {
         let proved_stack = stack::used(&mut || operation.proved(1));
         operation.prepare();
         let plain_stack = stack::used(&mut || operation.plain(1));
-        if !self.untimed {
+        if let Some((proved, plain)) = times {
             let (rows, name) = (about.size.rows, &about.name);
             println!("{rows:>5} rows, {name}: {proved:.1} ns, plain {plain:.1} ns");
         }
         self.lines.push(Line {
             about,
-            proved,
-            plain,
+            times,
             proved_stack,
             plain_stack,
             allocations,
