@@ -6,6 +6,7 @@ mod raw;
 pub mod call_words;
 pub mod changing;
 pub mod closing;
+pub mod entry;
 pub mod fuller;
 pub mod layout;
 pub mod performing;

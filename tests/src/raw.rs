@@ -1,5 +1,5 @@
-//! The C names, as crates/test_exports/src declares them: a slice is a pointer and
-//! a length, a reference to an array is a pointer.
+//! The C names, as crates/test_exports/src and crates/entry/src declare them: a slice is a
+//! pointer and a length, a reference to an array is a pointer.
 
 use crate::call_words::{AnswerWords, CallWords};
 use crate::{RequestFields, RequestMarks, RowFields, RowMarks};
@@ -55,4 +55,26 @@ extern "C" {
         w: *const CallWords,
         out: *mut AnswerWords,
     );
+
+    // crates/entry/src/exports.rt
+    pub fn tablet_open(
+        tables: *mut u32,
+        tables_len: usize,
+        processes: *mut u32,
+        processes_len: usize,
+        text: *const u8,
+        text_len: usize,
+        reply: *mut u8,
+        reply_len: usize,
+    ) -> usize;
+    pub fn tablet_call(
+        tables: *mut u32,
+        tables_len: usize,
+        processes: *mut u32,
+        processes_len: usize,
+        line: *const u8,
+        line_len: usize,
+        reply: *mut u8,
+        reply_len: usize,
+    ) -> usize;
 }
