@@ -1,4 +1,5 @@
-//! Proves and builds the Rattle crate `test_exports` as a static library, and links it.
+//! Proves and builds the Rattle crates `test_exports` and `entry` as static
+//! libraries, and links them. Each defines its exported names alone.
 
 use std::path::{Path, PathBuf};
 use std::process::Command;
@@ -7,22 +8,24 @@ use std::{env, fs};
 fn main() {
     let package = env::var("CARGO_MANIFEST_DIR").expect("cargo names the package");
     let root = Path::new(&package).parent().expect("a repository above");
-    let mut rt = Command::new("rt");
-    let status = rt
-        .args(["staticlib", "test_exports"])
-        .current_dir(root)
-        .status();
-    assert!(
-        status.expect("rt starts").success(),
-        "rt staticlib test_exports"
-    );
-    // a copy: `rt ci` removes target/, and cargo does not see that
     let out = PathBuf::from(env::var("OUT_DIR").expect("cargo names a folder"));
-    let built = root.join("target/staticlib/libtest_exports.a");
-    fs::copy(built, out.join("libtest_exports.a")).expect("the archive is there");
+    for library in ["test_exports", "entry"] {
+        built(root, &out, library);
+        println!("cargo:rustc-link-lib=static={library}");
+    }
     println!("cargo:rustc-link-search=native={}", out.display());
-    println!("cargo:rustc-link-lib=static=test_exports");
     for source in ["crates", "crates.txt"] {
         println!("cargo:rerun-if-changed={}", root.join(source).display());
     }
+}
+
+/// Builds a library and copies it: `rt ci` removes target/, and cargo does not see that.
+fn built(root: &Path, out: &Path, library: &str) {
+    let mut rt = Command::new("rt");
+    let status = rt.args(["staticlib", library]).current_dir(root).status();
+    let built = status.expect("rt starts").success();
+    assert!(built, "rt staticlib {library}");
+    let file = format!("lib{library}.a");
+    let archive = root.join("target/staticlib").join(&file);
+    fs::copy(archive, out.join(file)).expect("the archive is there");
 }

@@ -3,9 +3,13 @@
 
 mod raw;
 
+pub mod call_words;
 pub mod changing;
 pub mod closing;
+pub mod entry;
+pub mod fuller;
 pub mod layout;
+pub mod performing;
 pub mod plain;
 pub mod reading;
 pub mod rights;

@@ -1,6 +1,7 @@
-//! The C names, as crates/test_exports/src declares them: a slice is a pointer and
-//! a length, a reference to an array is a pointer.
+//! The C names, as crates/test_exports/src and crates/entry/src declare them: a slice is a
+//! pointer and a length, a reference to an array is a pointer.
 
+use crate::call_words::{AnswerWords, CallWords};
 use crate::{RequestFields, RequestMarks, RowFields, RowMarks};
 
 extern "C" {
@@ -44,4 +45,36 @@ extern "C" {
     pub fn kernel_close_request(t: *mut u32, t_len: usize, p: *mut u32, p_len: usize, q: u32);
     pub fn kernel_close_port(t: *mut u32, t_len: usize, p: *mut u32, p_len: usize, c: u32);
     pub fn kernel_drop_row(t: *mut u32, t_len: usize, p: *mut u32, p_len: usize, e: u32);
+
+    // performing.rt
+    pub fn kernel_perform(
+        t: *mut u32,
+        t_len: usize,
+        p: *mut u32,
+        p_len: usize,
+        w: *const CallWords,
+        out: *mut AnswerWords,
+    );
+
+    // crates/entry/src/exports.rt
+    pub fn tablet_open(
+        tables: *mut u32,
+        tables_len: usize,
+        processes: *mut u32,
+        processes_len: usize,
+        text: *const u8,
+        text_len: usize,
+        reply: *mut u8,
+        reply_len: usize,
+    ) -> usize;
+    pub fn tablet_call(
+        tables: *mut u32,
+        tables_len: usize,
+        processes: *mut u32,
+        processes_len: usize,
+        line: *const u8,
+        line_len: usize,
+        reply: *mut u8,
+        reply_len: usize,
+    ) -> usize;
 }

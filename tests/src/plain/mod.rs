@@ -1,11 +1,17 @@
 //! The same functions in plain Rust over the same words, for the benchmark: what the proved code is measured against.
 
+mod call_line;
+pub mod calls;
 pub mod closing;
 pub mod closing_tables;
+pub mod entry;
 pub mod find;
 mod holders;
 mod laid;
+mod opening;
+mod printed;
 pub mod questions;
+mod reader;
 pub mod removal;
 mod request_clauses;
 mod row_clauses;

@@ -44,7 +44,7 @@ fn lent_itself(words: &[u32; TABLES_WORDS], slot: usize) -> bool {
 }
 
 /// Whether an open request lists the row.
-fn on_loan(words: &[u32; TABLES_WORDS], number: u32) -> bool {
+pub fn on_loan(words: &[u32; TABLES_WORDS], number: u32) -> bool {
     let open = used(&words[Q_NUMBER..Q_NUMBER + REQUESTS]);
     let mut items = words[Q_ITEMS..Q_ITEMS + 4 * REQUESTS].chunks_exact(REQUESTS);
     items.any(|column| column[..open].contains(&number))

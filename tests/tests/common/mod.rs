@@ -1,9 +1,16 @@
 //! Sound tables for the tests: small ones of random sessions, and full ones.
 #![allow(dead_code)]
 
+pub mod any_input;
 pub mod built;
+pub mod calls;
 pub mod closings;
+pub mod entries;
+pub mod entry_run;
 pub mod features;
+pub mod performed;
+pub mod refused;
+pub mod tried;
 
 use model::compare::full::{with_requests, with_rows};
 use model::limits::{REQUESTS, ROWS};

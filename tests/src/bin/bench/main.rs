@@ -1,65 +1,76 @@
 //! The benchmark: the proved functions beside plain Rust over the same words,
-//! in the same run. `bench` prints times and the stack used; `bench --count`,
-//! run under callgrind, has the instructions counted (tools/count-instructions).
+//! in the same run: times, stack, instructions, and a verdict on each aim.
+//!
+//!     bench                   all of it, as `make bench` runs it
+//!     bench --instructions    without the times (tools/count-instructions)
+//!     bench --write FILE      all of it; the tables replace those of a file (tools/write-benchmarks)
 
+mod aims;
 mod allocations;
+mod call_cases;
+mod calls;
 mod closings;
 mod count;
+mod measure;
+mod on_runs;
 mod operations;
+mod report;
 mod stack;
 mod tables;
 mod time;
+mod timed;
 
-use operations::{on_tables, About, Measured, Operation};
-use tables::{tables, Benched, Size};
+use measure::Measured;
 
 /// 10, 100 and 1,024 rows; the last tables are full.
 const SIZES: [usize; 3] = [10, 100, 1024];
 
+fn operations(by: &mut dyn Measured) {
+    for rows in SIZES {
+        operations::on_tables(&tables::tables(rows), by);
+    }
+    closings::on_closings(by);
+    calls::on_calls(by);
+}
+
 fn main() {
-    let counting = std::env::args().any(|word| word == "--count");
-    let all: Vec<Benched> = SIZES.into_iter().map(tables).collect();
-    if counting {
-        all.iter().for_each(|b| on_tables(b, &mut count::Counted));
-        closings::on_closings(&mut count::Counted);
-        return;
-    }
+    let words: Vec<String> = std::env::args().skip(1).collect();
+    let words: Vec<&str> = words.iter().map(String::as_str).collect();
+    let untimed = match words.as_slice() {
+        [count::COUNTED] => return operations(&mut count::Counted),
+        ["--instructions"] => true,
+        [] | ["--write", _] => false,
+        _ => panic!("bench [--instructions | --write FILE]"),
+    };
     println!("{}\n", machine());
-    println!(
-        "| rows | requests | operation | proved, ns | plain, ns | ratio \
-         | bytes touched | stack, proved | stack, plain |"
+    let mut timed = timed::Timed {
+        untimed,
+        ..Default::default()
+    };
+    operations(&mut timed);
+    println!("\ninstructions are counted by callgrind: some minutes\n");
+    let counts = count::all().unwrap_or_default();
+    let results = report::results(&timed.lines, &counts);
+    let text = format!(
+        "{}\n\n{}### Verdicts\n\n```\n{}```\n",
+        machine(),
+        report::tables(&results),
+        aims::verdicts(&results)
     );
-    println!("|---:|---:|---|---:|---:|---:|---:|---:|---:|");
-    let mut printed = Printed { allocations: 0 };
-    all.iter().for_each(|b| on_tables(b, &mut printed));
-    closings::on_closings(&mut printed);
-    println!("\nallocations in the operations: {}", printed.allocations);
-}
-
-/// Times and stack of each operation, a line of the table each.
-struct Printed {
-    allocations: usize,
-}
-
-impl Measured for Printed {
-    fn measure(&mut self, size: Size, about: About, operation: &mut dyn Operation) {
-        let (proved, plain) = time::medians(about.calls, operation);
-        let before = allocations::made();
-        operation.prepare();
-        operation.proved(about.calls);
-        self.allocations += allocations::made() - before;
-        operation.prepare();
-        let proved_stack = stack::used(&mut || operation.proved(1));
-        let plain_stack = stack::used(&mut || operation.plain(1));
-        println!(
-            "| {} | {} | {} | {proved:.1} | {plain:.1} | {:.2} | {} | {proved_stack} | {plain_stack} |",
-            size.rows,
-            size.requests,
-            about.name,
-            proved / plain,
-            about.bytes,
-        );
+    println!("{text}");
+    if let ["--write", file] = words.as_slice() {
+        write(file, &text);
     }
+}
+
+/// What stands between the marks of a file becomes the text.
+fn write(file: &str, text: &str) {
+    let (begin, end) = ("<!-- numbers -->\n", "<!-- end of numbers -->\n");
+    let old = std::fs::read_to_string(file).expect("the file");
+    let (before, rest) = old.split_once(begin).expect("the first mark");
+    let (_, after) = rest.split_once(end).expect("the second mark");
+    let new = [before, begin, text, end, after].concat();
+    std::fs::write(file, new).expect("it is written");
 }
 
 /// The processor and how busy the machine is.

@@ -1,31 +1,10 @@
-//! The operations, each proved and in plain Rust, with the bytes that it
-//! touches: the words of the lent runs (and marks) that it reads or writes,
-//! each once.
+//! The operations of the rows' layer, each proved and in plain Rust.
 
-use crate::tables::{Benched, Size};
+use crate::measure::{About, Layer, Measured, Operation};
+use crate::tables::Benched;
 use kernel::layout::{DEPTH, KIND, Q_NUMBER, REQUEST, REQUESTS, ROWS, SOURCE, VIA};
 use kernel::{changing, plain, reading, RowMarks};
 use std::hint::black_box as hidden;
-
-/// One operation: so many calls of the proved function, or of the plain one.
-pub trait Operation {
-    /// Makes ready for so many calls; it is not measured.
-    fn prepare(&mut self) {}
-    fn proved(&mut self, calls: usize);
-    fn plain(&mut self, calls: usize);
-}
-
-pub struct About {
-    pub name: String,
-    pub bytes: usize,
-    /// How many calls a batch has.
-    pub calls: usize,
-}
-
-/// What is done with an operation: it is timed, or its instructions are counted.
-pub trait Measured {
-    fn measure(&mut self, size: Size, about: About, operation: &mut dyn Operation);
-}
 
 /// Two closures, a call each.
 struct Reads<A, B>(A, B);
@@ -61,13 +40,15 @@ fn sound(b: &Benched, by: &mut dyn Measured) {
     let (t, p) = (b.words.as_slice(), b.processes.as_slice());
     assert!(reading::sound(t, p) && plain::sound(t, p));
     let about = About {
+        layer: Layer::Rows,
+        size: b.size(),
         name: "sound".into(),
         bytes: 4 * (t.len() + p.len()),
         calls: 2 + 1_000 / b.rows,
     };
     let proved = || reading::sound(hidden(t), hidden(p));
     let plain = || plain::sound(hidden(t), hidden(p));
-    by.measure(b.size(), about, &mut Reads(proved, plain));
+    by.measure(about, &mut Reads(proved, plain));
 }
 
 /// The newest row by its number. The rows are counted first.
@@ -78,13 +59,15 @@ fn look_up_row(b: &Benched, by: &mut dyn Measured) {
     assert_eq!(reading::row_slot(t, row), Some(newest));
     assert_eq!(plain::find::row_slot(t, row), Some(newest));
     let about = About {
+        layer: Layer::Rows,
+        size: b.size(),
         name: "look-up of a row".into(),
         bytes: 4 * (b.rows + 1).min(ROWS),
         calls: 100,
     };
     let proved = || reading::row_slot(hidden(t), hidden(row));
     let plain = || plain::find::row_slot(hidden(t), hidden(row));
-    by.measure(b.size(), about, &mut Reads(proved, plain));
+    by.measure(about, &mut Reads(proved, plain));
 }
 
 fn look_up_request(b: &Benched, by: &mut dyn Measured) {
@@ -94,13 +77,15 @@ fn look_up_request(b: &Benched, by: &mut dyn Measured) {
     assert_eq!(reading::request_slot(t, request), Some(newest));
     assert_eq!(plain::find::request_slot(t, request), Some(newest));
     let about = About {
+        layer: Layer::Rows,
+        size: b.size(),
         name: "look-up of a request".into(),
         bytes: 4 * (b.requests + 1).min(REQUESTS),
         calls: 300,
     };
     let proved = || reading::request_slot(hidden(t), hidden(request));
     let plain = || plain::find::request_slot(hidden(t), hidden(request));
-    by.measure(b.size(), about, &mut Reads(proved, plain));
+    by.measure(about, &mut Reads(proved, plain));
 }
 
 /// The slots that a question goes through from a slot, each once.
@@ -140,13 +125,15 @@ fn comes(b: &Benched, by: &mut dyn Measured, slot: usize) {
     assert!(!reading::comes(t, slot, none));
     assert!(!plain::questions::comes(t, slot, none));
     let about = About {
+        layer: Layer::Rows,
+        size: b.size(),
         name: format!("comes, {}", row(t, slot)),
         bytes: 12 * slots_from(t, slot).len(),
         calls: 300,
     };
     let proved = || reading::comes(hidden(t), hidden(slot), hidden(none));
     let plain = || plain::questions::comes(hidden(t), hidden(slot), hidden(none));
-    by.measure(b.size(), about, &mut Reads(proved, plain));
+    by.measure(about, &mut Reads(proved, plain));
 }
 
 /// Of a row that is not lent, so that the question goes to the end.
@@ -158,13 +145,15 @@ fn lent(b: &Benched, by: &mut dyn Measured, slot: usize) {
     let numbers = (b.requests + 1).min(REQUESTS);
     let listings = ends.min(1) * (numbers + 4 * b.requests);
     let about = About {
+        layer: Layer::Rows,
+        size: b.size(),
         name: format!("lent, {}", row(t, slot)),
         bytes: 16 * slots.len() + 4 * ends + 4 * listings,
         calls: 300,
     };
     let proved = || reading::lent(hidden(t), hidden(slot));
     let plain = || plain::questions::lent(hidden(t), hidden(slot));
-    by.measure(b.size(), about, &mut Reads(proved, plain));
+    by.measure(about, &mut Reads(proved, plain));
 }
 
 /// Removal of marked rows. Each call has tables of its own.
@@ -227,9 +216,11 @@ fn removal(b: &Benched, by: &mut dyn Measured, what: &str, goes: impl Fn(usize) 
     operation.plain(calls);
     assert!(proved == operation.tables, "the same words");
     let about = About {
+        layer: Layer::Rows,
+        size: b.size(),
         name: format!("removal of {what}"),
         bytes: b.rows + 40 * b.rows,
         calls,
     };
-    by.measure(b.size(), about, &mut operation);
+    by.measure(about, &mut operation);
 }

@@ -1,6 +1,7 @@
 //! The tables that are measured: a line of registered rows, a chain of loans,
 //! and random calls until there are so many rows. The seed is fixed.
 
+use crate::measure::Size;
 use model::limits::{ALL_RIGHTS, REQUESTS, ROWS};
 use model::random::{lines, Profile, Rng};
 use model::session::call_sound;
@@ -19,13 +20,6 @@ pub struct Benched {
     pub loan: usize,
     /// A client end that no request lists.
     pub end: usize,
-}
-
-/// How large tables are.
-#[derive(Clone, Copy)]
-pub struct Size {
-    pub rows: usize,
-    pub requests: usize,
 }
 
 impl Benched {

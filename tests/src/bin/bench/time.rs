@@ -1,7 +1,7 @@
 //! Times: batches of the proved and of the plain function in turn, the median
 //! of each.
 
-use crate::operations::Operation;
+use crate::measure::Operation;
 use std::time::Instant;
 
 const BATCHES: usize = 1_001;

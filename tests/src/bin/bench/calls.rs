@@ -1,0 +1,63 @@
+//! The calls on sound tables.
+
+use crate::call_cases::{cases, refusal, Case};
+use crate::closings::closing_reads;
+use crate::measure::{Layer, Measured};
+use crate::on_runs::{measure, On};
+use kernel::call_words::{call_words, AnswerWords};
+use kernel::{performing, plain};
+use model::call::{read_call, Call};
+use std::hint::black_box as hidden;
+
+pub fn on_calls(by: &mut dyn Measured) {
+    for rows in crate::SIZES {
+        for case in cases(rows) {
+            called(by, &case);
+        }
+    }
+}
+
+fn called(by: &mut dyn Measured, case: &Case) {
+    assert_eq!(refusal(case), case.refusal, "{}", case.name);
+    let call = read_call(case.line.as_bytes()).expect("a call");
+    let words = call_words(&call).expect("its words");
+    let on = On {
+        layer: Layer::Calls,
+        name: case.name.to_string(),
+        tables: &case.tables,
+        reads: reads(case, &call),
+    };
+    let answer: AnswerWords = [0; 6];
+    let proved = |t: &mut [u32], p: &mut [u32]| {
+        let mut answer = answer;
+        performing::perform(t, p, hidden(&words), &mut answer);
+        answer
+    };
+    let plain = |t: &mut [u32], p: &mut [u32]| {
+        let mut answer = answer;
+        plain::calls::perform(t, p, hidden(&words), &mut answer);
+        answer
+    };
+    measure(by, on, proved, plain);
+}
+
+/// At the least: a search by halves for each row named, and its words; for a
+/// drop both sources of each newer row; for one that closes, what closing reads.
+fn reads(case: &Case, call: &Call) -> usize {
+    let searches = 1 + call.items().len();
+    let steps = usize::BITS - case.tables.rows.len().leading_zeros();
+    let searched = 4 * searches * (steps as usize + 5);
+    let closes = ["close", "reply", "refuse", "revoke", "drop"].contains(&case.name);
+    let sources = if case.name.starts_with("drop") {
+        8 * case.tables.rows.len()
+    } else {
+        0
+    };
+    searched
+        + sources
+        + if closes {
+            closing_reads(&case.tables)
+        } else {
+            0
+        }
+}

@@ -1,0 +1,44 @@
+//! What is measured, and what is done with it: it is timed, or its instructions are counted.
+
+/// One operation: so many calls of the proved function, or of the plain one.
+pub trait Operation {
+    /// Makes ready for so many calls; it is not measured.
+    fn prepare(&mut self) {}
+    fn proved(&mut self, calls: usize);
+    fn plain(&mut self, calls: usize);
+}
+
+/// The parts of the kernel that are measured, each with a table of its own.
+#[derive(Clone, Copy, PartialEq, Eq)]
+pub enum Layer {
+    Rows,
+    Closing,
+    Calls,
+}
+
+pub const LAYERS: [(Layer, &str); 3] = [
+    (Layer::Rows, "Rows: soundness, look-ups, questions, removal"),
+    (Layer::Closing, "Closing"),
+    (Layer::Calls, "Calls"),
+];
+
+/// How large tables are.
+#[derive(Clone, Copy)]
+pub struct Size {
+    pub rows: usize,
+    pub requests: usize,
+}
+
+pub struct About {
+    pub layer: Layer,
+    pub size: Size,
+    pub name: String,
+    /// The bytes of the lent runs (and marks) that must be read or written, each counted once.
+    pub bytes: usize,
+    /// How many calls a batch has.
+    pub calls: usize,
+}
+
+pub trait Measured {
+    fn measure(&mut self, about: About, operation: &mut dyn Operation);
+}

@@ -1,0 +1,130 @@
+//! A call line: the call, or 2 to 6.
+
+use super::calls::{Call, Item, Records};
+use super::reader::Reader;
+use super::view::listed;
+use crate::layout::ITEMS;
+
+/// More items than these have no room on a line.
+const MOST_ITEMS: usize = 48;
+const LAST_NUMBER: u32 = 1_000_000;
+
+/// What a line says, whatever its numbers.
+struct Line {
+    call: fn(u32, u32) -> Call,
+    first: u32,
+    second: u32,
+    kind: Kind,
+    items: [Item; MOST_ITEMS],
+    count: usize,
+}
+
+#[derive(PartialEq)]
+enum Kind {
+    Go,
+    Ask,
+    Comes,
+    Other,
+}
+
+/// The call of a listed process, or the lowest of 2 to 6.
+pub fn read_call(line: &[u8], p: &Records) -> Result<Call, u32> {
+    let line = read_line(line).ok_or(2u32)?;
+    if !line.in_range() {
+        return Err(3);
+    }
+    if line.names_twice() {
+        return Err(4);
+    }
+    if line.kind != Kind::Comes && !listed(p, line.first) {
+        return Err(5);
+    }
+    if line.count > ITEMS {
+        return Err(6);
+    }
+    Ok(match line.kind {
+        Kind::Ask => {
+            let items = std::array::from_fn(|k| line.items[k]);
+            Call::Ask(line.first, line.second, items)
+        }
+        _ => (line.call)(line.first, line.second),
+    })
+}
+
+fn read_line(line: &[u8]) -> Option<Line> {
+    let mut reader = Reader::of(line)?;
+    let (kind, call, first): (Kind, fn(u32, u32) -> Call, u32) = match reader.word() {
+        b"" => {
+            let caller = reader.number()?;
+            reader.byte(b' ')?;
+            let (kind, call) = call_of(reader.word())?;
+            (kind, call, caller)
+        }
+        b"comes" => (Kind::Comes, Call::Comes, reader.next_number()?),
+        _ => return None,
+    };
+    let second = reader.next_number()?;
+    let (items, count) = match kind {
+        Kind::Ask => read_items(&mut reader)?,
+        _ => ([Item::default(); MOST_ITEMS], 0),
+    };
+    reader.is_empty().then_some(Line {
+        call,
+        first,
+        second,
+        kind,
+        items,
+        count,
+    })
+}
+
+fn call_of(word: &[u8]) -> Option<(Kind, fn(u32, u32) -> Call)> {
+    Some(match word {
+        b"go" => (Kind::Go, Call::Go),
+        b"hold" => (Kind::Other, Call::Hold),
+        b"register" => (Kind::Other, Call::Register),
+        b"drop" => (Kind::Other, Call::Drop),
+        b"port" => (Kind::Other, Call::Port),
+        b"close" => (Kind::Other, Call::Close),
+        b"ask" => (Kind::Ask, Call::Close),
+        b"fetch" => (Kind::Other, Call::Fetch),
+        b"reply" => (Kind::Other, Call::Reply),
+        b"refuse" => (Kind::Other, Call::Refuse),
+        b"revoke" => (Kind::Other, Call::Revoke),
+        _ => return None,
+    })
+}
+
+fn read_items(reader: &mut Reader) -> Option<([Item; MOST_ITEMS], usize)> {
+    let mut items = [Item::default(); MOST_ITEMS];
+    let mut count = 0;
+    while !reader.is_empty() {
+        reader.byte(b' ')?;
+        reader.byte(b'(')?;
+        let row = reader.number()?;
+        let rights = reader.next_number()?;
+        reader.byte(b')')?;
+        items[count] = Item { row, rights };
+        count += 1;
+    }
+    Some((items, count))
+}
+
+impl Line {
+    fn in_range(&self) -> bool {
+        let number = |n: u32| (1..=LAST_NUMBER).contains(&n);
+        let first = match self.kind {
+            Kind::Comes => number(self.first),
+            _ => (1..=64).contains(&self.first),
+        };
+        let home = self.kind == Kind::Go && self.second == 0;
+        let mut items = self.items[..self.count].iter();
+        first && (number(self.second) || home) && items.all(|i| number(i.row) && i.rights <= 7)
+    }
+
+    fn names_twice(&self) -> bool {
+        let items = &self.items[..self.count];
+        let mut rest = items.iter().enumerate();
+        rest.any(|(at, item)| items[..at].iter().any(|other| other.row == item.row))
+    }
+}

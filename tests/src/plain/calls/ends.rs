@@ -1,0 +1,75 @@
+//! The end of a loan: reply, refuse, revoke; and comes.
+
+use super::questions;
+use super::state::State;
+use super::{Answer, Outcome};
+use crate::layout::{
+    C_LIST, ITEMS, KIND, OBJECT, PLACE, Q_ASKER, Q_FETCHED, Q_ITEMS, Q_NUMBER, REQUESTS, SERVER,
+};
+use crate::plain::closing::close_request;
+
+impl State<'_> {
+    /// The request open on the port of a server end of the caller, or 7, 8, 11.
+    pub fn asked(&self, caller: u32, v: u32) -> Result<usize, u32> {
+        let slot = self.held(caller, v)?;
+        if self.t[KIND + slot] != SERVER {
+            return Err(8);
+        }
+        self.open_on(self.t[OBJECT + slot]).ok_or(11)
+    }
+
+    fn close_at(&mut self, request: usize) -> Outcome {
+        let number = self.t[Q_NUMBER + request];
+        close_request(self.t, self.p, number);
+        Ok(Answer::Done)
+    }
+
+    pub fn reply(&mut self, caller: u32, v: u32) -> Outcome {
+        let request = self.asked(caller, v)?;
+        let items = self.items(request);
+        let rows = items.iter().filter(|item| **item != 0);
+        let rows = rows.filter_map(|item| self.find(*item));
+        let ends = rows.filter(|slot| self.is_end(*slot));
+        if ends
+            .clone()
+            .any(|slot| self.open_on(self.t[OBJECT + slot]).is_some())
+        {
+            return Err(10);
+        }
+        if self.t[Q_FETCHED + request] == 0 {
+            return Err(11);
+        }
+        for slot in ends {
+            let here = self.t[PLACE + slot] == C_LIST + caller;
+            if !here || self.lists_after(request, self.t[slot]) {
+                return Err(14);
+            }
+        }
+        self.close_at(request)
+    }
+
+    /// Whether a newer request lists the row.
+    fn lists_after(&self, request: usize, number: u32) -> bool {
+        (0..ITEMS).any(|k| {
+            let items = Q_ITEMS + k * REQUESTS;
+            self.t[items + request + 1..items + self.requests].contains(&number)
+        })
+    }
+
+    pub fn refuse(&mut self, caller: u32, v: u32) -> Outcome {
+        let request = self.asked(caller, v)?;
+        self.close_at(request)
+    }
+
+    pub fn revoke(&mut self, caller: u32, q: u32) -> Outcome {
+        let request = self.find_request(q);
+        let own = request.filter(|request| self.t[Q_ASKER + request] == caller);
+        self.close_at(own.ok_or(7u32)?)
+    }
+
+    pub fn comes(&self, e: u32, q: u32) -> Outcome {
+        let slot = self.find(e).ok_or(7u32)?;
+        self.find_request(q).ok_or(7u32)?;
+        Ok(Answer::Told(questions::comes(&self.t[..], slot, q)))
+    }
+}

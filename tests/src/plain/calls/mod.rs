@@ -1,0 +1,117 @@
+//! The twelve calls in plain Rust, in place over the words of sound tables.
+
+mod directories;
+mod ends;
+mod loans;
+mod ports;
+mod state;
+
+use super::questions;
+use crate::call_words::{AnswerWords, CallWords, COMES, DONE, FETCHED, MADE, REFUSED, TOLD};
+use crate::layout::{ITEMS, PROCESS_WORDS, TABLES_WORDS};
+use state::State;
+
+/// The lent runs, of the right lengths.
+pub type Words = [u32; TABLES_WORDS];
+pub type Records = [u32; PROCESS_WORDS];
+
+/// An item of an ask; row 0 is none.
+#[derive(Clone, Copy, Default)]
+pub struct Item {
+    pub row: u32,
+    pub rights: u32,
+}
+
+/// A call: the caller, then the number it is about; comes has no caller.
+#[derive(Clone, Copy)]
+pub enum Call {
+    Go(u32, u32),
+    Hold(u32, u32),
+    Register(u32, u32),
+    Drop(u32, u32),
+    Port(u32, u32),
+    Close(u32, u32),
+    Ask(u32, u32, [Item; ITEMS]),
+    Fetch(u32, u32),
+    Reply(u32, u32),
+    Refuse(u32, u32),
+    Revoke(u32, u32),
+    Comes(u32, u32),
+}
+
+pub enum Answer {
+    Done,
+    Made(u32),
+    /// The request, and its items, 0 for one that is not listed.
+    Fetched(u32, [u32; ITEMS]),
+    Told(bool),
+}
+
+/// The answer, or the refusal's number.
+pub type Outcome = Result<Answer, u32>;
+
+/// The call of these words, made in place. Where a length or the caller does
+/// not fit, nothing changes.
+#[inline(never)]
+pub fn perform(t: &mut [u32], p: &mut [u32], call: &CallWords, answer: &mut AnswerWords) {
+    let (Ok(t), Ok(p)) = (<&mut Words>::try_from(t), <&mut Records>::try_from(p)) else {
+        return;
+    };
+    if call[0] < COMES && !(1..=64).contains(&call[1]) {
+        return;
+    }
+    *answer = answer_words(&made(t, p, &call_of(call)));
+}
+
+/// The call of a listed process on sound tables.
+pub fn made(t: &mut Words, p: &mut Records, call: &Call) -> Outcome {
+    let mut state = State::of(t, p);
+    match *call {
+        Call::Go(p, e) => state.go(p, e),
+        Call::Hold(p, s) => state.hold(p, s),
+        Call::Register(p, e) => state.register(p, e),
+        Call::Drop(p, e) => state.drop(p, e),
+        Call::Port(p, e) => state.port(p, e),
+        Call::Close(p, c) => state.close(p, c),
+        Call::Ask(p, c, ref items) => state.ask(p, c, items),
+        Call::Fetch(p, v) => state.fetch(p, v),
+        Call::Reply(p, v) => state.reply(p, v),
+        Call::Refuse(p, v) => state.refuse(p, v),
+        Call::Revoke(p, q) => state.revoke(p, q),
+        Call::Comes(e, q) => state.comes(e, q),
+    }
+}
+
+fn call_of(words: &CallWords) -> Call {
+    let [code, p, e, ..] = *words;
+    match code {
+        0 => Call::Go(p, e),
+        1 => Call::Hold(p, e),
+        2 => Call::Register(p, e),
+        3 => Call::Drop(p, e),
+        4 => Call::Port(p, e),
+        5 => Call::Close(p, e),
+        6 => {
+            let item = |k: usize| Item {
+                row: words[3 + 2 * k],
+                rights: words[4 + 2 * k],
+            };
+            Call::Ask(p, e, std::array::from_fn(item))
+        }
+        7 => Call::Fetch(p, e),
+        8 => Call::Reply(p, e),
+        9 => Call::Refuse(p, e),
+        10 => Call::Revoke(p, e),
+        _ => Call::Comes(p, e),
+    }
+}
+
+fn answer_words(outcome: &Outcome) -> AnswerWords {
+    match *outcome {
+        Ok(Answer::Done) => [DONE, 0, 0, 0, 0, 0],
+        Ok(Answer::Made(number)) => [MADE, number, 0, 0, 0, 0],
+        Ok(Answer::Fetched(request, [a, b, c, d])) => [FETCHED, request, a, b, c, d],
+        Ok(Answer::Told(yes)) => [TOLD, u32::from(yes), 0, 0, 0, 0],
+        Err(refusal) => [REFUSED, refusal, 0, 0, 0, 0],
+    }
+}

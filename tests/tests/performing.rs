@@ -1,0 +1,57 @@
+//! The twelve calls on sound tables: the answer and every word of both runs,
+//! against the model. A longer run, by so many rounds of the one in the gate:
+//!
+//!     ROUNDS=50 cargo test --release --offline --manifest-path tests/Cargo.toml --test performing -- --ignored
+
+mod common;
+
+use common::calls::{calls_of_round, others_stay, the_last_number, the_last_request, the_last_row};
+use common::performed::Perform;
+use common::refused::Refused;
+use kernel::performing::perform;
+
+const PERFORM: Perform = perform;
+
+#[test]
+fn calls_as_the_model_makes_them() {
+    let mut seen = Refused::default();
+    for round in 0..5 {
+        calls_of_round(&PERFORM, round, &mut seen);
+    }
+    seen.print("performed as the model performs");
+    seen.check(100);
+    assert!(seen.calls() >= 300_000, "{} calls", seen.calls());
+}
+
+#[test]
+#[ignore = "the longer run"]
+fn more_calls() {
+    let rounds = std::env::var("ROUNDS").map_or(50, |n| n.parse().expect("a number of rounds"));
+    let mut seen = Refused::default();
+    for round in 5..5 + rounds {
+        calls_of_round(&PERFORM, round, &mut seen);
+        println!("round {round}: {} calls", seen.calls());
+    }
+    seen.print("performed as the model performs");
+    seen.check(100);
+}
+
+#[test]
+fn row_1025() {
+    the_last_row(&PERFORM);
+}
+
+#[test]
+fn request_129() {
+    the_last_request(&PERFORM);
+}
+
+#[test]
+fn number_1000000() {
+    the_last_number(&PERFORM);
+}
+
+#[test]
+fn other_lengths_and_callers() {
+    others_stay(perform);
+}

@@ -1,0 +1,32 @@
+//! The calls in plain Rust, which the speed of the proved ones is compared
+//! with, do the same.
+
+mod common;
+
+use common::calls::{calls_of_round, others_stay, the_last_number, the_last_request, the_last_row};
+use common::performed::Perform;
+use common::refused::Refused;
+use kernel::plain::calls::perform;
+
+const PERFORM: Perform = perform;
+
+#[test]
+fn calls_as_the_model_makes_them() {
+    let mut seen = Refused::default();
+    for round in 0..5 {
+        calls_of_round(&PERFORM, round, &mut seen);
+    }
+    seen.check(100);
+}
+
+#[test]
+fn limits() {
+    the_last_row(&PERFORM);
+    the_last_request(&PERFORM);
+    the_last_number(&PERFORM);
+}
+
+#[test]
+fn other_lengths_and_callers() {
+    others_stay(perform);
+}
