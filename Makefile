@@ -1,12 +1,18 @@
-# make run: the example session. make test: the whole gate. make bench: the benchmark, which is not in the gate.
-.PHONY: run test bench
+# make run: the example session, by the proved program. make test: the whole gate. The others are not in the gate:
+# make library: the static library with its header. make bench: the benchmark. make test-page: the page in a browser.
+.PHONY: run test library bench test-page
 
-# until the proved program stands, the prover computes the definition of a session
 run:
-	@tools/compute-session examples/session.in examples/session.out
+	@tools/run-example
 
 test:
 	@tools/gate
 
+library:
+	@tools/library
+
 bench:
 	@cargo run --quiet --offline --profile bench --bin bench --manifest-path tests/Cargo.toml
+
+test-page:
+	@tools/test-page
