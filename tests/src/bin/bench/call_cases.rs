@@ -173,6 +173,22 @@ fn built(
     }
 }
 
+/// A fetch whose answer is the longest: a request and four copies, the last of number 1,000,000.
+pub fn longest_answer() -> Case {
+    let mut tables = opened(PORTS.opening);
+    for line in PORTS.calls.iter().chain(&["(1 hold 1)", "(1 hold 1)"]) {
+        call(&mut tables, line);
+    }
+    tables = with_numbers_left(tables, 5);
+    call(&mut tables, "(1 ask 5 (3 7) (4 7) (9 7) (10 7))");
+    Case {
+        name: "fetch, the longest answer",
+        tables,
+        line: "(2 fetch 6)\n".to_string(),
+        refusal: 0,
+    }
+}
+
 /// The refusal of a call on the model, 0 for none.
 pub fn refusal(case: &Case) -> u32 {
     let mut tables = case.tables.clone();

@@ -1,7 +1,7 @@
 //! Whole calls, bytes to bytes: the calls, openings, the parts of a call, and
 //! how a call grows with rows and with requests.
 
-use crate::call_cases::{case, cases, Case};
+use crate::call_cases::{case, cases, longest_answer, Case};
 use crate::measure::{Layer, Measured};
 use crate::on_runs::{measure, On};
 use kernel::layout::{PROCESS_WORDS, TABLES_WORDS};
@@ -32,6 +32,14 @@ pub fn on_whole_calls(by: &mut dyn Measured) {
             whole(by, Layer::Whole, name, &tables, line.as_bytes());
         }
     }
+    let longest = longest_answer();
+    whole(
+        by,
+        Layer::Whole,
+        longest.name,
+        &longest.tables,
+        longest.line.as_bytes(),
+    );
     opening(
         by,
         "opening of one node and one process",
