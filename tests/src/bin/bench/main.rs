@@ -11,6 +11,7 @@ mod call_cases;
 mod calls;
 mod closings;
 mod count;
+mod growth;
 mod measure;
 mod on_runs;
 mod operations;
