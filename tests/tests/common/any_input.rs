@@ -11,8 +11,11 @@ use model::random::aimed::{aimed, AIMS};
 use model::random::alter::{alter, alter_gently};
 use model::random::damage::damage;
 use model::random::{lines, openings, Profile, Rng, PROFILES, SMALL};
+use model::session::open;
 use model::words::{encode, PROCESS_WORDS, TABLES_WORDS};
-use model::{run_session, Tables};
+use model::Tables;
+use std::fs;
+use std::path::Path;
 
 fn any_profile(rng: &mut Rng) -> Profile {
     rng.pick(&SMALL).unwrap_or(Profile::Tiny)
@@ -218,14 +221,14 @@ pub fn lent_replies(entry: &Entry) {
     }
 }
 
-/// All conformance cases: what a session prints, what a call leaves.
+/// All conformance cases: what a session prints, what a call answers and leaves.
 pub fn conformance(entry: &Entry) {
     let sessions = conformance_inputs(usize::MAX).expect("the sessions");
     assert_eq!(sessions.len(), 93);
     for (name, input) in sessions {
         let mut lent = (vec![3; TABLES_WORDS], vec![3; PROCESS_WORDS]);
         let mut printed = entry.open(&mut lent, &input);
-        let (_, answer, read) = model::session::open(&input);
+        let (_, answer, read) = open(&input);
         let calls = if answer.accepted() {
             &input[read..]
         } else {
@@ -234,13 +237,27 @@ pub fn conformance(entry: &Entry) {
         for line in split_lines(calls) {
             printed.extend(entry.call(&mut lent, line));
         }
-        assert!(printed == run_session(&input), "{name}");
+        assert!(printed == case_file(&name, "answers"), "{name}");
     }
     let calls = conformance_calls().expect("the tables");
     assert_eq!(calls.len(), 214);
-    for (_, tables, line) in calls {
-        if let Some(lent) = encode(&tables) {
-            entry.calls_as_model(&lent, &line);
-        }
+    let mut compared = 0;
+    for (name, tables, line) in calls {
+        let Some(mut lent) = encode(&tables) else {
+            continue;
+        };
+        entry.calls_as_model(&lent, &line);
+        let said = entry.call(&mut lent, &line);
+        let after = case_file(&format!("conformance/tables/{name}"), "after");
+        assert!(after.starts_with(&said), "{name}");
+        compared += 1;
     }
+    assert!(compared > 180, "{compared} tables compared");
+}
+
+/// The file beside a case with that ending.
+fn case_file(name: &str, ending: &str) -> Vec<u8> {
+    let model = Path::new(env!("CARGO_MANIFEST_DIR")).join("../model");
+    let path = model.join(name).with_extension(ending);
+    fs::read(&path).unwrap_or_else(|error| panic!("{path:?}: {error}"))
 }

@@ -68,10 +68,11 @@ const fn aim(
 
 const ANY: fn(usize) -> bool = |_| true;
 const FULL: fn(usize) -> bool = |rows| rows == 1024;
-const SMALL: fn(usize) -> bool = |rows| rows == 10;
-const LARGE: fn(usize) -> bool = |rows| rows >= 100;
+/// 10 or 100 rows, less those that a call adds.
+const SMALL: fn(usize) -> bool = |rows| (8..=10).contains(&rows);
+const LARGE: fn(usize) -> bool = |rows| rows >= 98;
 
-const AIMS: [Aim; 16] = [
+const AIMS: [Aim; 23] = [
     aim(
         "sound of full tables: at most half of 243,662 instructions",
         Layer::Rows,
@@ -195,6 +196,62 @@ const AIMS: [Aim; 16] = [
     aim(
         "no call allocates",
         Layer::Calls,
+        "",
+        ANY,
+        Measure::Allocations,
+        0.0,
+    ),
+    aim(
+        "a whole call at 10 rows: at most 1.2 of plain Rust",
+        Layer::Whole,
+        "",
+        SMALL,
+        Measure::Ratio,
+        1.2,
+    ),
+    aim(
+        "a whole call at 100 rows and more: at most 1.0 of plain Rust",
+        Layer::Whole,
+        "",
+        LARGE,
+        Measure::Ratio,
+        1.0,
+    ),
+    aim(
+        "an opening: at most 1.2 of plain Rust",
+        Layer::Opening,
+        "",
+        ANY,
+        Measure::Ratio,
+        1.2,
+    ),
+    aim(
+        "stack of a whole call: at most 16 KB",
+        Layer::Whole,
+        "",
+        ANY,
+        Measure::Stack,
+        16384.0,
+    ),
+    aim(
+        "stack of an opening: at most 16 KB",
+        Layer::Opening,
+        "",
+        ANY,
+        Measure::Stack,
+        16384.0,
+    ),
+    aim(
+        "no whole call allocates",
+        Layer::Whole,
+        "",
+        ANY,
+        Measure::Allocations,
+        0.0,
+    ),
+    aim(
+        "no opening allocates",
+        Layer::Opening,
         "",
         ANY,
         Measure::Allocations,

@@ -3,7 +3,7 @@
 
 use kernel::fuller::{with_numbers_left, with_requests, with_rows};
 use kernel::plain::closing_tables::{call, opened};
-use model::limits::{REQUESTS, ROWS};
+use model::limits::REQUESTS;
 use model::Tables;
 
 pub struct Case {
@@ -132,37 +132,61 @@ const CASES: [Measured; 24] = [
     ("comes, refused 7", &FETCHED, true, "(comes 10 8)", 7, 0),
 ];
 
-/// All cases at so many rows, less those that the call adds; of these an
-/// eighth belong to requests. The rows of the case are the oldest.
+/// All cases at so many rows. An eighth of 100 rows and of more belong to requests.
 pub fn cases(rows: usize) -> impl Iterator<Item = Case> {
+    let requests = if rows < 100 { 0 } else { rows / 8 };
     CASES
-        .into_iter()
-        .map(move |(name, start, left, line, refusal, adds)| {
-            let mut tables = opened(start.opening);
-            for line in start.calls {
-                call(&mut tables, line);
-            }
-            let free = usize::from(line.contains("ask"));
-            let requests = (rows / 8).min(REQUESTS) - free.min(rows / ROWS);
-            if rows >= 100 {
-                tables = with_requests(tables, requests);
-            }
-            tables = with_rows(tables, rows - adds);
-            if !left {
-                tables = with_numbers_left(tables, 0);
-            }
-            assert!(model::sound(&tables), "{name}");
-            let line = format!(
-                "{line}
-"
-            );
-            Case {
-                name,
-                tables,
-                line,
-                refusal,
-            }
-        })
+        .iter()
+        .map(move |measured| built(measured, rows, requests))
+}
+
+/// The case of that name with so many rows and requests.
+pub fn case(name: &str, rows: usize, requests: usize) -> Case {
+    let mut cases = CASES.iter().filter(|measured| measured.0 == name);
+    built(cases.next().expect("a case"), rows, requests)
+}
+
+/// With so many rows, less those that the call adds, and so many requests, less one if it asks. The rows of the case
+/// are the oldest.
+fn built(
+    &(name, start, left, line, refusal, adds): &Measured,
+    rows: usize,
+    requests: usize,
+) -> Case {
+    let mut tables = opened(start.opening);
+    for line in start.calls {
+        call(&mut tables, line);
+    }
+    let asks = usize::from(line.contains("ask"));
+    tables = with_requests(tables, requests.min(REQUESTS - asks));
+    tables = with_rows(tables, rows - adds);
+    if !left {
+        tables = with_numbers_left(tables, 0);
+    }
+    assert!(model::sound(&tables), "{name}");
+    let line = format!("{line}\n");
+    Case {
+        name,
+        tables,
+        line,
+        refusal,
+    }
+}
+
+/// A fetch whose answer is the longest: a request and four copies, the last of number 1,000,000.
+pub fn longest_answer() -> Case {
+    let mut tables = opened(PORTS.opening);
+    for line in PORTS.calls.iter().chain(&["(1 hold 1)", "(1 hold 1)"]) {
+        call(&mut tables, line);
+    }
+    tables = with_numbers_left(tables, 5);
+    call(&mut tables, "(1 ask 5 (3 7) (4 7) (9 7) (10 7))");
+    Case {
+        name: "fetch, the longest answer",
+        tables,
+        line: "(2 fetch 6)\n".to_string(),
+        refusal: 0,
+    }
 }
 
 /// The refusal of a call on the model, 0 for none.

@@ -11,14 +11,17 @@ mod call_cases;
 mod calls;
 mod closings;
 mod count;
+mod growth;
 mod measure;
 mod on_runs;
 mod operations;
+mod parts;
 mod report;
 mod stack;
 mod tables;
 mod time;
 mod timed;
+mod whole;
 
 use measure::Measured;
 
@@ -31,6 +34,7 @@ fn operations(by: &mut dyn Measured) {
     }
     closings::on_closings(by);
     calls::on_calls(by);
+    whole::on_whole_calls(by);
 }
 
 fn main() {
@@ -52,9 +56,10 @@ fn main() {
     let counts = count::all().unwrap_or_default();
     let results = report::results(&timed.lines, &counts);
     let text = format!(
-        "{}\n\n{}### Verdicts\n\n```\n{}```\n",
+        "{}\n\n{}{}### Verdicts\n\n```\n{}```\n",
         machine(),
         report::tables(&results),
+        parts::table(&results),
         aims::verdicts(&results)
     );
     println!("{text}");

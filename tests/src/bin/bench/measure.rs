@@ -14,12 +14,23 @@ pub enum Layer {
     Rows,
     Closing,
     Calls,
+    Whole,
+    Opening,
+    Growth,
+    Parts,
 }
 
-pub const LAYERS: [(Layer, &str); 3] = [
+/// Those with a table of operations; the parts of a call have another.
+pub const LAYERS: [(Layer, &str); 6] = [
     (Layer::Rows, "Rows: soundness, look-ups, questions, removal"),
     (Layer::Closing, "Closing"),
-    (Layer::Calls, "Calls"),
+    (Layer::Calls, "Calls on sound tables"),
+    (Layer::Whole, "Whole calls, bytes to bytes"),
+    (Layer::Opening, "Openings"),
+    (
+        Layer::Growth,
+        "Growth of a whole call with rows and with requests",
+    ),
 ];
 
 /// How large tables are.

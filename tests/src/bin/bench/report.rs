@@ -1,7 +1,8 @@
 //! The tables: one a layer, instructions and times of each operation.
 
 use crate::count::Counts;
-use crate::measure::LAYERS;
+use crate::growth;
+use crate::measure::{Layer, LAYERS};
 use crate::timed::Line;
 
 /// An operation with its counts, if there are any.
@@ -34,13 +35,16 @@ pub fn tables(results: &[Result]) -> String {
     for (layer, title) in LAYERS {
         text += &format!(
             "### {title}\n\n| rows | requests | operation | instructions | plain | ratio | \
-             ns | plain | ratio | bytes | stack | plain |\n\
-             |---:|---:|---|---:|---:|---:|---:|---:|---:|---:|---:|---:|\n"
+             ns | plain | ratio | bytes | times the floor | stack | plain |\n\
+             |---:|---:|---|---:|---:|---:|---:|---:|---:|---:|---:|---:|---:|\n"
         );
         for result in results.iter().filter(|r| r.line.about.layer == layer) {
             text += &row(result);
         }
         text += "\n";
+        if layer == Layer::Growth {
+            text += &growth::sentences(results);
+        }
     }
     text
 }
@@ -55,14 +59,24 @@ fn row(result: &Result) -> String {
     } = result.line;
     let counts = result.counts.map(|c| (c.proved, c.plain));
     format!(
-        "| {} | {} | {} | {} | {} | {} | {proved_stack} | {plain_stack} |\n",
+        "| {} | {} | {} | {} | {} | {} | {} | {proved_stack} | {plain_stack} |\n",
         about.size.rows,
         about.size.requests,
         about.name,
         beside(counts, 0),
         beside(*times, 1),
         about.bytes,
+        floors(result),
     )
+}
+
+/// How many times as many instructions as it takes to load the bytes, 16 at a time.
+fn floors(result: &Result) -> String {
+    let loads = result.line.about.bytes.div_ceil(16) as f64;
+    let times = result
+        .counts
+        .map(|counts| format!("{:.0}", counts.proved / loads));
+    times.unwrap_or_default()
 }
 
 /// Two numbers and their ratio, or nothing.

@@ -2,15 +2,19 @@
 //! of each.
 
 use crate::measure::Operation;
-use std::time::Instant;
+use std::time::{Duration, Instant};
 
-const BATCHES: usize = 1_001;
+/// At most so many batches, and at least so many, until this time has passed.
+const MOST: usize = 1_001;
+const LEAST: usize = 101;
+const ENOUGH: Duration = Duration::from_millis(400);
 
 /// Nanoseconds a call, of the proved function and of the plain one.
 pub fn medians(calls: usize, operation: &mut dyn Operation) -> (f64, f64) {
-    let mut proved = Vec::with_capacity(BATCHES);
-    let mut plain = Vec::with_capacity(BATCHES);
-    for _ in 0..BATCHES {
+    let mut proved = Vec::with_capacity(MOST);
+    let mut plain = Vec::with_capacity(MOST);
+    let begun = Instant::now();
+    while proved.len() < MOST && (proved.len() < LEAST || begun.elapsed() < ENOUGH) {
         operation.prepare();
         let start = Instant::now();
         operation.proved(calls);
@@ -22,7 +26,7 @@ pub fn medians(calls: usize, operation: &mut dyn Operation) -> (f64, f64) {
     }
     let median = |mut batches: Vec<u128>| {
         batches.sort_unstable();
-        batches[BATCHES / 2] as f64 / calls as f64
+        batches[batches.len() / 2] as f64 / calls as f64
     };
     (median(proved), median(plain))
 }

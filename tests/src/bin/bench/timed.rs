@@ -1,12 +1,13 @@
 //! Times and stack of each operation, printed as they come.
 
-use crate::measure::{About, Measured, Operation};
+use crate::measure::{About, Layer, Measured, Operation};
 use crate::{allocations, stack, time};
 
 /// What was measured of an operation.
 pub struct Line {
     pub about: About,
-    /// Nanoseconds a call, of the proved function and of the plain one.
+    /// Nanoseconds a call, of the proved function and of the plain one; the
+    /// parts of a call are not timed.
     pub times: Option<(f64, f64)>,
     pub proved_stack: usize,
     pub plain_stack: usize,
@@ -22,7 +23,8 @@ pub struct Timed {
 
 impl Measured for Timed {
     fn measure(&mut self, about: About, operation: &mut dyn Operation) {
-        let times = (!self.untimed).then(|| time::medians(about.calls, operation));
+        let timed = !self.untimed && about.layer != Layer::Parts;
+        let times = timed.then(|| time::medians(about.calls, operation));
         let before = allocations::made();
         operation.prepare();
         operation.proved(about.calls);
