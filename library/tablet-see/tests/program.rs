@@ -312,3 +312,33 @@ fn the_page_has_no_text_of_the_input_as_markup() {
                 == page.matches("http://www.w3.org/2000/svg").count()
     );
 }
+
+/// The answers in what `explain` prints: of the opening, then of each call.
+fn answers(told: &str) -> String {
+    let answered = |line: &&str| {
+        line.starts_with("opening -> ") || line.starts_with(|c: char| c.is_ascii_digit())
+    };
+    let answers = told.lines().filter(answered);
+    let answers = answers.filter_map(|line| line.rsplit_once(" -> "));
+    answers.map(|(_, answer)| format!("{answer}\n")).collect()
+}
+
+#[test]
+fn conformance_sessions_are_answered_as_told() {
+    let folder = concat!(
+        env!("CARGO_MANIFEST_DIR"),
+        "/../../model/conformance/sessions"
+    );
+    let mut sessions = 0;
+    for entry in fs::read_dir(folder).expect("the sessions") {
+        let path = entry.expect("a file").path();
+        if path.extension().is_some_and(|kind| kind == "session") {
+            let input = fs::read(&path).expect("a session");
+            let expected = fs::read_to_string(path.with_extension("answers")).expect("its answers");
+            let told = printed(&["explain"], &input).expect("it runs");
+            assert_eq!(answers(&told), expected, "{}", path.display());
+            sessions += 1;
+        }
+    }
+    assert!(sessions > 70, "{sessions} sessions");
+}

@@ -172,3 +172,10 @@ fn sizes_are_those_of_the_model() {
     assert_eq!([ROWS, REQUESTS, ITEMS, LINE_BYTES], limits);
     assert_eq!(PROCESSES, limits::PROCESSES as usize);
 }
+
+#[test]
+fn tables_go_to_another_thread() {
+    let mut tables = Tables::open("(node 1 (op 1 0 7))\n(process 1 1)\n(open)\n").expect("opened");
+    let there = std::thread::spawn(move || tables.call("(1 hold 1)\n").to_string());
+    assert_eq!(there.join().expect("answered"), "(ok 2)");
+}
