@@ -39,14 +39,9 @@ pub fn of_state(number: u32, rule: &'static str, subject: u32, text: String) -> 
 }
 
 fn of_line(number: u32, rule: &'static str, at: Number, text: String) -> Option<Ground> {
-    let (subject, span) = (at.value, Some(at.span));
-    Some(Ground {
-        number,
-        rule,
-        subject,
-        span,
-        text,
-    })
+    let ground = of_state(number, rule, at.value, text)?;
+    let span = Some(at.span);
+    Some(Ground { span, ..ground })
 }
 
 /// (rules F8, F10) The lowest ground of a line on a state, none if the call is accepted.

@@ -1,7 +1,7 @@
 //! The refusals 7 to 18 of the calls about rows and ports, in the order of chapter 4 of the manual.
 
 use crate::ground::{of_state, Ground};
-use crate::relations::{listing, request_on, why_lent};
+use crate::relations::{listing, request_on, Reasons};
 use crate::wording::{at, numbers, rights, short};
 use tablet::layout::{REQUESTS, ROWS};
 use tablet::{Kind, Place, Row, State};
@@ -128,7 +128,8 @@ pub fn numbers_left(state: &State, wanted: usize, rule: &'static str) -> Option<
 
 /// Why a row is lent, in words.
 fn lent_words(state: &State, row: &Row) -> Option<String> {
-    let (chain, request) = why_lent(state, row)?;
+    let reasons = Reasons::lent(state);
+    let (chain, request) = (reasons.chain(row.number), reasons.request(row.number)?);
     let last = chain.last().and_then(|n| state.row(*n));
     let how = match last {
         Some(end) if end.is_end() => format!("is on loan in request {request}"),

@@ -2,7 +2,7 @@
 
 mod args;
 mod call;
-mod change;
+pub mod change;
 mod draw;
 mod explain;
 mod form;
@@ -13,7 +13,7 @@ mod json;
 mod list;
 pub mod opening;
 mod page;
-mod relations;
+pub mod relations;
 pub mod run;
 mod session;
 mod shown;

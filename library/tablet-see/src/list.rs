@@ -1,10 +1,10 @@
 //! `tablet-see list`: a c-list, a node, what waits at a server end, open requests by asker; as text or as JSON.
 
 use crate::json::Json;
-use crate::relations::{listing, request_on, why_lent};
+use crate::relations::{listing, request_on, View};
 use crate::told::lent;
 use crate::wording::{asked, at, numbers, thing};
-use tablet::{Kind, Place, Request, Row, State};
+use tablet::{Kind, Place, Request, Row};
 
 /// What to list.
 #[derive(Clone, Copy, PartialEq, Eq, Debug)]
@@ -17,7 +17,7 @@ pub enum What {
 }
 
 /// The list as text, or why there is none.
-pub fn text(state: &State, what: What) -> Result<String, String> {
+pub fn text(state: &View, what: What) -> Result<String, String> {
     match what {
         What::All => Ok(all(state)),
         What::Process(p) => process(state, p),
@@ -40,7 +40,7 @@ fn headed(head: &str, lines: String) -> String {
     format!("{head}\n{lines}")
 }
 
-fn all(state: &State) -> String {
+fn all(state: &View) -> String {
     let mut parts: Vec<String> = nodes(state)
         .into_iter()
         .map(|n| place(state, Place::Node(n), &format!("node {n}")))
@@ -54,7 +54,7 @@ fn all(state: &State) -> String {
 }
 
 /// The nodes that rows are in, or that a process is in.
-pub fn nodes(state: &State) -> Vec<u32> {
+pub fn nodes(state: &View) -> Vec<u32> {
     let of_rows = state.rows.iter().filter_map(|r| match r.place {
         Place::Node(n) => Some(n),
         _ => None,
@@ -71,14 +71,14 @@ pub fn nodes(state: &State) -> Vec<u32> {
     nodes
 }
 
-fn listed(state: &State, p: u32) -> Result<&State, String> {
+fn listed<'a>(state: &'a View, p: u32) -> Result<&'a View<'a>, String> {
     match state.process(p) {
         Some(_) => Ok(state),
         None => Err(format!("process {p} is not listed")),
     }
 }
 
-fn process(state: &State, p: u32) -> Result<String, String> {
+fn process(state: &View, p: u32) -> Result<String, String> {
     let record = listed(state, p)?.process(p).copied().unwrap_or_default();
     let place_words = match record.through {
         0 => format!("in its prime node {}", record.prime),
@@ -94,20 +94,20 @@ fn process(state: &State, p: u32) -> Result<String, String> {
     ))
 }
 
-fn place(state: &State, place: Place, head: &str) -> String {
+fn place(state: &View, place: Place, head: &str) -> String {
     let rows = state.at(place).map(|r| format!("  {}\n", row(state, r)));
     headed(head, rows.collect())
 }
 
 /// `row 8: operation 5 of manager 2, rights 3 (hold, transfer), lent by process 1 to process 2 in request 7`
-pub fn row(state: &State, row: &Row) -> String {
+pub fn row(state: &View, row: &Row) -> String {
     let mut words = vec![format!("row {}: {}", row.number, thing(row))];
     let loans: Vec<u32> = loans(state, row);
     if row.bears != 0 {
         words.push(lent(state, row));
     } else if !loans.is_empty() {
         words.push(format!("on loan in request {}", numbers(&loans)));
-    } else if let Some((_, request)) = why_lent(state, row) {
+    } else if let Some(request) = state.lent.request(row.number) {
         words.push(format!("comes from what is lent in request {request}"));
     }
     let sources: Vec<u32> = row.sources().collect();
@@ -118,7 +118,7 @@ pub fn row(state: &State, row: &Row) -> String {
 }
 
 /// The requests that have an end on loan.
-fn loans(state: &State, row: &Row) -> Vec<u32> {
+fn loans(state: &View, row: &Row) -> Vec<u32> {
     let requests = listing(state, row.number).filter(|_| row.is_end());
     requests.map(|q| q.number).collect()
 }
@@ -136,7 +136,7 @@ pub fn request(q: &Request) -> String {
 }
 
 /// The server end of that number.
-fn server_end(state: &State, v: u32) -> Result<&Row, String> {
+fn server_end<'a>(state: &'a View, v: u32) -> Result<&'a Row, String> {
     match state.row(v) {
         None => Err(format!("no row {v} stands")),
         Some(row) if row.kind != Kind::Server => {
@@ -146,7 +146,7 @@ fn server_end(state: &State, v: u32) -> Result<&Row, String> {
     }
 }
 
-fn server(state: &State, v: u32) -> Result<String, String> {
+fn server(state: &View, v: u32) -> Result<String, String> {
     let end = server_end(state, v)?;
     let head = format!("server end {v} of port {}, {}", end.object, at(end.place));
     let Some(open) = request_on(state, end.object) else {
@@ -158,7 +158,7 @@ fn server(state: &State, v: u32) -> Result<String, String> {
 }
 
 /// The list as JSON, or why there is none.
-pub fn json(state: &State, what: What) -> Result<Json, String> {
+pub fn json(state: &View, what: What) -> Result<Json, String> {
     match what {
         What::All => Ok(json_all(state)),
         What::Process(p) => listed(state, p).map(|state| json_process(state, p)),
@@ -193,7 +193,7 @@ pub fn json(state: &State, what: What) -> Result<Json, String> {
     }
 }
 
-fn json_all(state: &State) -> Json {
+fn json_all(state: &View) -> Json {
     let nodes = nodes(state).into_iter().map(|n| json_node(state, n));
     Json::Object(vec![
         ("nodes", Json::List(nodes.collect())),
@@ -210,14 +210,14 @@ fn json_all(state: &State) -> Json {
     ])
 }
 
-fn json_node(state: &State, n: u32) -> Json {
+fn json_node(state: &View, n: u32) -> Json {
     Json::Object(vec![
         ("node", Json::Number(n)),
         ("rows", json_rows(state, Place::Node(n))),
     ])
 }
 
-fn json_process(state: &State, p: u32) -> Json {
+fn json_process(state: &View, p: u32) -> Json {
     let record = state.process(p).copied().unwrap_or_default();
     Json::Object(vec![
         ("process", Json::Number(p)),
@@ -228,12 +228,12 @@ fn json_process(state: &State, p: u32) -> Json {
     ])
 }
 
-fn json_rows(state: &State, place: Place) -> Json {
+fn json_rows(state: &View, place: Place) -> Json {
     Json::List(state.at(place).map(|r| json_row(state, r)).collect())
 }
 
 /// A row; what does not apply to its kind is not there.
-pub fn json_row(state: &State, row: &Row) -> Json {
+pub fn json_row(state: &View, row: &Row) -> Json {
     let mut fields = vec![
         ("row", Json::Number(row.number)),
         ("kind", Json::text(row.kind.to_string())),
@@ -256,7 +256,10 @@ pub fn json_row(state: &State, row: &Row) -> Json {
         fields.push(("bears", Json::Number(row.bears)));
     }
     fields.push(("on_loan_in", Json::numbers(loans(state, row))));
-    fields.push(("lent", Json::truth(why_lent(state, row).is_some())));
+    fields.push((
+        "lent",
+        Json::truth(state.lent.request(row.number).is_some()),
+    ));
     Json::Object(fields)
 }
 

@@ -6,6 +6,7 @@ use crate::draw;
 use crate::explain::opening;
 use crate::json::Json;
 use crate::list;
+use crate::relations::View;
 use crate::session::{Session, Step};
 use crate::shown;
 use crate::told::told;
@@ -39,7 +40,7 @@ pub fn page(mut session: Session, out: &mut dyn Write) -> io::Result<()> {
     let mut data = Data::default();
     let first = first_line(&session);
     data.lines.push(first);
-    data.state(0, session.state(), None);
+    data.state(0, &View::of(session.state()), None);
     while let Some(step) = session.step() {
         let told = told(&step, session.gone());
         let line = shown::line(&step.line);
@@ -50,7 +51,7 @@ pub fn page(mut session: Session, out: &mut dyn Write) -> io::Result<()> {
             &told,
         ));
         if step.before != step.after {
-            data.state(step.call, &step.after, Some(&step));
+            data.state(step.call, &View::of(&step.after), Some(&step));
         }
     }
     let template = include_str!("page/page.html");
@@ -108,7 +109,7 @@ impl Data {
     }
 
     /// Notes what is different from the step before.
-    fn state(&mut self, at: usize, state: &State, step: Option<&Step>) {
+    fn state(&mut self, at: usize, state: &View, step: Option<&Step>) {
         let mut places: BTreeSet<Place> = self.places.keys().copied().collect();
         places.extend(list::nodes(state).into_iter().map(Place::Node));
         places.extend(state.listed().map(Place::CList).chain([Place::System]));
@@ -195,11 +196,9 @@ fn json_since<T>(changes: &Since<T>, entry: impl Fn(&T) -> Json) -> Json {
 }
 
 /// The whole state, or around what a call changed.
-fn drawing(state: &State, step: Option<&Step>) -> String {
-    let whole = draw::picture(state, Default::default()).ok();
-    let picture = match (step, whole) {
-        (_, Some(whole)) if state.rows.len() <= WHOLE => whole,
-        (Some(step), _) => {
+fn drawing(state: &View, step: Option<&Step>) -> String {
+    let picture = match step.filter(|_| state.rows.len() > WHOLE) {
+        Some(step) => {
             let change = change(&step.before, &step.after);
             let rows = change
                 .made
@@ -208,7 +207,7 @@ fn drawing(state: &State, step: Option<&Step>) -> String {
             let rows = rows.map(|row| row.number).take(WHOLE);
             draw::part(state, &rows.collect())
         }
-        _ => draw::part(state, &BTreeSet::new()),
+        None => draw::whole(state),
     };
     draw::svg::svg(&picture, false)
 }

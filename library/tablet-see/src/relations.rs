@@ -1,6 +1,6 @@
 //! Comes from, on loan and lent, read from a state.
 
-use std::collections::BTreeSet;
+use std::collections::{BTreeMap, BTreeSet};
 use tablet::{Request, Row, State};
 
 /// The open request on a port.
@@ -10,67 +10,83 @@ pub fn request_on(state: &State, port: u32) -> Option<&Request> {
 
 /// The open requests that list a row, the oldest first.
 pub fn listing(state: &State, row: u32) -> impl Iterator<Item = &Request> {
-    state
-        .requests
-        .iter()
-        .filter(move |q| q.listed().any(|i| i == row))
+    let lists = move |q: &&Request| q.listed().any(|i| i == row);
+    state.requests.iter().filter(lists)
 }
 
-/// (rule L7) The newest request that has an end on loan.
-pub fn loan_of<'a>(state: &'a State, row: &Row) -> Option<&'a Request> {
-    if row.is_end() {
-        return listing(state, row.number).last();
-    }
-    None
-}
+/// The rows that a request is a reason of, and the rows that have one of these as a source: for each the request, and
+/// the source that it has the reason from, 0 if from none.
+pub struct Reasons(BTreeMap<u32, (u32, u32)>);
 
-/// (rule L8) Why a row is lent: the rows from it to the one that is on loan or bears a request, and that request.
-pub fn why_lent(state: &State, row: &Row) -> Option<(Vec<u32>, u32)> {
-    let request = match row.bears {
-        0 => loan_of(state, row).map(|q| q.number),
-        request => Some(request),
-    };
-    if let Some(request) = request {
-        return Some((vec![row.number], request));
-    }
-    older(state, row).find_map(|source| {
-        let (mut chain, request) = why_lent(state, source)?;
-        chain.insert(0, row.number);
-        Some((chain, request))
-    })
-}
-
-/// (rule R14) The rows from one that comes from a request to the one that bears its number.
-pub fn why_comes(state: &State, row: &Row, request: u32) -> Option<Vec<u32>> {
-    if row.bears == request {
-        return Some(vec![row.number]);
-    }
-    older(state, row).find_map(|source| {
-        let mut chain = why_comes(state, source, request)?;
-        chain.insert(0, row.number);
-        Some(chain)
-    })
-}
-
-/// The sources that stand and are older, so that no chain is endless, whatever the words hold.
-fn older<'a>(state: &'a State, row: &Row) -> impl Iterator<Item = &'a Row> + 'a {
-    let number = row.number;
-    let sources: Vec<u32> = row.sources().collect();
-    sources
-        .into_iter()
-        .filter_map(|s| state.row(s))
-        .filter(move |s| s.number < number)
-}
-
-/// (rule R14) The rows that come from a request. Sources are older, so one pass in rising number finds them all.
-pub fn coming_from(state: &State, request: u32) -> BTreeSet<u32> {
-    let mut found = BTreeSet::new();
-    for row in &state.rows {
-        if row.bears == request || row.sources().any(|s| found.contains(&s)) {
-            found.insert(row.number);
+impl Reasons {
+    /// Sources are older, so one pass in rising number finds them all.
+    fn find(state: &State, direct: impl Fn(&Row) -> Option<u32>) -> Reasons {
+        let mut found: BTreeMap<u32, (u32, u32)> = BTreeMap::new();
+        for row in &state.rows {
+            let by_source = |s: u32| found.get(&s).map(|(request, _)| (*request, s));
+            let reason = direct(row).map(|request| (request, 0));
+            if let Some(reason) = reason.or_else(|| row.sources().find_map(by_source)) {
+                found.insert(row.number, reason);
+            }
         }
+        Reasons(found)
     }
-    found
+
+    /// (rule L8) The rows that are lent: on loan, or copies, or made from such.
+    pub fn lent(state: &State) -> Reasons {
+        let listed = state
+            .requests
+            .iter()
+            .flat_map(|q| q.listed().map(|i| (i, q.number)));
+        let newest: BTreeMap<u32, u32> = listed.collect();
+        Reasons::find(state, |row| match row.bears {
+            0 => newest.get(&row.number).copied().filter(|_| row.is_end()),
+            request => Some(request),
+        })
+    }
+
+    /// (rule R14) The rows that come from a request.
+    pub fn comes(state: &State, request: u32) -> Reasons {
+        Reasons::find(state, |row| Some(request).filter(|q| *q == row.bears))
+    }
+
+    /// The request that is the reason for a row.
+    pub fn request(&self, row: u32) -> Option<u32> {
+        self.0.get(&row).map(|(request, _)| *request)
+    }
+
+    /// The rows from this one to the one whose reason is no source's.
+    pub fn chain(&self, row: u32) -> Vec<u32> {
+        let next = |row: &u32| self.0.get(row).map(|(_, source)| *source);
+        let first = self.0.contains_key(&row).then_some(row);
+        std::iter::successors(first, |row| next(row).filter(|source| *source != 0)).collect()
+    }
+
+    /// All these rows.
+    pub fn rows(&self) -> BTreeSet<u32> {
+        self.0.keys().copied().collect()
+    }
+}
+
+/// A state, and which of its rows are lent.
+pub struct View<'a> {
+    state: &'a State,
+    pub lent: Reasons,
+}
+
+impl View<'_> {
+    pub fn of(state: &State) -> View<'_> {
+        let lent = Reasons::lent(state);
+        View { state, lent }
+    }
+}
+
+impl std::ops::Deref for View<'_> {
+    type Target = State;
+
+    fn deref(&self) -> &State {
+        self.state
+    }
 }
 
 /// A row, the rows that it comes from and the rows that come from it.

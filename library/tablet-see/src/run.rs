@@ -5,6 +5,7 @@ use crate::draw;
 use crate::explain::{explain, unsound_words};
 use crate::list;
 use crate::page::page;
+use crate::relations::View;
 use crate::session::{open, resume, Session, Start};
 use crate::what_if::what_if;
 use std::io::{self, Read, Write};
@@ -83,15 +84,17 @@ fn show(args: &Args, session: Session, out: &mut dyn Write) -> Result<(), Proble
     match &args.command {
         Command::List { what, json } => {
             let session = played(session, args.after)?;
+            let view = View::of(session.state());
             let text = match json {
-                true => list::json(session.state(), *what).map(|json| format!("{json}\n")),
-                false => list::text(session.state(), *what),
+                true => list::json(&view, *what).map(|json| format!("{json}\n")),
+                false => list::text(&view, *what),
             };
             out.write_all(text.map_err(Problem::Input)?.as_bytes())?;
         }
         Command::Draw { form, focus } => {
             let session = played(session, args.after)?;
-            let picture = draw::picture(session.state(), *focus).map_err(Problem::Input)?;
+            let picture =
+                draw::picture(&View::of(session.state()), *focus).map_err(Problem::Input)?;
             let text = match form {
                 Form::Svg => draw::svg::svg(&picture, true),
                 Form::Dot => draw::dot::dot(&picture),

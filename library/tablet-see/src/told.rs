@@ -3,7 +3,7 @@
 use crate::call::{read_call, Call};
 use crate::change::{change, Change};
 use crate::ground::ground;
-use crate::relations::why_comes;
+use crate::relations::Reasons;
 use crate::session::{Gone, Step};
 use crate::wording::*;
 use tablet::{Answer, Kind, Place, Record, Refusal, Request, Row, State};
@@ -54,10 +54,10 @@ fn refused(step: &Step, refusal: Refusal, gone: &Gone) -> String {
 }
 
 fn comes(state: &State, row: u32, request: u32, numbers: &[u32]) -> String {
-    let chain = state.row(row).and_then(|r| why_comes(state, r, request));
-    match (numbers, chain.as_deref()) {
-        ([1], Some([_])) => format!("row {row} comes from request {request}: it bears its number"),
-        ([1], Some([_, sources @ ..])) => {
+    let chain = Reasons::comes(state, request).chain(row);
+    match (numbers, chain.as_slice()) {
+        ([1], [_]) => format!("row {row} comes from request {request}: it bears its number"),
+        ([1], [_, sources @ ..]) => {
             let last = sources.last().copied().unwrap_or_default();
             let sources = chained(sources);
             format!("row {row} comes from request {request}: it was made from {sources}, and {last} bears its number")

@@ -117,9 +117,13 @@ impl State {
         })
     }
 
-    /// The row of that number.
+    /// The row of that number. Rows stand in rising number; if these do not, as in words that are not sound, all are
+    /// looked at.
     pub fn row(&self, number: u32) -> Option<&Row> {
-        self.rows.iter().find(|r| r.number == number)
+        match self.rows.binary_search_by_key(&number, |r| r.number) {
+            Ok(slot) => self.rows.get(slot),
+            Err(_) => self.rows.iter().find(|r| r.number == number),
+        }
     }
 
     /// The open request of that number.

@@ -149,3 +149,33 @@ fn runs_of_other_lengths_are_refused() {
         assert_eq!(refusal.to_string(), "(no 1)");
     }
 }
+
+#[test]
+fn sizes_are_those_of_the_model() {
+    use model::{limits, words};
+    use tablet::layout::*;
+    assert_eq!(LAYOUT_VERSION, words::LAYOUT_VERSION);
+    let sizes = [TABLES_WORDS, PROCESSES_WORDS, ROW_COLUMNS, REQUEST_COLUMNS];
+    let models = [
+        words::TABLES_WORDS,
+        words::PROCESS_WORDS,
+        words::ROW_COLUMNS,
+        words::REQUEST_COLUMNS,
+    ];
+    assert_eq!(sizes, models);
+    let limits = [
+        limits::ROWS,
+        limits::REQUESTS,
+        limits::ITEMS,
+        limits::LINE_BYTES,
+    ];
+    assert_eq!([ROWS, REQUESTS, ITEMS, LINE_BYTES], limits);
+    assert_eq!(PROCESSES, limits::PROCESSES as usize);
+}
+
+#[test]
+fn tables_go_to_another_thread() {
+    let mut tables = Tables::open("(node 1 (op 1 0 7))\n(process 1 1)\n(open)\n").expect("opened");
+    let there = std::thread::spawn(move || tables.call("(1 hold 1)\n").to_string());
+    assert_eq!(there.join().expect("answered"), "(ok 2)");
+}

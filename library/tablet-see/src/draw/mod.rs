@@ -6,10 +6,10 @@ pub mod svg;
 
 use crate::args::Focus;
 use crate::list;
-use crate::relations::{above, around, coming_from, listing, why_lent};
+use crate::relations::{above, around, listing, Reasons, View};
 use crate::wording::right_names;
 use std::collections::BTreeSet;
-use tablet::{Kind, Place, Request, Row, State};
+use tablet::{Kind, Place, Request, Row};
 
 /// What is drawn.
 pub struct Picture {
@@ -47,7 +47,7 @@ pub struct RequestCard {
 }
 
 /// The picture of a state, or why there is none.
-pub fn picture(state: &State, focus: Focus) -> Result<Picture, String> {
+pub fn picture(state: &View, focus: Focus) -> Result<Picture, String> {
     if let Some(row) = focus.row.filter(|n| state.row(*n).is_none()) {
         return Err(format!("--row {row}: no such row stands"));
     }
@@ -59,12 +59,21 @@ pub fn picture(state: &State, focus: Focus) -> Result<Picture, String> {
     Ok(Picture {
         lanes: lanes(state, &drawn, part.is_some()),
         requests: requests(state, &drawn),
-        marked: focus.request.map(|q| (q, coming_from(state, q))),
+        marked: focus.request.map(|q| (q, Reasons::comes(state, q).rows())),
     })
 }
 
+/// The picture of a whole state.
+pub fn whole(state: &View) -> Picture {
+    Picture {
+        lanes: lanes(state, &|_| true, false),
+        requests: requests(state, &|_| true),
+        marked: None,
+    }
+}
+
 /// Some rows and all that they come from.
-pub fn part(state: &State, rows: &BTreeSet<u32>) -> Picture {
+pub fn part(state: &View, rows: &BTreeSet<u32>) -> Picture {
     let part = above(state, rows);
     let drawn = |row: &Row| part.contains(&row.number);
     Picture {
@@ -75,7 +84,7 @@ pub fn part(state: &State, rows: &BTreeSet<u32>) -> Picture {
 }
 
 /// The holders; in a part of the state only those that hold something of it.
-fn lanes(state: &State, drawn: &dyn Fn(&Row) -> bool, only_part: bool) -> Vec<Lane> {
+fn lanes(state: &View, drawn: &dyn Fn(&Row) -> bool, only_part: bool) -> Vec<Lane> {
     let nodes = list::nodes(state).into_iter().map(Place::Node);
     let places = nodes.chain(state.listed().map(Place::CList));
     let lanes = places.chain([Place::System]).map(|place| {
@@ -93,7 +102,7 @@ fn lanes(state: &State, drawn: &dyn Fn(&Row) -> bool, only_part: bool) -> Vec<La
         .collect()
 }
 
-pub fn lane_words(state: &State, place: Place) -> (String, String) {
+pub fn lane_words(state: &View, place: Place) -> (String, String) {
     let inside = match place {
         Place::CList(p) => state
             .process(p)
@@ -110,14 +119,14 @@ pub fn lane_words(state: &State, place: Place) -> (String, String) {
     }
 }
 
-fn card(state: &State, row: &Row) -> Card {
+fn card(state: &View, row: &Row) -> Card {
     let title = match row.kind {
         Kind::Operation => format!("operation {} of {}", row.operation, row.object),
         Kind::Subdirectory => format!("subdirectory {}", row.object),
         Kind::Client => "client end".to_string(),
         Kind::Server => "server end".to_string(),
     };
-    let lent = why_lent(state, row).is_some();
+    let lent = state.lent.request(row.number).is_some();
     Card {
         row: *row,
         title,
@@ -128,7 +137,7 @@ fn card(state: &State, row: &Row) -> Card {
 }
 
 /// The second line of a card: rights or port, and the loan.
-fn card_words(state: &State, row: &Row) -> String {
+fn card_words(state: &View, row: &Row) -> String {
     let loans: Vec<String> = listing(state, row.number)
         .map(|q| q.number.to_string())
         .collect();
@@ -144,7 +153,7 @@ fn card_words(state: &State, row: &Row) -> String {
 }
 
 /// The requests on ports of which an end is drawn, and those that list a row that is.
-fn requests(state: &State, drawn: &dyn Fn(&Row) -> bool) -> Vec<RequestCard> {
+fn requests(state: &View, drawn: &dyn Fn(&Row) -> bool) -> Vec<RequestCard> {
     let shown = |q: &&Request| {
         let ends = [q.port, q.port + 1];
         let rows = ends.into_iter().chain(q.listed());

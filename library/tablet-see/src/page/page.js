@@ -124,5 +124,6 @@ part("forward").addEventListener("click", () => show(now + 1));
 part("last").addEventListener("click", () => show(last));
 part("slider").max = last;
 part("slider").addEventListener("input", (event) => show(Number(event.target.value)));
+window.addEventListener("hashchange", () => show(Number(location.hash.slice(1)) || 0));
 listLines();
-show(0);
+show(Number(location.hash.slice(1)) || 0);
