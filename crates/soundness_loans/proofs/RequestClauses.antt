@@ -17,8 +17,8 @@ use Rattle.rows.specs.Tables.{State, noRow, rowOf, numbers}
 use Rattle.rows.specs.Sound.{itemsFew, portStands, mayBeListed}
 use Rattle.rows.specs.Layout.{rowColumns, requestColumns, requestsAt, requestAt, requestsTo, rowSlot}
 use Rattle.rows.specs.contracts.Represents.{Represents}
-use Rattle.soundness_loans.specs.contracts.Clauses.{wordAt, standingPort}
-use Rattle.rows.proofs.Bools.{bool-eq, clash, and-true, or-false}
+use Rattle.soundness_loans.specs.contracts.Clauses.{itemsRight, wordAt, standingPort}
+use Rattle.rows.proofs.Bools.{bool-eq, clash, and-l, and-r, and-true, or-false}
 use Rattle.rows.proofs.LayoutRequests.{requests-back}
 use Rattle.rows.proofs.Slots.{represented-well, represented-request, row-found, row-none, row-absent, row-words, request-read, slot-zero}
 
@@ -189,6 +189,19 @@ items-apart a b c d =
     last : (x : Bool) → (not x || true) && true ≡ true
     last true = refl
     last false = refl
+
+-- ---- a request that lists nothing
+pub none-words : (a b c d : ℕ) → eqb a 0 && (eqb b 0 && (eqb c 0 && eqb d 0)) ≡ true → a ∷ b ∷ c ∷ d ∷ [] ≡ 0 ∷ 0 ∷ 0 ∷ 0 ∷ []
+none-words a b c d h =
+    let p : eqb a 0 ≡ true = search (and-l, and-r) in
+    let q : eqb b 0 ≡ true = search (and-l, and-r) in
+    let r : eqb c 0 ≡ true = search (and-l, and-r) in
+    let s : eqb d 0 ≡ true = search (and-l, and-r) in
+    rw (eqb-true a 0 p, eqb-true b 0 q, eqb-true c 0 r, eqb-true d 0 s) refl
+
+pub none-right : (rs : List Row) (v : Request) → v .items ≡ 0 ∷ 0 ∷ 0 ∷ 0 ∷ [] → true ≡ itemsRight rs v
+unfolding nonzero filter some distinct all
+none-right rs v e = rw e refl
 
 -- ---- the port
 pub stands : {st : State} {t : List ℕ} → Represents t st → (v : Request) (port q kind : ℕ) → port ≡ v .port → q ≡ v .number → kind ≡ rowOf (st .rows) port .kind
