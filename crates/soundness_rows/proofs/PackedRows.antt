@@ -99,11 +99,13 @@ listed-few ps (suc i) e =
       | no h ↦ clash e (ap (λ (x : Process). some (x .prime)) (List·getD-eq-default ps noProcess {n = i} (omega arith)))
     ]
 
--- what packing asks of kind, operation and object
+-- what packing asks of kind, operation and object, and the object of an end
 record Fits (r : Row) : Type 0 where
   kind : r .kind < 8
   operation : r .operation < 256
   object : isEnd (r .kind) ≡ false → r .object < 128
+  client : r .kind ≡ 3 → r .object ≡ r .number
+  server : r .kind ≡ 4 → suc (r .object) ≡ r .number
 
 object-fits : (ps : List Process) (r : Row) → length ps ≤ 64 → objectInRange ps r ≡ true → Fits r
 unfolding objectInRange isOperation isSubdirectory isEnd isClient isServer operation subdirectory clientEnd serverEnd between nodes greatestOperation
@@ -118,7 +120,7 @@ object-fits ps r few h =
         let k : r .kind ≡ 1 = eqb-true (r .kind) 1 k₁ in
         let o : r .object ≤ length ps = listed-few ps (r .object) o₁ in
         let w : r .operation ≤ 255 = leb-true (r .operation) 255 w₁ in
-        record { kind = omega arith; operation = omega arith; object = λ e. omega arith }
+        record { kind = omega arith; operation = omega arith; object = λ e. omega arith; client = λ e. absurd (omega arith); server = λ e. absurd (omega arith) }
 
     sub : eqb (r .kind) 2 && ((leb 1 (r .object) && leb (r .object) 32) && eqb (r .operation) 0) ≡ true → Fits r
     sub g =
@@ -128,7 +130,7 @@ object-fits ps r few h =
         let k : r .kind ≡ 2 = eqb-true (r .kind) 2 k₁ in
         let o : r .object ≤ 32 = leb-true (r .object) 32 o₁ in
         let w : r .operation ≡ 0 = eqb-true (r .operation) 0 w₁ in
-        record { kind = omega arith; operation = omega arith; object = λ e. omega arith }
+        record { kind = omega arith; operation = omega arith; object = λ e. omega arith; client = λ e. absurd (omega arith); server = λ e. absurd (omega arith) }
 
     client : eqb (r .kind) 3 && (eqb (r .object) (r .number) && eqb (r .operation) 0) ≡ true → Fits r
     client g =
@@ -137,7 +139,8 @@ object-fits ps r few h =
         let k : r .kind ≡ 3 = eqb-true (r .kind) 3 k₁ in
         let w : r .operation ≡ 0 = eqb-true (r .operation) 0 w₁ in
         let end : (eqb (r .kind) 3 || eqb (r .kind) 4) ≡ true = rw k refl in
-        record { kind = omega arith; operation = omega arith; object = λ e. clash end e }
+        let o₁ : eqb (r .object) (r .number) ≡ true = search (and-l, and-r) in
+        record { kind = omega arith; operation = omega arith; object = λ e. clash end e; client = λ e. eqb-true (r .object) (r .number) o₁; server = λ e. absurd (omega arith) }
 
     server : eqb (r .kind) 4 && (eqb (suc (r .object)) (r .number) && eqb (r .operation) 0) ≡ true → Fits r
     server g =
@@ -146,7 +149,8 @@ object-fits ps r few h =
         let k : r .kind ≡ 4 = eqb-true (r .kind) 4 k₁ in
         let w : r .operation ≡ 0 = eqb-true (r .operation) 0 w₁ in
         let end : (eqb (r .kind) 3 || eqb (r .kind) 4) ≡ true = rw k refl in
-        record { kind = omega arith; operation = omega arith; object = λ e. clash end e }
+        let o₁ : eqb (suc (r .object)) (r .number) ≡ true = search (and-l, and-r) in
+        record { kind = omega arith; operation = omega arith; object = λ e. clash end e; client = λ e. absurd (omega arith); server = λ e. eqb-true (suc (r .object)) (r .number) o₁ }
 
 right-fits : (r : Row) → rightInRange r ≡ true → r .rights < 8
 unfolding rightInRange allRights
@@ -165,6 +169,14 @@ packs-own ps r few h =
     let fits = object-fits ps r few object in
     let deep : r .depth ≤ 12 = leb-true (r .depth) 12 depth in
     packs-if r (right-fits r right) (fits .kind) (fits .operation) (omega arith) (fits .object)
+
+pub ports-own : (ps : List Process) (r : Row) → length ps ≤ 64 → ownRight ps r ≡ true
+    → (r .kind ≡ 3 → r .object ≡ r .number) × (r .kind ≡ 4 → suc (r .object) ≡ r .number)
+unfolding ownRight
+ports-own ps r few h =
+    let object : objectInRange ps r ≡ true = search (and-l, and-r) in
+    let fits = object-fits ps r few object in
+    (fits .client, fits .server)
 
 -- ---- two rows
 pub packed-same : (x y : Row) → Same x y → packed x ≡ packed y

@@ -1,7 +1,7 @@
 -- The clauses of a row joined, and of all rows: laws for the functions of src/rows_sound.rt.
 use Prim.Native.Nat.{ℕ, suc, max, _+_, _<_, _≤_}
-use mathlib.Core.Bool.{Bool, true, false, _&&_, _||_}
-use mathlib.Core.List.{List, [], _∷_, _++_}
+use mathlib.Core.Bool.{Bool, true, false, not, _&&_, _||_}
+use mathlib.Core.List.{List, [], _∷_, _++_, append-assoc}
 use mathlib.Core.Path.{_≡_, refl, ap, sym, subst, _∙_}
 use native.Mathlib.Omega.{arith}
 use borrow.Author.Tests.{ne-eqb}
@@ -12,23 +12,29 @@ use Rattle.rows.specs.declared.Request.{Request}
 use Rattle.rows.specs.declared.Process.{Process}
 use Rattle.rows.specs.Lists.{all, each, member, some}
 use Rattle.rows.specs.Limits.{greatestDepth}
-use Rattle.rows.specs.Codes.{clientEnd, serverEnd, isClient, isServer, isEnd}
+use Rattle.rows.specs.Codes.{clientEnd, serverEnd, isClient, isServer}
 use Rattle.rows.specs.Tables.{State, noRequest, requestOf, lists, noRow, rowOf}
-use Rattle.rows.specs.Sound.{sourceOf, viaOf, objectInRange, objectsInRange, rightInRange, rightsInRange, placeInRange, placesInRange, sourceRight, sourcesRight, hasRightDepth, depthRight, depthsRight, copyMatches, copiesMatch, isPairedWith, otherEnd, endPaired, endsPaired, copyListed, copiesListed, sourced}
+use Rattle.rows.specs.Sound.{sourceOf, viaOf, objectInRange, objectsInRange, rightInRange, rightsInRange, placeInRange, placesInRange, sourceRight, sourcesRight, hasRightDepth, depthRight, depthsRight, copyMatches, copiesMatch, isPairedWith, endPaired, endsPaired, copyListed, copiesListed, sourced}
 use Rattle.rows.specs.Layout.{requestAt, rawRow}
 use Rattle.rows.specs.contracts.Represents.{Represents}
 use Rattle.rows.specs.contracts.Slots.{requestSlot}
-use Rattle.soundness_rows.specs.contracts.AtSlot.{AtSlot}
-use Rattle.soundness_rows.specs.contracts.Clauses.{ownRight, shapeRight, depthNext, bySources, loanRight, pairedAbove, pairedBelow, rowSound, allOfRows}
+use Rattle.soundness_rows.specs.contracts.AtSlot.{AtSlot, PortsNamed}
+use Rattle.soundness_rows.specs.contracts.Clauses.{ownRight, shapeRight, depthNext, bySources, loanRight, besideOlder, newestPaired, rowSound, allOfRows}
 use Rattle.soundness_rows.specs.contracts.Packed.{packed, Packs, PacksRows, Faithful}
 use Rattle.soundness_rows.specs.contracts.Seen.{Same, SaysOfPacked, slotRow}
 use Rattle.rows.proofs.Bools.{or-false, and-true, and-false}
 use Rattle.rows.proofs.KeySlots.{each-cut}
 use Rattle.rows.proofs.Slots.{represented-well, slot-zero, request-absent, request-words, raw-request, request-read}
-use Rattle.soundness_rows.proofs.PackedRows.{packs-own, packed-same}
+use Rattle.soundness_rows.proofs.PackedRows.{packs-own, ports-own, packed-same}
 use Rattle.soundness_rows.proofs.RowClauses.{shape-split}
+use Rattle.soundness_rows.proofs.RowPairs.{paired-words, neighbours-paired}
 use Rattle.soundness_rows.proofs.RowsSeen.{seen-at, via-told, same-at}
-use Rattle.soundness_rows.proofs.SlotLoops.{each-join, each-all}
+use Rattle.soundness_rows.proofs.SlotLoops.{Tested, tested-none, tested-more, tested-all, each-join, each-all}
+
+pub no-ends : (rs : List Row) → length rs ≡ 0 → true ≡ endsPaired rs
+unfolding endsPaired all
+no-ends [] e = refl
+no-ends (y ∷ rs) e = absurd (omega arith)
 
 -- ---- the request that a row bears
 -- the four items one by one
@@ -102,17 +108,25 @@ unfolding each
 each-ext F G [] h = refl
 each-ext F G (y ∷ rs) h = λ i. h y rs i && each-ext F G rs h i
 
--- where the fields of all rows are in range, their words tell what they say
-pub faithful : (ps : List Process) (rs : List Row) → length ps ≤ 64 → all (ownRight ps) rs ≡ true → Faithful rs
-faithful ps rs few h = record { packs = λ new y old e. packs-own ps y few (all-cut (ownRight ps) new y old (ap (all (ownRight ps)) (sym e) ∙ h)) }
-  where
-    all-cut : (f : Row → Bool) (new : List Row) (y : Row) (old : List Row) → all f (new ++ (y ∷ old)) ≡ true → f y ≡ true
-    all-cut f new y old h = each-cut (λ z rest. f z) new y old (each-all f (new ++ (y ∷ old)) ∙ h)
+-- where the fields of all rows are in range, their words tell what they say, and ends have the objects that their numbers tell
+module _ (ps : List Process) (rs : List Row) (few : length ps ≤ 64) (h : all (ownRight ps) rs ≡ true) where
+  own-cut : (new : List Row) (y : Row) (old : List Row) → rs ≡ new ++ (y ∷ old) → ownRight ps y ≡ true
+  own-cut new y old e = each-cut (λ z rest. ownRight ps z) new y old (each-all (ownRight ps) (new ++ (y ∷ old)) ∙ ap (all (ownRight ps)) (sym e) ∙ h)
 
--- the groups of all rows, the second tested only where the first holds
+  pub faithful : Faithful rs
+  faithful = record { packs = λ new y old e. packs-own ps y few (own-cut new y old e) }
+
+  pub ports-named : PortsNamed rs
+  ports-named =
+      record {
+        client = λ new y old e. ports-own ps y few (own-cut new y old e) .0;
+        server = λ new y old e. ports-own ps y few (own-cut new y old e) .1;
+      }
+
+-- the groups of all rows, the second and third tested only where the first holds
 pub groups-joined : (st : State) (a b c d : Bool) → a ≡ all (ownRight (st .processes)) (st .rows)
     → (all (ownRight (st .processes)) (st .rows) ≡ true → b ≡ each bySources (st .rows))
-    → c ≡ endsPaired (st .rows) → d ≡ all (loanRight (st .requests)) (st .rows) → a && (b && (c && d)) ≡ allOfRows st
+    → (all (ownRight (st .processes)) (st .rows) ≡ true → c ≡ endsPaired (st .rows)) → d ≡ all (loanRight (st .requests)) (st .rows) → a && (b && (c && d)) ≡ allOfRows st
 unfolding endsPaired
 groups-joined st a b c d ha hb hc hd = pick (all (ownRight (st .processes)) (st .rows)) refl ∙ sym split ∙ rows-joined st
   where
@@ -125,7 +139,7 @@ groups-joined st a b c d ha hb hc hd = pick (all (ownRight (st .processes)) (st 
 
     pick : (q : Bool) → all (ownRight (st .processes)) (st .rows) ≡ q
         → a && (b && (c && d)) ≡ all (ownRight (st .processes)) (st .rows) && (each bySources (st .rows) && (endsPaired (st .rows) && all (loanRight (st .requests)) (st .rows)))
-    pick true e = λ i. ha i && (hb e i && (hc i && hd i))
+    pick true e = λ i. ha i && (hb e i && (hc e i && hd i))
     pick false e = rw (ha ∙ e) (rw e refl)
 
 module _ {st : State} {t : List ℕ} (rep : Represents t st) where
@@ -140,22 +154,47 @@ module _ {st : State} {t : List ℕ} (rep : Represents t st) where
   listed-at q e j d = ap (lists e) (raw-request rep q j d)
 
   -- ---- ends
+  pub beside-at : (i : ℕ) (a b : Row) → a ≡ rawRow t i → b ≡ rawRow t (i + 1)
+      → AtSlot besideOlder (st .rows) (i + 1) ((eqb (a .kind) 3 && (eqb (b .kind) 4 && isPairedWith b a)) || (not (eqb (a .kind) 3) && not (eqb (b .kind) 4)))
+  unfolding besideOlder isClient isServer clientEnd serverEnd
+  beside-at i a b da db = record { told = at }
+    where
+      at : (new : List Row) (y : Row) (old : List Row) → st .rows ≡ new ++ (y ∷ old) → length old ≡ i + 1
+          → (eqb (a .kind) 3 && (eqb (b .kind) 4 && isPairedWith b a)) || (not (eqb (a .kind) 3) && not (eqb (b .kind) 4)) ≡ besideOlder y old
+      at new y [] e d = absurd (omega arith)
+      at new y (z ∷ old) e d =
+          let e′ : st .rows ≡ (new ++ (y ∷ [])) ++ (z ∷ old) = e ∙ sym (append-assoc new (y ∷ []) (z ∷ old)) in
+          let at-b : b ≡ rawRow t (length (z ∷ old)) = db ∙ ap (rawRow t) (sym d) in
+          let at-a : a ≡ rawRow t (length old) = da ∙ ap (rawRow t) (omega arith) in
+          rw (paired-words rep new y (z ∷ old) e (new ++ (y ∷ [])) z old e′ b a at-b at-a, same-at rep new y (z ∷ old) e b at-b .kind, same-at rep (new ++ (y ∷ [])) z old e′ a at-a .kind)
+          refl
+
+  pub oldest-tested : (x : Row) → x ≡ rawRow t 0 → 0 < length (st .rows) → Tested besideOlder (st .rows) 1 (not (eqb (x .kind) 4))
+  unfolding besideOlder isServer serverEnd
+  oldest-tested x d h =
+      subst (λ (b : Bool). Tested besideOlder (st .rows) 1 b) (and-true (not (eqb (x .kind) 4)))
+      (tested-more (not (eqb (x .kind) 4)) h (tested-none besideOlder (st .rows)) record { told = at })
+    where
+      at : (new : List Row) (y : Row) (old : List Row) → st .rows ≡ new ++ (y ∷ old) → length old ≡ 0 → not (eqb (x .kind) 4) ≡ besideOlder y old
+      at new y [] e l = rw (same-at rep new y [] e x d .kind) refl
+      at new y (z ∷ old) e l = absurd (omega arith)
+
+  pub newest-tested : (i : ℕ) (x : Row) → x ≡ rawRow t i → suc i ≡ length (st .rows) → not (eqb (x .kind) 3) ≡ newestPaired (st .rows)
+  unfolding newestPaired isClient clientEnd
+  newest-tested i x d l = at (st .rows) refl l
+    where
+      at : (rs : List Row) → st .rows ≡ rs → suc i ≡ length rs → not (eqb (x .kind) 3) ≡ newestPaired rs
+      at [] e l = absurd (omega arith)
+      at (y ∷ old) e l = rw (same-at rep [] y old e x (d ∙ ap (rawRow t) (omega arith)) .kind) refl
+
+  pub ends-tested : PortsNamed (st .rows) → (i : ℕ) (right : Bool) (x : Row) → x ≡ rawRow t i → suc i ≡ length (st .rows) → Tested besideOlder (st .rows) (i + 1) right
+      → right && not (eqb (x .kind) 3) ≡ endsPaired (st .rows)
+  ends-tested named i right x d l q =
+      (λ k. tested-all besideOlder (st .rows) right (subst (λ (m : ℕ). Tested besideOlder (st .rows) m right) (let e : i + 1 ≡ length (st .rows) = omega arith in e) q) k && newest-tested i x d l k)
+      ∙ neighbours-paired (st .rows) (represented-well rep .rows-rise) named
+
+  -- ---- the row at slot i, x its words
   module _ (i : ℕ) (x : Row) (at : x ≡ rawRow t i) where
-    kind-at : (new : List Row) (y : Row) (old : List Row) → st .rows ≡ new ++ (y ∷ old) → length old ≡ i → y .kind ≡ x .kind
-    kind-at new y old e d = sym (same-at rep new y old e x (at ∙ ap (rawRow t) (sym d)) .kind)
-
-    pub end-client : {b : Bool} → x .kind ≡ 3 → AtSlot (λ y old. pairedAbove (st .rows) y) (st .rows) i b → AtSlot (λ y old. endPaired (st .rows) y) (st .rows) i b
-    unfolding endPaired otherEnd isEnd isClient isServer clientEnd serverEnd isPairedWith
-    end-client k p = record { told = λ new y old e d. rw (kind-at new y old e d ∙ k) (p .told new y old e d) }
-
-    pub end-server : {b : Bool} → x .kind ≡ 4 → AtSlot (λ y old. pairedBelow (st .rows) y) (st .rows) i b → AtSlot (λ y old. endPaired (st .rows) y) (st .rows) i b
-    unfolding endPaired otherEnd isEnd isClient isServer clientEnd serverEnd isPairedWith
-    end-server k p = record { told = λ new y old e d. rw (kind-at new y old e d ∙ k) (p .told new y old e d) }
-
-    pub end-none : (x .kind ≡ 3 → ⊥) → (x .kind ≡ 4 → ⊥) → AtSlot (λ y old. endPaired (st .rows) y) (st .rows) i true
-    unfolding endPaired isEnd isClient isServer clientEnd serverEnd
-    end-none k l = record { told = λ new y old e d. rw (kind-at new y old e d, ne-eqb (x .kind) 3 k, ne-eqb (x .kind) 4 l) refl }
-
     -- ---- the clauses of one slot
     pub own-at : (ps : List Process) {b : Bool} → b ≡ ownRight ps x → AtSlot (λ y old. ownRight ps y) (st .rows) i b
     own-at ps h = record { told = λ new y old e d. h ∙ own-same ps x y (same-at rep new y old e x (at ∙ ap (rawRow t) (sym d))) }

@@ -1,7 +1,6 @@
 // The rows are sound: the clauses of every row, the oldest first, in one loop for each group of clauses.
 use crate::packed::PACKED;
 use crate::packed::pack;
-use crate::row_clauses::follows;
 use crate::row_clauses::is_paired_with;
 use crate::row_clauses::own_right;
 use crate::row_clauses::sources_right;
@@ -18,15 +17,13 @@ ghost use mathlib.Core.Path.{_≡_};
 ghost use Prim.Native.Nat.{_<_, _≤_};
 ghost use Rattle.rows.specs.Lists.{all};
 ghost use Rattle.rows.specs.Tables.{requestOf, lists};
-ghost use Rattle.rows.specs.Sound.{endPaired, endsPaired};
 ghost use Rattle.rows.specs.Layout.{recordsIn};
 ghost use Rattle.rows.specs.contracts.Sizes.{ROWS, REQUESTS, IsTables, IsRecords};
 ghost use Rattle.rows.specs.contracts.OfState.{OfRows, OfRequests, TestsTables, Tests};
-ghost use Rattle.soundness_rows.specs.contracts.AtSlot.{OfRowAt, OfRowAmong, OfSources, OfLoan, OfFaithful};
+ghost use Rattle.soundness_rows.specs.contracts.AtSlot.{OfNeighbours, OfPorts, OfSources, OfLoan, OfFaithful};
 ghost use Rattle.soundness_rows.specs.contracts.Seen.{SourcesBefore, SourcesOlder, slotRow};
 ghost use Rattle.soundness_rows.specs.contracts.Packed.{PacksRows};
-ghost use Rattle.soundness_rows.specs.contracts.Clauses.{ownRight, loansRight, pairedAbove, pairedBelow};
-ghost use Rattle.soundness_rows.specs.contracts.Clauses.{allOfRows};
+ghost use Rattle.soundness_rows.specs.contracts.Clauses.{ownRight, loansRight, allOfRows};
 
 // What the request that a row bears says: its port, and whether it lists the row.
 pub struct Loan {
@@ -83,49 +80,37 @@ fn loan_of(t: &[u32], m: usize, q: u32, e: u32) -> Loan
 }
 
 // ---- ends in pairs
-// The client end x at slot i has its server end in the next slot.
-// Ruled out: a server end further on; the end of another port.
-fn pair_above(t: &[u32], x: Row, i: usize, n: usize) -> bool
-    requires { ⌜ IsTables (now t) × (i < ROWS) × (n ≤ ROWS) ⌝ }
-    ensures { λ r. ⌜ OfRowAmong (now (t .entry)) n x i r pairedAbove ⌝ }
+// Two rows of neighbouring slots: a client end stands right before the server end of its port, and nothing else does.
+// Ruled out: a server end after another row; a client end before the end of another port.
+fn beside(a: Row, b: Row) -> bool
+    ensures { λ r. ⌜ OfNeighbours a b r ⌝ }
 {
-    let j = i + 1;
-    if n <= j {
-        return false;
-    }
-    let z = row_at(t, j);
-    let next = follows(x.number, z.number);
-    let paired = is_paired_with(x, z);
-    next & paired
+    let client = a.kind == A_CLIENT_END;
+    let server = b.kind == A_SERVER_END;
+    let paired = is_paired_with(b, a);
+    (client & (server & paired)) | (!client & !server)
 }
 
-// The server end x at slot i has its client end in the slot before.
-// Ruled out: a client end further back; the end of another port.
-fn pair_below(t: &[u32], x: Row, i: usize) -> bool
-    requires { ⌜ IsTables (now t) × (i < ROWS) ⌝ }
-    ensures { λ r. ⌜ OfRowAt (now (t .entry)) x i r pairedBelow ⌝ }
+// Ends stand in pairs, where they have the objects that their numbers tell.
+// Ruled out: yes for an oldest row that is a server end; yes for a newest row that is a client end.
+fn ends_paired(t: &[u32], n: usize) -> bool
+    requires { ⌜ IsTables (now t) × (n ≤ ROWS) ⌝ }
+    ensures { λ r. ⌜ OfPorts (now (t .entry)) n r ⌝ }
 {
-    if i == 0 {
-        return false;
+    if n == 0 {
+        return true;
     }
-    let z = row_at(t, i - 1);
-    let next = follows(z.number, x.number);
-    let paired = is_paired_with(x, z);
-    next & paired
-}
-
-// Ruled out: a client end without its server end; a server end without its client end.
-fn end_paired(t: &[u32], x: Row, i: usize, n: usize) -> bool
-    requires { ⌜ IsTables (now t) × (i < ROWS) × (n ≤ ROWS) ⌝ }
-    ensures { λ r. ⌜ OfRowAmong (now (t .entry)) n x i r endPaired ⌝ }
-{
-    if x.kind == A_CLIENT_END {
-        return pair_above(t, x, i, n);
+    let oldest = row_at(t, 0);
+    let mut right = !(oldest.kind == A_SERVER_END);
+    let mut i = 0;
+    while i < n - 1 {
+        let a = row_at(t, i);
+        i += 1;
+        let b = row_at(t, i);
+        right = beside(a, b) & right;
     }
-    if x.kind == A_SERVER_END {
-        return pair_below(t, x, i);
-    }
-    true
+    let newest = row_at(t, i);
+    right & !(newest.kind == A_CLIENT_END)
 }
 
 // ---- of one slot
@@ -205,21 +190,6 @@ fn sources_sound(t: &[u32], n: usize) -> bool
         packs[i] = pack(x);
     }
     packed_sound(t, &packs, n)
-}
-
-// Ruled out: the last row alone decides; a row past the first n.
-fn ends_paired(t: &[u32], n: usize) -> bool
-    requires { ⌜ IsTables (now t) × (n ≤ ROWS) ⌝ }
-    ensures { λ r. ⌜ OfRows (now (t .entry)) n r endsPaired ⌝ }
-{
-    let mut right = true;
-    let mut i = 0;
-    while i < n {
-        let x = row_at(t, i);
-        right = end_paired(t, x, i, n) & right;
-        i += 1;
-    }
-    right
 }
 
 // Ruled out: the last row alone decides; a copy that only another request lists.

@@ -1,15 +1,15 @@
 -- The clauses of rows in groups, as the functions that test them go: of one row, and of all rows.
-use Prim.Native.Nat.{suc, pred, max}
-use mathlib.Core.Bool.{Bool, not, _&&_, _||_}
-use mathlib.Core.List.{List}
+use Prim.Native.Nat.{suc, max}
+use mathlib.Core.Bool.{Bool, true, not, _&&_, _||_}
+use mathlib.Core.List.{List, [], _∷_}
 use lib.Dec.{eqb, leb, ltb}
 use Rattle.rows.specs.declared.Row.{Row}
 use Rattle.rows.specs.declared.Request.{Request}
 use Rattle.rows.specs.declared.Process.{Process}
 use Rattle.rows.specs.Lists.{all, some}
 use Rattle.rows.specs.Limits.{greatestDepth}
-use Rattle.rows.specs.Codes.{isNode, isCopied, isClient}
-use Rattle.rows.specs.Tables.{State, rowOf, requestOf, lists}
+use Rattle.rows.specs.Codes.{isNode, isCopied, isClient, isServer}
+use Rattle.rows.specs.Tables.{State, requestOf, lists}
 use Rattle.rows.specs.Sound.{sourceOf, viaOf, objectInRange, objectsInRange, rightInRange, rightsInRange, placeInRange, placesInRange, isOpening, isRegistered, isHeld, isPortEnd, sourceRight, sourcesRight, depthRight, depthsRight, copyMatches, copiesMatch, isPairedWith, endPaired, endsPaired, copyListed, copiesListed}
 
 -- ---- of one row, old the older ones
@@ -42,12 +42,11 @@ loanRight vs y =
     eqb (y .request) 0
     || (ltb (y .request) (y .number) && (lists (y .number) (requestOf vs (y .request)) && eqb (requestOf vs (y .request) .port) (y .via)))
 
--- the row with the next number is the other end of its port; the row with the number before it is
-abbrev pub pairedAbove : List Row → Row → Bool
-pairedAbove rs y = isPairedWith y (rowOf rs (suc (y .number)))
-
-abbrev pub pairedBelow : List Row → Row → Bool
-pairedBelow rs y = isPairedWith y (rowOf rs (pred (y .number)))
+-- beside the next older one: a client end stands right before the server end of its port, and nothing else does
+unfoldable pub besideOlder : Row → List Row → Bool
+besideOlder y [] = not (isServer (y .kind))
+besideOlder y (a ∷ old) =
+    (isClient (a .kind) && (isServer (y .kind) && isPairedWith y a)) || (not (isClient (a .kind)) && not (isServer (y .kind)))
 
 -- all eight
 unfoldable pub rowSound : State → Row → List Row → Bool
@@ -59,6 +58,11 @@ rowSound st y old =
     && (depthRight y old && (copyMatches y old && (endPaired (st .rows) y && copyListed (st .requests) y))))))
 
 -- ---- of all rows
+-- the newest is no client end
+unfoldable pub newestPaired : List Row → Bool
+newestPaired [] = true
+newestPaired (y ∷ old) = not (isClient (y .kind))
+
 abbrev pub loansRight : State → Bool
 loansRight st = all (loanRight (st .requests)) (st .rows)
 

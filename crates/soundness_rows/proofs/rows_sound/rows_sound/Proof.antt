@@ -11,7 +11,7 @@ use Rattle.rows.specs.Lists.{all}
 use Rattle.rows.specs.Layout.{recordsIn}
 use Rattle.soundness_rows.specs.contracts.Clauses.{ownRight}
 use Rattle.rows.proofs.ProcessRecords.{length-in}
-use Rattle.soundness_rows.proofs.RowsSound.{faithful, groups-joined}
+use Rattle.soundness_rows.proofs.RowsSound.{faithful, ports-named, groups-joined}
 use Rattle.soundness_rows.proofs.rows_sound.rows_sound.Statement.{statement}
 use Rattle.soundness_rows.proofs.rows_sound.rows_sound.Tie as tie
 
@@ -35,7 +35,7 @@ returns c =
     let own-right = subst (λ (q : List Process). own .result ≡ all (ownRight q) (st .rows)) (sym ps) (own .ensures st rep long) in
     let records : length (st .processes) ≤ 64 = omega (arith, ap length ps ∙ length-in 64 (now (s .args .p)) (s .pre .0 .1)) in
     groups-joined st (own .result) (c .before .before .sources-sound .result) (c .before .ends-paired .result) (c .loans-right .result) own-right
-    (λ h. c .before .before .sources-sound .ensures st rep long (faithful (st .processes) (st .rows) records h)) (c .before .ends-paired .ensures st rep long)
+    (λ h. c .before .before .sources-sound .ensures st rep long (faithful (st .processes) (st .rows) records h)) (λ h. c .before .ends-paired .ensures st rep long (ports-named (st .processes) (st .rows) records h))
     (c .loans-right .ensures st rep long few)
 
 pub rows-sound-spec : {M : Type 1} → statement M
