@@ -5,7 +5,7 @@ use mathlib.Core.List.{List, [], _∷_}
 use mathlib.Core.Path.{_≡_, refl, ap, sym, _∙_}
 use native.Mathlib.Numerals.{add-one}
 use native.Mathlib.Omega.{arith}
-use borrow.Author.Tests.{eqb-true, eq-eqb, ne-eqb}
+use borrow.Author.Tests.{eqb-true, eq-eqb, ne-eqb, lt-ltb}
 use lib.Dec.{ltb, eqb}
 use lib.ListN.{length, getD}
 use Rattle.rows.specs.declared.Row.{Row}
@@ -97,12 +97,12 @@ module _ {st : State} {t : List ℕ} (rep : Represents t st) where
       pick zero d = rw (row-absent (st .rows) e d) refl
       pick (suc i) d = ap (λ (n : ℕ). isEnd (rowOf (st .rows) e .kind) && ltb n q) (sym (row-found (st .rows) e i d .1))
 
-  pub may-be-listed : (v : Request) (e q kind bears : ℕ) → v .number ≡ q → kind ≡ rowOf (st .rows) e .kind → bears ≡ rowOf (st .rows) e .request
-      → not (ltb 0 e) || ((isEnd kind && ltb e q) || (ltb 0 bears && eqb bears q)) ≡ not (some e) || mayBeListed v (rowOf (st .rows) e)
+  pub may-be-listed : (v : Request) (e q kind bears : ℕ) → (e ≡ 0 → ⊥) → v .number ≡ q → kind ≡ rowOf (st .rows) e .kind → bears ≡ rowOf (st .rows) e .request
+      → (isEnd kind && ltb e q) || (ltb 0 bears && eqb bears q) ≡ not (some e) || mayBeListed v (rowOf (st .rows) e)
   unfolding some mayBeListed
-  may-be-listed v e q kind bears a b c =
+  may-be-listed v e q kind bears z a b c =
       let own = rowOf (st .rows) e .request in
-      rw (b, c, ← a) (ap (λ (x : Bool). not (ltb 0 e) || (x || (ltb 0 own && eqb own (v .number)))) (older-end e (v .number)))
+      rw (lt-ltb 0 e (omega arith), b, c, ← a) (ap (λ (x : Bool). x || (ltb 0 own && eqb own (v .number))) (older-end e (v .number)))
 
 -- ---- tests joined
 pub all-both : {A : Type 0} (f g : A → Bool) (xs : List A) → all (λ x. f x && g x) xs ≡ all f xs && all g xs

@@ -114,11 +114,14 @@ fn may_be_listed(t: &[u32], n: usize, q: u32, e: u32) -> bool
     requires { ⌜ IsTables (now t) × (n ≤ ROWS) ⌝ }
     ensures { λ r. ⌜ TestsItem (now (t .entry)) n q e r ⌝ }
 {
+    if e == 0 {
+        return true;
+    }
     let s = slot_among(t, n, e);
     let kind = word_at(t, KIND, s);
     let bears = word_at(t, REQUEST, s);
     let end = is_end(kind);
-    !(0 < e) | ((end & (e < q)) | ((0 < bears) & (bears == q)))
+    (end & (e < q)) | ((0 < bears) & (bears == q))
 }
 
 // Each item may be listed. Ruled out: the fourth item is not tested; no for an item that is not there.

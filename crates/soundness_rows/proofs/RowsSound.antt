@@ -19,7 +19,7 @@ use Rattle.rows.specs.Layout.{requestAt, rawRow}
 use Rattle.rows.specs.contracts.Represents.{Represents}
 use Rattle.rows.specs.contracts.Slots.{requestSlot}
 use Rattle.soundness_rows.specs.contracts.AtSlot.{AtSlot, PortsNamed}
-use Rattle.soundness_rows.specs.contracts.Clauses.{ownRight, shapeRight, depthNext, bySources, loanRight, besideOlder, newestPaired, rowSound, allOfRows}
+use Rattle.soundness_rows.specs.contracts.Clauses.{ownRight, shapeRight, depthNext, bySources, fieldsAndSources, loanRight, besideOlder, newestPaired, rowSound, allOfRows}
 use Rattle.soundness_rows.specs.contracts.Packed.{packed, Packs, PacksRows, Faithful}
 use Rattle.soundness_rows.specs.contracts.Seen.{Same, SaysOfPacked, slotRow}
 use Rattle.rows.proofs.Bools.{or-false, and-true, and-false}
@@ -123,24 +123,34 @@ module _ (ps : List Process) (rs : List Row) (few : length ps ≤ 64) (h : all (
         server = λ new y old e. ports-own ps y few (own-cut new y old e) .1;
       }
 
--- the groups of all rows, the second and third tested only where the first holds
-pub groups-joined : (st : State) (a b c d : Bool) → a ≡ all (ownRight (st .processes)) (st .rows)
-    → (all (ownRight (st .processes)) (st .rows) ≡ true → b ≡ each bySources (st .rows))
-    → (all (ownRight (st .processes)) (st .rows) ≡ true → c ≡ endsPaired (st .rows)) → d ≡ all (loanRight (st .requests)) (st .rows) → a && (b && (c && d)) ≡ allOfRows st
-unfolding endsPaired
-groups-joined st a b c d ha hb hc hd = pick (all (ownRight (st .processes)) (st .rows)) refl ∙ sym split ∙ rows-joined st
+-- sources count only where all fields are in range
+pub fields-then : (a b : Bool) (ps : List Process) (rs : List Row) → a ≡ all (ownRight ps) rs → (all (ownRight ps) rs ≡ true → b ≡ each bySources rs)
+    → a && b ≡ fieldsAndSources ps rs
+fields-then a b ps rs ha hb = pick (all (ownRight ps) rs) refl
   where
-    split : each (rowSound st) (st .rows) ≡ all (ownRight (st .processes)) (st .rows) && (each bySources (st .rows) && (endsPaired (st .rows) && all (loanRight (st .requests)) (st .rows)))
+    pick : (q : Bool) → all (ownRight ps) rs ≡ q → a && b ≡ all (ownRight ps) rs && each bySources rs
+    pick true e = λ i. ha i && hb e i
+    pick false e = rw (ha ∙ e) (rw e refl)
+
+-- the groups of all rows; pairs count only where all fields are in range
+pub groups-joined : (st : State) (a c d : Bool) → a ≡ fieldsAndSources (st .processes) (st .rows)
+    → (all (ownRight (st .processes)) (st .rows) ≡ true → c ≡ endsPaired (st .rows)) → d ≡ all (loanRight (st .requests)) (st .rows) → a && (c && d) ≡ allOfRows st
+unfolding endsPaired
+groups-joined st a c d ha hc hd = pick (all (ownRight (st .processes)) (st .rows)) refl ∙ sym split ∙ rows-joined st
+  where
+    rest : Bool
+    rest = endsPaired (st .rows) && all (loanRight (st .requests)) (st .rows)
+
+    split : each (rowSound st) (st .rows) ≡ all (ownRight (st .processes)) (st .rows) && (each bySources (st .rows) && rest)
     split =
         each-ext (rowSound st) (λ y old. ownRight (st .processes) y && (bySources y old && (endPaired (st .rows) y && loanRight (st .requests) y))) (st .rows) (λ y old. sym (groups st y old))
         ∙ each-join (λ y old. ownRight (st .processes) y) _ (st .rows) (each-all (ownRight (st .processes)) (st .rows))
         (each-join bySources _ (st .rows) refl
         (each-join (λ y old. endPaired (st .rows) y) (λ y old. loanRight (st .requests) y) (st .rows) (each-all (endPaired (st .rows)) (st .rows)) (each-all (loanRight (st .requests)) (st .rows))))
 
-    pick : (q : Bool) → all (ownRight (st .processes)) (st .rows) ≡ q
-        → a && (b && (c && d)) ≡ all (ownRight (st .processes)) (st .rows) && (each bySources (st .rows) && (endsPaired (st .rows) && all (loanRight (st .requests)) (st .rows)))
-    pick true e = λ i. ha i && (hb e i && (hc e i && hd i))
-    pick false e = rw (ha ∙ e) (rw e refl)
+    pick : (q : Bool) → all (ownRight (st .processes)) (st .rows) ≡ q → a && (c && d) ≡ all (ownRight (st .processes)) (st .rows) && (each bySources (st .rows) && rest)
+    pick true e = (λ i. ha i && (hc e i && hd i)) ∙ rw e refl
+    pick false e = rw ha (rw e refl)
 
 module _ {st : State} {t : List ℕ} (rep : Represents t st) where
   pub no-request : (q : ℕ) → q ≡ 0 → requestSlot (st .requests) q ≡ 0

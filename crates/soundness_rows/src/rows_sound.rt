@@ -15,7 +15,6 @@ use rows::read::lists_at;
 use rows::read::row_at;
 ghost use mathlib.Core.Path.{_≡_};
 ghost use Prim.Native.Nat.{_<_, _≤_};
-ghost use Rattle.rows.specs.Lists.{all};
 ghost use Rattle.rows.specs.Tables.{requestOf, lists};
 ghost use Rattle.rows.specs.Layout.{recordsIn};
 ghost use Rattle.rows.specs.contracts.Sizes.{ROWS, REQUESTS, IsTables, IsRecords};
@@ -23,7 +22,7 @@ ghost use Rattle.rows.specs.contracts.OfState.{OfRows, OfRequests, TestsTables,
 ghost use Rattle.soundness_rows.specs.contracts.AtSlot.{OfNeighbours, OfPorts, OfSources, OfLoan, OfFaithful};
 ghost use Rattle.soundness_rows.specs.contracts.Seen.{SourcesBefore, SourcesOlder, slotRow};
 ghost use Rattle.soundness_rows.specs.contracts.Packed.{PacksRows};
-ghost use Rattle.soundness_rows.specs.contracts.Clauses.{ownRight, loansRight, allOfRows};
+ghost use Rattle.soundness_rows.specs.contracts.Clauses.{fieldsAndSources, loansRight, allOfRows};
 
 // What the request that a row bears says: its port, and whether it lists the row.
 pub struct Loan {
@@ -146,21 +145,6 @@ fn loan_right(t: &[u32], i: usize, m: usize) -> bool
 
 // ---- of all rows
 // Ruled out: the last row alone decides; a row past the first n.
-fn fields_sound(t: &[u32], p: &[u32], n: usize) -> bool
-    requires { ⌜ IsTables (now t) × IsRecords (now p) × (n ≤ ROWS) ⌝ }
-    ensures { λ r. ⌜ OfRows (now (t .entry)) n r (all (ownRight (recordsIn (now (p .entry))))) ⌝ }
-{
-    let mut right = true;
-    let mut i = 0;
-    while i < n {
-        let x = row_at(t, i);
-        right = own_right(x, p) & right;
-        i += 1;
-    }
-    right
-}
-
-// Ruled out: the last row alone decides; a row past the first n.
 fn packed_sound(t: &[u32], packs: &[u32; PACKED], n: usize) -> bool
     requires sizes { ⌜ IsTables (now t) × (n ≤ ROWS) ⌝ }
     requires sources { ⌜ SourcesOlder (now t) n ⌝ }
@@ -176,20 +160,23 @@ fn packed_sound(t: &[u32], packs: &[u32; PACKED], n: usize) -> bool
     right
 }
 
-// The clauses of sources, where the fields of all rows are in range. Ruled out: words left from no row; the last row.
-fn sources_sound(t: &[u32], n: usize) -> bool
-    requires sizes { ⌜ IsTables (now t) × (n ≤ ROWS) ⌝ }
+// The clauses of fields and of sources: in one loop fields are tested and rows packed, in the next their sources.
+// Ruled out: words left from no row; the last row is not tested.
+fn sources_sound(t: &[u32], p: &[u32], n: usize) -> bool
+    requires sizes { ⌜ IsTables (now t) × IsRecords (now p) × (n ≤ ROWS) ⌝ }
     requires sources { ⌜ SourcesOlder (now t) n ⌝ }
-    ensures { λ r. ⌜ OfFaithful (now (t .entry)) n r ⌝ }
+    ensures { λ r. ⌜ OfRows (now (t .entry)) n r (fieldsAndSources (recordsIn (now (p .entry)))) ⌝ }
 {
     let mut packs = [0u32; PACKED];
+    let mut right = true;
     let mut i = 0;
     while i < n {
         let x = row_at(t, i);
+        right = own_right(x, p) & right;
         i += 1;
         packs[i] = pack(x);
     }
-    packed_sound(t, &packs, n)
+    right & packed_sound(t, &packs, n)
 }
 
 // Ruled out: the last row alone decides; a copy that only another request lists.
@@ -213,9 +200,8 @@ pub fn rows_sound(t: &[u32], p: &[u32], n: usize, m: usize) -> bool
     requires sources { ⌜ SourcesOlder (now t) n ⌝ }
     ensures { λ r. ⌜ Tests (now (t .entry)) (now (p .entry)) n m r allOfRows ⌝ }
 {
-    let own = fields_sound(t, p, n);
-    let sources = sources_sound(t, n);
+    let sources = sources_sound(t, p, n);
     let paired = ends_paired(t, n);
     let loans = loans_right(t, n, m);
-    own & (sources & (paired & loans))
+    sources & (paired & loans)
 }

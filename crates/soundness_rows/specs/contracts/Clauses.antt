@@ -6,7 +6,7 @@ use lib.Dec.{eqb, leb, ltb}
 use Rattle.rows.specs.declared.Row.{Row}
 use Rattle.rows.specs.declared.Request.{Request}
 use Rattle.rows.specs.declared.Process.{Process}
-use Rattle.rows.specs.Lists.{all, some}
+use Rattle.rows.specs.Lists.{all, each, some}
 use Rattle.rows.specs.Limits.{greatestDepth}
 use Rattle.rows.specs.Codes.{isNode, isCopied, isClient, isServer}
 use Rattle.rows.specs.Tables.{State, requestOf, lists}
@@ -62,6 +62,9 @@ rowSound st y old =
 unfoldable pub newestPaired : List Row → Bool
 newestPaired [] = true
 newestPaired (y ∷ old) = not (isClient (y .kind))
+
+abbrev pub fieldsAndSources : List Process → List Row → Bool
+fieldsAndSources ps rs = all (ownRight ps) rs && each bySources rs
 
 abbrev pub loansRight : State → Bool
 loansRight st = all (loanRight (st .requests)) (st .rows)

@@ -1,22 +1,17 @@
--- `rows_sound::rows_sound` meets its contract: the four groups are all clauses; sources count only where all fields are in range.
+-- `rows_sound::rows_sound` meets its contract: the three groups are all clauses; pairs count only where all fields are in range.
 use borrow.Author.Needs.{needs}
 use Prim.Native.Nat.{_≤_}
 use denote.Ref.{now}
-use mathlib.Core.Path.{_≡_, ap, sym, subst, _∙_}
 use mathlib.Core.List.{List}
+use mathlib.Core.Path.{_≡_, ap, sym, subst, _∙_}
 use native.Mathlib.Omega.{arith}
 use lib.ListN.{length}
 use Rattle.rows.specs.declared.Process.{Process}
-use Rattle.rows.specs.Lists.{all}
-use Rattle.rows.specs.Layout.{recordsIn}
-use Rattle.soundness_rows.specs.contracts.Clauses.{ownRight}
+use Rattle.soundness_rows.specs.contracts.Clauses.{fieldsAndSources}
 use Rattle.rows.proofs.ProcessRecords.{length-in}
-use Rattle.soundness_rows.proofs.RowsSound.{faithful, ports-named, groups-joined}
+use Rattle.soundness_rows.proofs.RowsSound.{ports-named, groups-joined}
 use Rattle.soundness_rows.proofs.rows_sound.rows_sound.Statement.{statement}
 use Rattle.soundness_rows.proofs.rows_sound.rows_sound.Tie as tie
-
-fields-sound-requires : tie.Need-fields-sound-requires
-fields-sound-requires c κs = search needs
 
 sources-sound-requires : tie.Need-sources-sound-requires
 sources-sound-requires c κs = search needs
@@ -30,20 +25,12 @@ loans-right-requires c κs = search needs
 returns : tie.Need-returns
 returns c =
     λ st rep ps long few.
-    let s = c .before .before .before .before .before .before in
-    let own = c .before .before .before .fields-sound in
-    let own-right = subst (λ (q : List Process). own .result ≡ all (ownRight q) (st .rows)) (sym ps) (own .ensures st rep long) in
+    let s = c .before .before .before .before .before in
+    let r = c .before .before .sources-sound in
+    let fields = subst (λ (q : List Process). r .result ≡ fieldsAndSources q (st .rows)) (sym ps) (r .ensures st rep long) in
     let records : length (st .processes) ≤ 64 = omega (arith, ap length ps ∙ length-in 64 (now (s .args .p)) (s .pre .0 .1)) in
-    groups-joined st (own .result) (c .before .before .sources-sound .result) (c .before .ends-paired .result) (c .loans-right .result) own-right
-    (λ h. c .before .before .sources-sound .ensures st rep long (faithful (st .processes) (st .rows) records h)) (λ h. c .before .ends-paired .ensures st rep long (ports-named (st .processes) (st .rows) records h))
-    (c .loans-right .ensures st rep long few)
+    groups-joined st (r .result) (c .before .ends-paired .result) (c .loans-right .result) fields
+    (λ h. c .before .ends-paired .ensures st rep long (ports-named (st .processes) (st .rows) records h)) (c .loans-right .ensures st rep long few)
 
 pub rows-sound-spec : {M : Type 1} → statement M
-rows-sound-spec =
-    tie.close
-    (tie.spec
-    fields-sound-requires
-    sources-sound-requires
-    ends-paired-requires
-    loans-right-requires
-    returns)
+rows-sound-spec = tie.close (tie.spec sources-sound-requires ends-paired-requires loans-right-requires returns)
