@@ -1,11 +1,13 @@
 -- Process records in their words, one after the other: what loops over them keep.
-use Prim.Native.Nat.{ℕ, zero, suc, _+_, _*_, _-_, _<_, _≤_}
-use mathlib.Core.Bool.{false}
+use Prim.Native.Nat.{ℕ, zero, suc, _+_, _*_, _-_, _%_, _^_, _<_, _≤_}
+use mathlib.Core.Bool.{false, _&&_}
 use mathlib.Core.List.{List, [], _∷_}
 use mathlib.Core.Path.{_≡_, refl, ap, sym, _∙_}
+use native.Mathlib.Decide.{decLt}
 use native.Mathlib.Nat.{not-suc-le-zero, le-of-suc-le-suc}
 use native.Mathlib.Omega.{arith}
 use borrow.Author.Count.{below-more}
+use borrow.Author.Tests.{lt-ltb, le-ltb}
 use lib.Dec.{ltb}
 use lib.ListN.{length, getD, set, length-set, List·getD-eq-default}
 use lib.Seq.{getD-set-same, getD-set-other, ext-getD}
@@ -89,17 +91,30 @@ through-write ps p i h t =
     below-more (λ k. getD ps k noProcess ≡ recordAt (written p i x) k) i (λ k lt. t k lt ∙ sym (elsewhere p i x k (λ e. omega arith))) (sym (here p i x h))
 
 -- ---- whether a process is listed
-pub listed-none : (ps : List Process) (n : ℕ) → n ≡ 0 → false ≡ isListed ps n
+listed-none : (ps : List Process) (n : ℕ) → n ≡ 0 → false ≡ isListed ps n
 unfolding isListed processAt noProcess some
 listed-none ps n e = rw e refl
 
-pub listed-far : (m : ℕ) (p : List ℕ) (n : ℕ) → length p ≡ 3 * m → m < n → false ≡ isListed (recordsIn p) n
+listed-far : (m : ℕ) (p : List ℕ) (n : ℕ) → length p ≡ 3 * m → m < n → false ≡ isListed (recordsIn p) n
 unfolding isListed processAt noProcess some
 listed-far m p zero e h = absurd (not-suc-le-zero h)
 listed-far m p (suc i) e h = rw (List·getD-eq-default (recordsIn p) noProcess {n = i} (omega (arith, length-in m p e))) refl
 
-pub listed-at : (m : ℕ) (p : List ℕ) (n : ℕ) → length p ≡ 3 * m → (n ≡ 0 → ⊥) → n ≤ m → ltb 0 (getD p (3 * (n - 1)) 0) ≡ isListed (recordsIn p) n
+listed-at : (m : ℕ) (p : List ℕ) (n : ℕ) → length p ≡ 3 * m → (n ≡ 0 → ⊥) → n ≤ m → ltb 0 (getD p (3 * (n - 1)) 0) ≡ isListed (recordsIn p) n
 unfolding isListed processAt some
 listed-at m p zero e z h = absurd (z refl)
 listed-at m p (suc i) e z h =
     ap (λ (k : ℕ). ltb 0 (getD p (3 * k) 0)) (omega arith) ∙ sym (ap (λ (x : Process). ltb 0 (x .prime)) (record-at m p e i h))
+
+-- by the number less 1, which wraps where there is none
+pub listed-wraps : (p : List ℕ) (n w : ℕ) → length p ≡ 192 → w < 2 ^ 32 → (w + 1) % 2 ^ 32 ≡ n → ltb w 64 && ltb 0 (getD p (3 * (w % 64)) 0) ≡ isListed (recordsIn p) n
+listed-wraps p n w e h z = elim (decLt w 64) [ yes lt ↦ near lt | no ge ↦ rw (le-ltb w 64 (omega arith)) (far (omega arith) n z) ]
+  where
+    near : w < 64 → ltb w 64 && ltb 0 (getD p (3 * (w % 64)) 0) ≡ isListed (recordsIn p) n
+    near lt =
+        rw (lt-ltb w 64 lt)
+        (ap (λ (k : ℕ). ltb 0 (getD p (3 * k) 0)) (omega arith) ∙ listed-at 64 p n e (λ q. omega arith) (omega arith))
+
+    far : 64 ≤ w → (k : ℕ) → (w + 1) % 2 ^ 32 ≡ k → false ≡ isListed (recordsIn p) k
+    far ge zero q = listed-none (recordsIn p) 0 refl
+    far ge (suc k) q = listed-far 64 p (suc k) e (omega arith)

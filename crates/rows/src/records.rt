@@ -1,5 +1,6 @@
 // The process records in their lent run of words, three to a record.
 use crate::Process;
+use crate::codes::LAST_PROCESS;
 use crate::layout::PROCESSES;
 use crate::layout::RECORD_WORDS;
 ghost use mathlib.Core.Path.{_≡_};
@@ -50,17 +51,14 @@ pub fn store(ps: Records, p: &mut [u32])
     }
 }
 
-// Whether n is a listed process, for any n. Ruled out: 0 or 65 is listed; the record after that of n decides.
+// Whether n is a listed process, for any n, without a branch, so that loops over many rows run over several at once
+// (0 wraps past every process). Ruled out: 0 or 65 is listed; the record after that of n decides.
 pub fn listed(p: &[u32], n: u32) -> bool
     requires { ⌜ IsRecords (now p) ⌝ }
     ensures { λ r. ⌜ r ≡ isListed (recordsIn (now (p .entry))) n ⌝ }
 {
-    if n == 0 {
-        return false;
-    }
-    if PROCESSES < n as usize {
-        return false;
-    }
-    let i = (n - 1) as usize;
-    0 < p[RECORD_WORDS * i]
+    let i = std::num::wrapping_sub_u32(n, 1);
+    let at = (i % LAST_PROCESS) as usize;
+    let prime = p[RECORD_WORDS * at];
+    (i < LAST_PROCESS) & (0 < prime)
 }

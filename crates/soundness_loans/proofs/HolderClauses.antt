@@ -13,13 +13,17 @@ use Rattle.rows.specs.declared.Request.{Request}
 use Rattle.rows.specs.Lists.{any, all, member, some, nonzero}
 use Rattle.rows.specs.Codes.{clientEnd, serverEnd, isClient, isServer, isEnd}
 use Rattle.rows.specs.Tables.{State, noRow, rowOf, lists}
-use Rattle.rows.specs.Sound.{mayBeListed}
+use Rattle.rows.specs.Sound.{isFetched, mayBeListed}
 use Rattle.rows.specs.contracts.Represents.{Represents}
 use Rattle.rows.specs.Layout.{rowSlot}
-use Rattle.soundness_loans.specs.contracts.Clauses.{itemsListable, codeAt, listAt, listAll, itemSlots}
+use Rattle.soundness_loans.specs.contracts.Clauses.{itemsListable, codeAt, listAt, listAll, itemSlots, listedOnce, relisted}
 use Rattle.rows.proofs.Bools.{false-of, clash, and-l, and-r, and-i, or-false, pos-some, eqb-self, all-at}
 use Rattle.rows.proofs.Slots.{represented-well, slot-le, row-absent}
 use Rattle.soundness_loans.proofs.RequestClauses.{no-slot, slot-test, member-nonzero}
+
+or-true : (b : Bool) → b || true ≡ true
+or-true true = refl
+or-true false = refl
 
 -- ---- codes of the listing, at a slot plus 1
 pub code-none : (n x : ℕ) → codeAt (replicate n zero) x ≡ 0
@@ -153,6 +157,18 @@ member-slot : {st : State} {t : List ℕ} → Represents t st → (e i : ℕ) �
 unfolding member
 member-slot rep e i d [] = refl
 member-slot {st} rep e i d (a ∷ es) = rw (slot-test rep e i d a, member-slot rep e i d es) refl
+
+-- a request that lists nothing changes nothing
+slots-none : {st : State} {t : List ℕ} → Represents t st → (v : Request) → v .items ≡ 0 ∷ 0 ∷ 0 ∷ 0 ∷ [] → itemSlots (st .rows) v ≡ 0 ∷ 0 ∷ 0 ∷ 0 ∷ []
+slots-none {st} rep v e = ap (map (rowSlot (st .rows))) e ∙ (λ i. no-slot rep i ∷ no-slot rep i ∷ no-slot rep i ∷ no-slot rep i ∷ [])
+
+pub once-none : {st : State} {t : List ℕ} → Represents t st → (v : Request) → v .items ≡ 0 ∷ 0 ∷ 0 ∷ 0 ∷ [] → (l : List ℕ) → true ≡ listedOnce l (st .rows) v
+unfolding any codeAt some
+once-none rep v e l = rw (slots-none rep v e) (sym (or-true (isFetched v)))
+
+pub list-none : {st : State} {t : List ℕ} → Represents t st → (v : Request) → v .items ≡ 0 ∷ 0 ∷ 0 ∷ 0 ∷ [] → (l : List ℕ) → l ≡ relisted l (st .rows) v
+unfolding listAll listAt
+list-none rep v e l = rw (slots-none rep v e) refl
 
 -- the code of a row after a request was listed
 pub code-turn : {st : State} {t : List ℕ} → Represents t st → (v : Request) → Lent st v → (code : ℕ) → 0 < code → (l : List ℕ) → length l ≡ 1024 → (e : ℕ)

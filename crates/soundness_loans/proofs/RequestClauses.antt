@@ -5,7 +5,7 @@ use mathlib.Core.List.{List, [], _∷_}
 use mathlib.Core.Path.{_≡_, refl, ap, sym, _∙_}
 use native.Mathlib.Numerals.{add-one}
 use native.Mathlib.Omega.{arith}
-use borrow.Author.Tests.{eqb-true, eq-eqb, ne-eqb}
+use borrow.Author.Tests.{eqb-true, eq-eqb, ne-eqb, lt-ltb}
 use lib.Dec.{ltb, eqb}
 use lib.ListN.{length, getD}
 use Rattle.rows.specs.declared.Row.{Row}
@@ -17,8 +17,8 @@ use Rattle.rows.specs.Tables.{State, noRow, rowOf, numbers}
 use Rattle.rows.specs.Sound.{itemsFew, portStands, mayBeListed}
 use Rattle.rows.specs.Layout.{rowColumns, requestColumns, requestsAt, requestAt, requestsTo, rowSlot}
 use Rattle.rows.specs.contracts.Represents.{Represents}
-use Rattle.soundness_loans.specs.contracts.Clauses.{wordAt, standingPort}
-use Rattle.rows.proofs.Bools.{bool-eq, clash, and-true, or-false}
+use Rattle.soundness_loans.specs.contracts.Clauses.{itemsRight, wordAt, standingPort}
+use Rattle.rows.proofs.Bools.{bool-eq, clash, and-l, and-r, and-true, or-false}
 use Rattle.rows.proofs.LayoutRequests.{requests-back}
 use Rattle.rows.proofs.Slots.{represented-well, represented-request, row-found, row-none, row-absent, row-words, request-read, slot-zero}
 
@@ -97,12 +97,12 @@ module _ {st : State} {t : List ℕ} (rep : Represents t st) where
       pick zero d = rw (row-absent (st .rows) e d) refl
       pick (suc i) d = ap (λ (n : ℕ). isEnd (rowOf (st .rows) e .kind) && ltb n q) (sym (row-found (st .rows) e i d .1))
 
-  pub may-be-listed : (v : Request) (e q kind bears : ℕ) → v .number ≡ q → kind ≡ rowOf (st .rows) e .kind → bears ≡ rowOf (st .rows) e .request
-      → not (ltb 0 e) || ((isEnd kind && ltb e q) || (ltb 0 bears && eqb bears q)) ≡ not (some e) || mayBeListed v (rowOf (st .rows) e)
+  pub may-be-listed : (v : Request) (e q kind bears : ℕ) → (e ≡ 0 → ⊥) → v .number ≡ q → kind ≡ rowOf (st .rows) e .kind → bears ≡ rowOf (st .rows) e .request
+      → (isEnd kind && ltb e q) || (ltb 0 bears && eqb bears q) ≡ not (some e) || mayBeListed v (rowOf (st .rows) e)
   unfolding some mayBeListed
-  may-be-listed v e q kind bears a b c =
+  may-be-listed v e q kind bears z a b c =
       let own = rowOf (st .rows) e .request in
-      rw (b, c, ← a) (ap (λ (x : Bool). not (ltb 0 e) || (x || (ltb 0 own && eqb own (v .number)))) (older-end e (v .number)))
+      rw (lt-ltb 0 e (omega arith), b, c, ← a) (ap (λ (x : Bool). x || (ltb 0 own && eqb own (v .number))) (older-end e (v .number)))
 
 -- ---- tests joined
 pub all-both : {A : Type 0} (f g : A → Bool) (xs : List A) → all (λ x. f x && g x) xs ≡ all f xs && all g xs
@@ -189,6 +189,19 @@ items-apart a b c d =
     last : (x : Bool) → (not x || true) && true ≡ true
     last true = refl
     last false = refl
+
+-- ---- a request that lists nothing
+pub none-words : (a b c d : ℕ) → eqb a 0 && (eqb b 0 && (eqb c 0 && eqb d 0)) ≡ true → a ∷ b ∷ c ∷ d ∷ [] ≡ 0 ∷ 0 ∷ 0 ∷ 0 ∷ []
+none-words a b c d h =
+    let p : eqb a 0 ≡ true = search (and-l, and-r) in
+    let q : eqb b 0 ≡ true = search (and-l, and-r) in
+    let r : eqb c 0 ≡ true = search (and-l, and-r) in
+    let s : eqb d 0 ≡ true = search (and-l, and-r) in
+    rw (eqb-true a 0 p, eqb-true b 0 q, eqb-true c 0 r, eqb-true d 0 s) refl
+
+pub none-right : (rs : List Row) (v : Request) → v .items ≡ 0 ∷ 0 ∷ 0 ∷ 0 ∷ [] → true ≡ itemsRight rs v
+unfolding nonzero filter some distinct all
+none-right rs v e = rw e refl
 
 -- ---- the port
 pub stands : {st : State} {t : List ℕ} → Represents t st → (v : Request) (port q kind : ℕ) → port ≡ v .port → q ≡ v .number → kind ≡ rowOf (st .rows) port .kind

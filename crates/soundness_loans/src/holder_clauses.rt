@@ -1,5 +1,6 @@
 // The clauses of soundness of holders, each named as in rows/specs/Sound.antt: the listing of rows by requests, from
 // the newest request to the oldest. Slots of rows are given plus 1, 0 for none.
+use crate::request_clauses::lists_none;
 use crate::request_clauses::slot_among;
 use rows::codes::THE_SYSTEM;
 use rows::layout::PLACE;
@@ -97,6 +98,10 @@ fn listed_once(t: &[u32], n: usize, listing: &mut [u8; ROWS], j: usize) -> bool
     ensures once { λ r. ⌜ OfRequest (now (t .entry)) n j r (listedOnce (now (listing .entry))) ⌝ }
     ensures marked { λ _. ⌜ OfRequest (now (t .entry)) n j (now (listing .exit)) (relisted (now (listing .entry))) ⌝ }
 {
+    let none = lists_none(t, j);
+    if none {
+        return true;
+    }
     let slots = item_slots(t, n, j);
     let word = t[Q_FETCHED + j];
     let fetched = word == 1;

@@ -16,7 +16,7 @@ use rows::layout::ROWS;
 use rows::layout::RowMarks;
 use rows::records::listed;
 ghost use mathlib.Core.Path.{_≡_};
-ghost use mathlib.Core.Bool.{not, _||_};
+ghost use mathlib.Core.Bool.{true, not, _||_};
 ghost use mathlib.Core.List.{[], _∷_};
 ghost use Prim.Native.Nat.{suc, _<_, _≤_};
 ghost use lib.Dec.{leb, ltb};
@@ -26,7 +26,7 @@ ghost use Rattle.rows.specs.Layout.{requestAt, recordsIn, rowSlot};
 ghost use Rattle.rows.specs.contracts.Sizes.{ROWS, REQUESTS, REQUEST, IsTables, IsRecords};
 ghost use Rattle.rows.specs.contracts.OfState.{OfRows, TestsTables, Tests};
 ghost use Rattle.soundness_loans.specs.contracts.Clauses.{OfRequest, TestsItem, wordAt, numberApart};
-ghost use Rattle.soundness_loans.specs.contracts.Clauses.{itemsListable, requestRight, standingPort};
+ghost use Rattle.soundness_loans.specs.contracts.Clauses.{ListsNone, itemsListable, itemsRight, requestRight, standingPort};
 ghost use Rattle.soundness_loans.specs.contracts.Clauses.{requestsRight, portsRight, allOfRequests, isFree};
 ghost use Rattle.soundness_loans.specs.contracts.Clauses.{withMark};
 
@@ -114,11 +114,14 @@ fn may_be_listed(t: &[u32], n: usize, q: u32, e: u32) -> bool
     requires { ⌜ IsTables (now t) × (n ≤ ROWS) ⌝ }
     ensures { λ r. ⌜ TestsItem (now (t .entry)) n q e r ⌝ }
 {
+    if e == 0 {
+        return true;
+    }
     let s = slot_among(t, n, e);
     let kind = word_at(t, KIND, s);
     let bears = word_at(t, REQUEST, s);
     let end = is_end(kind);
-    !(0 < e) | ((end & (e < q)) | ((0 < bears) & (bears == q)))
+    (end & (e < q)) | ((0 < bears) & (bears == q))
 }
 
 // Each item may be listed. Ruled out: the fourth item is not tested; no for an item that is not there.
@@ -134,7 +137,34 @@ fn items_lent(t: &[u32], n: usize, j: usize) -> bool
     first & (second & (third & fourth))
 }
 
-// The clauses but for the port. Ruled out: one of the five alone decides; the tests of another request.
+// Whether it lists nothing: most requests do not, and then its items need no test.
+// Ruled out: yes where the fourth item alone is there; the items of another request.
+pub fn lists_none(t: &[u32], j: usize) -> bool
+    requires { ⌜ IsTables (now t) × (j < REQUESTS) ⌝ }
+    ensures { λ r. ⌜ (r ≡ true → ListsNone (now (t .entry)) j) ⌝ }
+{
+    let a = t[Q_ITEMS + j];
+    let b = t[Q_ITEMS + REQUESTS + j];
+    let c = t[Q_ITEMS + 2 * REQUESTS + j];
+    let d = t[Q_ITEMS + 3 * REQUESTS + j];
+    (a == 0) & ((b == 0) & ((c == 0) & (d == 0)))
+}
+
+// The clauses of its items. Ruled out: one of the two alone decides; a request with one item passes untested.
+fn items_right(t: &[u32], n: usize, j: usize) -> bool
+    requires { ⌜ IsTables (now t) × (n ≤ ROWS) × (j < REQUESTS) ⌝ }
+    ensures { λ r. ⌜ OfRequest (now (t .entry)) n j r itemsRight ⌝ }
+{
+    let none = lists_none(t, j);
+    if none {
+        return true;
+    }
+    let once = items_apart(t, j);
+    let lent = items_lent(t, n, j);
+    once & lent
+}
+
+// The clauses but for the port. Ruled out: one of the four alone decides; the tests of another request.
 fn request_right(t: &[u32], p: &[u32], n: usize, j: usize) -> bool
     requires { ⌜ IsTables (now t) × IsRecords (now p) × (n ≤ ROWS) × (j < REQUESTS) ⌝ }
     ensures { λ r. ⌜ OfRequest (now (t .entry)) n j r (requestRight (recordsIn (now (p .entry)))) ⌝ }
@@ -142,9 +172,8 @@ fn request_right(t: &[u32], p: &[u32], n: usize, j: usize) -> bool
     let apart = number_apart(t, n, j);
     let fetched = fetched_in_range(t, j);
     let asked = requester_listed(t, p, j);
-    let once = items_apart(t, j);
-    let lent = items_lent(t, n, j);
-    apart & (fetched & (asked & (once & lent)))
+    let items = items_right(t, n, j);
+    apart & (fetched & (asked & items))
 }
 
 // A request is newer than both ends of its port. Ruled out: newer than the client end alone; a sum that wraps to 0.

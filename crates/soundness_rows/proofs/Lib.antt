@@ -1,6 +1,8 @@
 -- Laws behind the clauses of rows. One line a file:
 -- loops over the slots of a list, oldest first
 pub mod SlotLoops
+-- the word that packs a row, and what it tells
+pub mod PackedRows
 -- the clauses of one row, its slot's words and its sources at hand
 pub mod RowClauses
 -- the row at a slot, as the tests of one row see it

@@ -7,21 +7,24 @@ use mathlib.Core.Logic.{inl, inr}
 use native.Mathlib.Omega.{arith}
 use borrow.Author.Tests.{ne-eqb}
 use lib.Dec.{eqb}
-use lib.ListN.{length}
+use lib.ListN.{length, getD, length-append}
 use Rattle.rows.specs.declared.Row.{Row}
-use Rattle.rows.specs.Lists.{rises}
+use Rattle.rows.specs.Lists.{rises, between}
 use Rattle.rows.specs.Limits.{rowSlots}
+use Rattle.rows.specs.Codes.{isNode}
 use Rattle.rows.specs.Tables.{State, noRow, rowOf, numbers}
 use Rattle.rows.specs.Layout.{sourceSlot, rowField, rowSlot, rawRow}
 use Rattle.rows.specs.contracts.Represents.{sourcesOlder, Represents}
 use Rattle.rows.specs.Setters.{withSources}
 use Rattle.rows.specs.contracts.Sizes.{ROWS}
 use Rattle.rows.specs.contracts.Slots.{slotted}
+use Rattle.soundness_rows.specs.contracts.Packed.{packed, Packs, PacksRows, Faithful}
 use Rattle.soundness_rows.specs.contracts.Seen.{Same, Seen, SourcesBefore, slotRow}
 use Rattle.rows.proofs.Bools.{clash}
 use Rattle.rows.proofs.Keyed.{olderOf, first-key, rises-rest, rises-range}
 use Rattle.rows.proofs.RowSources.{Among}
-use Rattle.rows.proofs.Slots.{represented-well, newerOf, rises-old, slot-zero, source-rises, source-zero, sources-among, source-kept, row-cut, row-absent, row-none, raw-row-at}
+use Rattle.rows.proofs.Slots.{represented-well, newerOf, rises-old, slot-zero, source-le, source-rises, source-zero, sources-among, source-kept, row-cut, row-absent, row-none, raw-row-at}
+use Rattle.soundness_rows.proofs.PackedRows.{packs-none, packed-same, packs-slot}
 
 -- ---- the same row
 same-self : (r : Row) → Same r r
@@ -41,6 +44,23 @@ slot-row-pos t (suc i) h = ap (rawRow t) (omega arith)
 pub row-sources : (t : List ℕ) (i : ℕ) (x : Row) → x ≡ rawRow t i → i < ROWS → SourcesBefore t i → (x .source ≤ ROWS) × (x .via ≤ ROWS)
 unfolding rawRow rowField rowSlots
 row-sources t i x d h (s, v) = (omega (arith, ap (λ (r : Row). r .source) d), omega (arith, ap (λ (r : Row). r .via) d))
+
+-- ---- a row by the word that packs it
+-- the row numbered n of older rows, or none
+packs-older : (rs new old : List Row) → Faithful rs → rs ≡ new ++ old → (n : ℕ) → Packs (packed (rowOf old n)) (rowOf old n)
+unfolding packed noRow isNode between
+packs-older rs new old f e n = pick (rowSlot old n) refl
+  where
+    none : rowOf old n ≡ noRow → Packs (packed (rowOf old n)) (rowOf old n)
+    none z = subst (λ (r : Row). Packs (packed r) r) (sym z) packs-none
+
+    pick : (s : ℕ) → rowSlot old n ≡ s → Packs (packed (rowOf old n)) (rowOf old n)
+    pick zero d = none (row-absent old n d)
+    pick (suc j) d =
+        let (cut, long) = row-cut old n j d in
+        let newer = newerOf (λ r. r .number) old n in
+        let older = olderOf (λ r. r .number) old n in
+        f .packs (new ++ newer) (rowOf old n) older (e ∙ ap (λ (l : List Row). new ++ l) cut ∙ sym (append-assoc new newer (rowOf old n ∷ older)))
 
 module _ {st : State} {t : List ℕ} (rep : Represents t st) where
   slot-row-at : (new old : List Row) → st .rows ≡ new ++ old → (n s : ℕ) → rowSlot old n ≡ s → Same (slotRow t s) (rowOf old n)
@@ -96,21 +116,37 @@ module _ {st : State} {t : List ℕ} (rep : Represents t st) (new : List Row) (y
   pub source-slot-of : sourceSlot old (y .source) ≡ rowSlot (st .rows) (y .source)
   source-slot-of = source-kept new y old up older .0 ∙ ap (λ (l : List Row). rowSlot l (y .source)) (sym e)
 
-  seen : Seen (slotted y old) (slotRow t (slotted y old .source)) (slotRow t (slotted y old .via)) y old
-  unfolding slotted withSources
-  seen =
-      record {
-        own = same-slotted y old;
-        source = slot-seen (y .source);
-        via = slot-seen (y .via);
-        source-none = among-none old up-old (y .source) (among .0);
-        via-none = among-none old up-old (y .via) (among .1);
-        via-number = slot-seen (y .via) .number ∙ among-number old up-old (y .via) (among .1);
-      }
+  -- the word of a source tells of it what its parts say
+  source-packs : Faithful (st .rows) → (l : List ℕ) → PacksRows t (length (st .rows)) l → (m : ℕ) → Packs (getD l (sourceSlot old m) 0) (rowOf old m)
+  source-packs f l p m =
+      subst (λ (w : ℕ). Packs w (rowOf old m))
+      (sym (packs-slot t l (length (st .rows)) (sourceSlot old m) p (omega (arith, source-le old m, ap length e, length-append new (y ∷ old)))
+      ∙ packed-same (slotRow t (sourceSlot old m)) (rowOf old m) (slot-seen m)))
+      (packs-older (st .rows) (new ++ (y ∷ [])) old f (e ∙ sym (append-assoc new (y ∷ []) old)) m)
 
-  pub seen-at : (x s v : Row) → x ≡ rawRow t (length old) → s ≡ slotRow t (x .source) → v ≡ slotRow t (x .via) → Seen x s v y old
-  seen-at x s v d ds dv =
-      rw (ds, dv) (subst (λ (r : Row). Seen r (slotRow t (r .source)) (slotRow t (r .via)) y old) (sym (d ∙ raw-row-at rep new y old e)) seen)
+  pub seen-at : (x : Row) (s v : ℕ) (l : List ℕ) → Faithful (st .rows) → PacksRows t (length (st .rows)) l → x ≡ rawRow t (length old)
+      → s ≡ getD l (x .source) 0 → v ≡ getD l (x .via) 0 → Seen x s v y old
+  unfolding slotted withSources
+  seen-at x s v l f p d ds dv =
+      rw (ds, dv) (subst (λ (r : Row). Seen r (getD l (r .source) 0) (getD l (r .via) 0) y old) (sym (d ∙ raw-row-at rep new y old e)) seen)
+    where
+      seen : Seen (slotted y old) (getD l (slotted y old .source) 0) (getD l (slotted y old .via) 0) y old
+      seen =
+          record {
+            own = same-slotted y old;
+            source = source-packs f l p (y .source);
+            via = source-packs f l p (y .via);
+            source-none = among-none old up-old (y .source) (among .0);
+            via-none = among-none old up-old (y .via) (among .1);
+          }
+
+  -- the number of the second source
+  pub via-told : (x : Row) → x ≡ rawRow t (length old) → slotRow t (x .via) .number ≡ y .via
+  unfolding slotted withSources
+  via-told x d =
+      ap (λ (r : Row). slotRow t (r .via) .number) (d ∙ raw-row-at rep new y old e)
+      ∙ slot-seen (y .via) .number
+      ∙ among-number old up-old (y .via) (among .1)
 
   pub same-at : (x : Row) → x ≡ rawRow t (length old) → Same x y
   same-at x d = subst (λ (r : Row). Same r y) (sym (d ∙ raw-row-at rep new y old e)) (same-slotted y old)

@@ -1,28 +1,40 @@
 -- The clauses of a row joined, and of all rows: laws for the functions of src/rows_sound.rt.
-use Prim.Native.Nat.{ℕ, suc, _+_}
-use mathlib.Core.Bool.{Bool, true, false, _&&_, _||_}
-use mathlib.Core.List.{List, _∷_, _++_}
-use mathlib.Core.Path.{_≡_, refl, ap, sym, _∙_}
+use Prim.Native.Nat.{ℕ, suc, max, _+_, _<_, _≤_}
+use mathlib.Core.Bool.{Bool, true, false, not, _&&_, _||_}
+use mathlib.Core.List.{List, [], _∷_, _++_, append-assoc}
+use mathlib.Core.Path.{_≡_, refl, ap, sym, subst, _∙_}
+use native.Mathlib.Omega.{arith}
 use borrow.Author.Tests.{ne-eqb}
-use lib.Dec.{eqb, ltb}
+use lib.Dec.{eqb, leb, ltb}
 use lib.ListN.{length, getD}
 use Rattle.rows.specs.declared.Row.{Row}
 use Rattle.rows.specs.declared.Request.{Request}
 use Rattle.rows.specs.declared.Process.{Process}
-use Rattle.rows.specs.Lists.{each, member, some}
-use Rattle.rows.specs.Codes.{clientEnd, serverEnd, isClient, isServer, isEnd}
+use Rattle.rows.specs.Lists.{all, each, member, some}
+use Rattle.rows.specs.Limits.{greatestDepth}
+use Rattle.rows.specs.Codes.{clientEnd, serverEnd, isClient, isServer}
 use Rattle.rows.specs.Tables.{State, noRequest, requestOf, lists, noRow, rowOf}
-use Rattle.rows.specs.Sound.{objectInRange, objectsInRange, rightInRange, rightsInRange, placeInRange, placesInRange, sourceRight, sourcesRight, depthRight, depthsRight, copyMatches, copiesMatch, isPairedWith, otherEnd, endPaired, endsPaired, copyListed, copiesListed, sourced}
+use Rattle.rows.specs.Sound.{sourceOf, viaOf, objectInRange, objectsInRange, rightInRange, rightsInRange, placeInRange, placesInRange, sourceRight, sourcesRight, hasRightDepth, depthRight, depthsRight, copyMatches, copiesMatch, isPairedWith, endPaired, endsPaired, copyListed, copiesListed, sourced}
 use Rattle.rows.specs.Layout.{requestAt, rawRow}
 use Rattle.rows.specs.contracts.Represents.{Represents}
 use Rattle.rows.specs.contracts.Slots.{requestSlot}
-use Rattle.soundness_rows.specs.contracts.AtSlot.{AtSlot}
-use Rattle.soundness_rows.specs.contracts.Clauses.{fieldsInRange, sourceClauses, sourceAndLoan, pairedAbove, pairedBelow, rowSound, allOfRows}
-use Rattle.soundness_rows.specs.contracts.Seen.{Same, SaysOfLoan, SaysListed, slotRow}
-use Rattle.rows.proofs.Bools.{or-false, and-false}
+use Rattle.soundness_rows.specs.contracts.AtSlot.{AtSlot, PortsNamed}
+use Rattle.soundness_rows.specs.contracts.Clauses.{ownRight, shapeRight, depthNext, bySources, fieldsAndSources, loanRight, besideOlder, newestPaired, rowSound, allOfRows}
+use Rattle.soundness_rows.specs.contracts.Packed.{packed, Packs, PacksRows, Faithful}
+use Rattle.soundness_rows.specs.contracts.Seen.{Same, SaysOfPacked, slotRow}
+use Rattle.rows.proofs.Bools.{or-false, and-true, and-false}
+use Rattle.rows.proofs.KeySlots.{each-cut}
 use Rattle.rows.proofs.Slots.{represented-well, slot-zero, request-absent, request-words, raw-request, request-read}
-use Rattle.soundness_rows.proofs.SlotLoops.{each-join, each-all}
-use Rattle.soundness_rows.proofs.RowsSeen.{seen-at, same-at}
+use Rattle.soundness_rows.proofs.PackedRows.{packs-own, ports-own, packed-same}
+use Rattle.soundness_rows.proofs.RowClauses.{shape-split}
+use Rattle.soundness_rows.proofs.RowPairs.{paired-words, neighbours-paired}
+use Rattle.soundness_rows.proofs.RowsSeen.{seen-at, via-told, same-at}
+use Rattle.soundness_rows.proofs.SlotLoops.{Tested, tested-none, tested-more, tested-all, each-join, each-all}
+
+pub no-ends : (rs : List Row) → length rs ≡ 0 → true ≡ endsPaired rs
+unfolding endsPaired all
+no-ends [] e = refl
+no-ends (y ∷ rs) e = absurd (omega arith)
 
 -- ---- the request that a row bears
 -- the four items one by one
@@ -41,25 +53,42 @@ pub listed-none : (vs : List Request) (q e : ℕ) → requestSlot vs q ≡ 0 →
 unfolding noRequest lists member
 listed-none vs q e d = rw (request-absent vs q d) (sym (and-false (some e)))
 
--- ---- order
-and-comm : (a b : Bool) → a && b ≡ b && a
-and-comm true true = refl
-and-comm true false = refl
-and-comm false true = refl
-and-comm false false = refl
+-- ---- the clauses of a row, in groups
+-- o, r, p: fields; h, b: sources, but for the port, and that no request is borne; j: its port; d, g: depth; c: copy; e: pair; l, i: listing
+split-loan : (b j l i : Bool) → b || (l && (i && j)) ≡ (b || j) && (b || (l && i))
+split-loan true j l i = refl
+split-loan false true l i = rw (and-true i) refl
+split-loan false false l i = rw (and-false i, and-false l) refl
 
-ordered : (o r p s d c l e : Bool) → (o && (r && p)) && (((s && (d && c)) && l) && e) ≡ o && (r && (p && (s && (d && (c && (e && l))))))
-ordered false r p s d c l e = refl
-ordered true false p s d c l e = refl
-ordered true true false s d c l e = refl
-ordered true true true false d c l e = refl
-ordered true true true true false c l e = refl
-ordered true true true true true false l e = refl
-ordered true true true true true true l e = and-comm l e
+split-row : (o r p h b j d g c e l i : Bool)
+    → ((o && (r && p)) && g) && ((h && (d && c)) && (e && (b || (l && (i && j)))))
+    ≡ o && (r && (p && ((h && (b || j)) && ((d && g) && (c && (e && (b || (l && i))))))))
+split-row false r p h b j d g c e l i = refl
+split-row true false p h b j d g c e l i = refl
+split-row true true false h b j d g c e l i = refl
+split-row true true true false b j d true c e l i = refl
+split-row true true true false b j d false c e l i = refl
+split-row true true true true b j d false c e l i = rw (and-false d, and-false (b || j)) refl
+split-row true true true true b j false true c e l i = sym (and-false (b || j))
+split-row true true true true b j true true false e l i = sym (and-false (b || j))
+split-row true true true true b j true true true false l i = sym (and-false (b || j))
+split-row true true true true b j true true true true l i = split-loan b j l i
 
-fields-same : (ps : List Process) (x y : Row) → Same x y → fieldsInRange ps x ≡ fieldsInRange ps y
-unfolding objectInRange rightInRange placeInRange
-fields-same ps x y s = rw (s .number, s .kind, s .object, s .operation, s .rights, s .place) refl
+-- the four groups are all clauses
+groups : (st : State) (y : Row) (old : List Row)
+    → ownRight (st .processes) y && (bySources y old && (endPaired (st .rows) y && loanRight (st .requests) y)) ≡ rowSound st y old
+unfolding rowSound ownRight bySources depthNext loanRight hasRightDepth copyListed
+groups st y old =
+    split-row (objectInRange (st .processes) y) (rightInRange y) (placeInRange (st .processes) y) (shapeRight y old) (eqb (y .request) 0)
+    (eqb (requestOf (st .requests) (y .request) .port) (y .via)) (eqb (y .depth) (suc (max (sourceOf old y .depth) (viaOf old y .depth))))
+    (leb (y .depth) greatestDepth) (copyMatches y old) (endPaired (st .rows) y) (ltb (y .request) (y .number))
+    (lists (y .number) (requestOf (st .requests) (y .request)))
+    ∙ ap (λ (q : Bool). objectInRange (st .processes) y && (rightInRange y && (placeInRange (st .processes) y && (q && (depthRight y old && (copyMatches y old && (endPaired (st .rows) y && copyListed (st .requests) y)))))))
+    (shape-split (st .requests) old y)
+
+own-same : (ps : List Process) (x y : Row) → Same x y → ownRight ps x ≡ ownRight ps y
+unfolding ownRight objectInRange rightInRange placeInRange
+own-same ps x y s = rw (s .number, s .kind, s .object, s .operation, s .rights, s .place, s .depth) refl
 
 -- all rows
 pub rows-joined : (st : State) → each (rowSound st) (st .rows) ≡ allOfRows st
@@ -74,6 +103,55 @@ rows-joined st =
     (each-join (λ y old. endPaired (st .rows) y) (λ y old. copyListed (st .requests) y) (st .rows) (each-all (endPaired (st .rows)) (st .rows))
     (each-all (copyListed (st .requests)) (st .rows))))))))
 
+each-ext : (F G : Row → List Row → Bool) (rs : List Row) → ((y : Row) (old : List Row) → F y old ≡ G y old) → each F rs ≡ each G rs
+unfolding each
+each-ext F G [] h = refl
+each-ext F G (y ∷ rs) h = λ i. h y rs i && each-ext F G rs h i
+
+-- where the fields of all rows are in range, their words tell what they say, and ends have the objects that their numbers tell
+module _ (ps : List Process) (rs : List Row) (few : length ps ≤ 64) (h : all (ownRight ps) rs ≡ true) where
+  own-cut : (new : List Row) (y : Row) (old : List Row) → rs ≡ new ++ (y ∷ old) → ownRight ps y ≡ true
+  own-cut new y old e = each-cut (λ z rest. ownRight ps z) new y old (each-all (ownRight ps) (new ++ (y ∷ old)) ∙ ap (all (ownRight ps)) (sym e) ∙ h)
+
+  pub faithful : Faithful rs
+  faithful = record { packs = λ new y old e. packs-own ps y few (own-cut new y old e) }
+
+  pub ports-named : PortsNamed rs
+  ports-named =
+      record {
+        client = λ new y old e. ports-own ps y few (own-cut new y old e) .0;
+        server = λ new y old e. ports-own ps y few (own-cut new y old e) .1;
+      }
+
+-- sources count only where all fields are in range
+pub fields-then : (a b : Bool) (ps : List Process) (rs : List Row) → a ≡ all (ownRight ps) rs → (all (ownRight ps) rs ≡ true → b ≡ each bySources rs)
+    → a && b ≡ fieldsAndSources ps rs
+fields-then a b ps rs ha hb = pick (all (ownRight ps) rs) refl
+  where
+    pick : (q : Bool) → all (ownRight ps) rs ≡ q → a && b ≡ all (ownRight ps) rs && each bySources rs
+    pick true e = λ i. ha i && hb e i
+    pick false e = rw (ha ∙ e) (rw e refl)
+
+-- the groups of all rows; pairs count only where all fields are in range
+pub groups-joined : (st : State) (a c d : Bool) → a ≡ fieldsAndSources (st .processes) (st .rows)
+    → (all (ownRight (st .processes)) (st .rows) ≡ true → c ≡ endsPaired (st .rows)) → d ≡ all (loanRight (st .requests)) (st .rows) → a && (c && d) ≡ allOfRows st
+unfolding endsPaired
+groups-joined st a c d ha hc hd = pick (all (ownRight (st .processes)) (st .rows)) refl ∙ sym split ∙ rows-joined st
+  where
+    rest : Bool
+    rest = endsPaired (st .rows) && all (loanRight (st .requests)) (st .rows)
+
+    split : each (rowSound st) (st .rows) ≡ all (ownRight (st .processes)) (st .rows) && (each bySources (st .rows) && rest)
+    split =
+        each-ext (rowSound st) (λ y old. ownRight (st .processes) y && (bySources y old && (endPaired (st .rows) y && loanRight (st .requests) y))) (st .rows) (λ y old. sym (groups st y old))
+        ∙ each-join (λ y old. ownRight (st .processes) y) _ (st .rows) (each-all (ownRight (st .processes)) (st .rows))
+        (each-join bySources _ (st .rows) refl
+        (each-join (λ y old. endPaired (st .rows) y) (λ y old. loanRight (st .requests) y) (st .rows) (each-all (endPaired (st .rows)) (st .rows)) (each-all (loanRight (st .requests)) (st .rows))))
+
+    pick : (q : Bool) → all (ownRight (st .processes)) (st .rows) ≡ q → a && (c && d) ≡ all (ownRight (st .processes)) (st .rows) && (each bySources (st .rows) && rest)
+    pick true e = (λ i. ha i && (hc e i && hd i)) ∙ rw e refl
+    pick false e = rw ha (rw e refl)
+
 module _ {st : State} {t : List ℕ} (rep : Represents t st) where
   pub no-request : (q : ℕ) → q ≡ 0 → requestSlot (st .requests) q ≡ 0
   unfolding requestSlot
@@ -86,48 +164,78 @@ module _ {st : State} {t : List ℕ} (rep : Represents t st) where
   listed-at q e j d = ap (lists e) (raw-request rep q j d)
 
   -- ---- ends
+  pub beside-at : (i : ℕ) (a b : Row) → a ≡ rawRow t i → b ≡ rawRow t (i + 1)
+      → AtSlot besideOlder (st .rows) (i + 1) ((eqb (a .kind) 3 && (eqb (b .kind) 4 && isPairedWith b a)) || (not (eqb (a .kind) 3) && not (eqb (b .kind) 4)))
+  unfolding besideOlder isClient isServer clientEnd serverEnd
+  beside-at i a b da db = record { told = at }
+    where
+      at : (new : List Row) (y : Row) (old : List Row) → st .rows ≡ new ++ (y ∷ old) → length old ≡ i + 1
+          → (eqb (a .kind) 3 && (eqb (b .kind) 4 && isPairedWith b a)) || (not (eqb (a .kind) 3) && not (eqb (b .kind) 4)) ≡ besideOlder y old
+      at new y [] e d = absurd (omega arith)
+      at new y (z ∷ old) e d =
+          let e′ : st .rows ≡ (new ++ (y ∷ [])) ++ (z ∷ old) = e ∙ sym (append-assoc new (y ∷ []) (z ∷ old)) in
+          let at-b : b ≡ rawRow t (length (z ∷ old)) = db ∙ ap (rawRow t) (sym d) in
+          let at-a : a ≡ rawRow t (length old) = da ∙ ap (rawRow t) (omega arith) in
+          rw (paired-words rep new y (z ∷ old) e (new ++ (y ∷ [])) z old e′ b a at-b at-a, same-at rep new y (z ∷ old) e b at-b .kind, same-at rep (new ++ (y ∷ [])) z old e′ a at-a .kind)
+          refl
+
+  pub oldest-tested : (x : Row) → x ≡ rawRow t 0 → 0 < length (st .rows) → Tested besideOlder (st .rows) 1 (not (eqb (x .kind) 4))
+  unfolding besideOlder isServer serverEnd
+  oldest-tested x d h =
+      subst (λ (b : Bool). Tested besideOlder (st .rows) 1 b) (and-true (not (eqb (x .kind) 4)))
+      (tested-more (not (eqb (x .kind) 4)) h (tested-none besideOlder (st .rows)) record { told = at })
+    where
+      at : (new : List Row) (y : Row) (old : List Row) → st .rows ≡ new ++ (y ∷ old) → length old ≡ 0 → not (eqb (x .kind) 4) ≡ besideOlder y old
+      at new y [] e l = rw (same-at rep new y [] e x d .kind) refl
+      at new y (z ∷ old) e l = absurd (omega arith)
+
+  pub newest-tested : (i : ℕ) (x : Row) → x ≡ rawRow t i → suc i ≡ length (st .rows) → not (eqb (x .kind) 3) ≡ newestPaired (st .rows)
+  unfolding newestPaired isClient clientEnd
+  newest-tested i x d l = at (st .rows) refl l
+    where
+      at : (rs : List Row) → st .rows ≡ rs → suc i ≡ length rs → not (eqb (x .kind) 3) ≡ newestPaired rs
+      at [] e l = absurd (omega arith)
+      at (y ∷ old) e l = rw (same-at rep [] y old e x (d ∙ ap (rawRow t) (omega arith)) .kind) refl
+
+  pub ends-tested : PortsNamed (st .rows) → (i : ℕ) (right : Bool) (x : Row) → x ≡ rawRow t i → suc i ≡ length (st .rows) → Tested besideOlder (st .rows) (i + 1) right
+      → right && not (eqb (x .kind) 3) ≡ endsPaired (st .rows)
+  ends-tested named i right x d l q =
+      (λ k. tested-all besideOlder (st .rows) right (subst (λ (m : ℕ). Tested besideOlder (st .rows) m right) (let e : i + 1 ≡ length (st .rows) = omega arith in e) q) k && newest-tested i x d l k)
+      ∙ neighbours-paired (st .rows) (represented-well rep .rows-rise) named
+
+  -- ---- the row at slot i, x its words
   module _ (i : ℕ) (x : Row) (at : x ≡ rawRow t i) where
-    kind-at : (new : List Row) (y : Row) (old : List Row) → st .rows ≡ new ++ (y ∷ old) → length old ≡ i → y .kind ≡ x .kind
-    kind-at new y old e d = sym (same-at rep new y old e x (at ∙ ap (rawRow t) (sym d)) .kind)
+    -- ---- the clauses of one slot
+    pub own-at : (ps : List Process) {b : Bool} → b ≡ ownRight ps x → AtSlot (λ y old. ownRight ps y) (st .rows) i b
+    own-at ps h = record { told = λ new y old e d. h ∙ own-same ps x y (same-at rep new y old e x (at ∙ ap (rawRow t) (sym d))) }
 
-    pub end-client : {b : Bool} → x .kind ≡ 3 → AtSlot (λ y old. pairedAbove (st .rows) y) (st .rows) i b → AtSlot (λ y old. endPaired (st .rows) y) (st .rows) i b
-    unfolding endPaired otherEnd isEnd isClient isServer clientEnd serverEnd isPairedWith
-    end-client k p = record { told = λ new y old e d. rw (kind-at new y old e d ∙ k) (p .told new y old e d) }
+    pub sources-at : (n w s v : ℕ) (l : List ℕ) {b : Bool} → n ≡ length (st .rows) → Faithful (st .rows) → PacksRows t n l → i < n → w ≡ getD l (i + 1) 0
+        → s ≡ getD l (x .source) 0 → v ≡ getD l (x .via) 0 → SaysOfPacked x w s v b bySources → AtSlot bySources (st .rows) i b
+    sources-at n w s v l long f p h dw ds dv says =
+        record {
+          told =
+              λ new y old e d.
+              let at-y = at ∙ ap (rawRow t) (sym d) in
+              let all-packed : PacksRows t (length (st .rows)) l = subst (λ (k : ℕ). PacksRows t k l) long p in
+              let own : packed y ≡ w
+              = sym (packed-same x y (same-at rep new y old e x at-y)) ∙ ap packed at ∙ sym (p .at i h) ∙ ap (λ (k : ℕ). getD l k 0) (omega arith) ∙ sym dw in
+              says y old (seen-at rep new y old e x s v l f all-packed at-y ds dv) (subst (λ (k : ℕ). Packs k y) own (f .packs new y old e));
+        }
 
-    pub end-server : {b : Bool} → x .kind ≡ 4 → AtSlot (λ y old. pairedBelow (st .rows) y) (st .rows) i b → AtSlot (λ y old. endPaired (st .rows) y) (st .rows) i b
-    unfolding endPaired otherEnd isEnd isClient isServer clientEnd serverEnd isPairedWith
-    end-server k p = record { told = λ new y old e d. rw (kind-at new y old e d ∙ k) (p .told new y old e d) }
+    pub loan-none : x .request ≡ 0 → AtSlot (λ y old. loanRight (st .requests) y) (st .rows) i true
+    unfolding loanRight
+    loan-none z = record { told = λ new y old e d. rw (sym (same-at rep new y old e x (at ∙ ap (rawRow t) (sym d)) .request) ∙ z) refl }
 
-    pub end-none : (x .kind ≡ 3 → ⊥) → (x .kind ≡ 4 → ⊥) → AtSlot (λ y old. endPaired (st .rows) y) (st .rows) i true
-    unfolding endPaired isEnd isClient isServer clientEnd serverEnd
-    end-none k l = record { told = λ new y old e d. rw (kind-at new y old e d, ne-eqb (x .kind) 3 k, ne-eqb (x .kind) 4 l) refl }
-
-    -- ---- the clauses joined
-    pub sources-joined : (s v : Row) (port : ℕ) (listed : Bool) {a b : Bool} → s ≡ slotRow t (x .source) → v ≡ slotRow t (x .via)
-        → port ≡ requestOf (st .requests) (x .request) .port → listed ≡ lists (x .number) (requestOf (st .requests) (x .request))
-        → SaysOfLoan x s v port a sourceClauses → SaysListed x listed b → AtSlot (λ y old. sourceAndLoan (st .requests) y old) (st .rows) i (a && b)
-    unfolding copyListed
-    sources-joined s v port listed ds dv dp dl right listing =
+    pub loan-some : (x .request ≡ 0 → ⊥) → (port number : ℕ) (listed : Bool) → port ≡ requestOf (st .requests) (x .request) .port
+        → listed ≡ lists (x .number) (requestOf (st .requests) (x .request)) → number ≡ slotRow t (x .via) .number
+        → AtSlot (λ y old. loanRight (st .requests) y) (st .rows) i (ltb (x .request) (x .number) && (listed && eqb port number))
+    unfolding loanRight
+    loan-some z port number listed dp dl dn =
         record {
           told =
               λ new y old e d.
               let at-y = at ∙ ap (rawRow t) (sym d) in
               let same = same-at rep new y old e x at-y in
-              let seen = seen-at rep new y old e x s v at-y ds dv in
-              let on-port = dp ∙ ap (λ (q : ℕ). requestOf (st .requests) q .port) (same .request) in
-              rw (right y old (st .requests) seen on-port, listing (st .requests) dl)
-              (rw (same .request, same .number) refl);
-        }
-
-    pub row-joined : (ps : List Process) → st .processes ≡ ps → {a b c : Bool} → a ≡ fieldsInRange ps x
-        → AtSlot (λ y old. sourceAndLoan (st .requests) y old) (st .rows) i b
-        → AtSlot (λ y old. endPaired (st .rows) y) (st .rows) i c → AtSlot (rowSound st) (st .rows) i (a && (b && c))
-    unfolding rowSound
-    row-joined ps p {a} {b} {c} fields sources paired =
-        record {
-          told =
-              λ new y old e d.
-              rw (p, fields ∙ fields-same ps x y (same-at rep new y old e x (at ∙ ap (rawRow t) (sym d))), sources .told new y old e d, paired .told new y old e d)
-              (ordered (objectInRange ps y) (rightInRange y) (placeInRange ps y) (sourceRight (st .requests) y old) (depthRight y old) (copyMatches y old)
-              (copyListed (st .requests) y) (endPaired (st .rows) y));
+              rw (dp, dl, dn ∙ via-told rep new y old e x at-y)
+              (rw (sym (same .request), sym (same .number)) (rw (ne-eqb (x .request) 0 z) refl));
         }

@@ -42,6 +42,22 @@ module _ {A : Type 0} where
       false-of (each F xs)
       (λ e. clash (each-cut F (c .new) (c .here) (c .old) (ap (each F) (sym (c .split)) ∙ e)) (sym (a .told (c .new) (c .here) (c .old) (c .split) (c .long))))
 
+  -- ---- a loop that goes on to the end: b says whether the elements of the first i slots pass
+  pub record Tested (F : A → List A → Bool) (xs : List A) (i : ℕ) (b : Bool) : Type 0 where
+    pub holds : b ≡ true → Passed F xs i
+    pub fails : b ≡ false → each F xs ≡ false
+
+  pub tested-none : (F : A → List A → Bool) (xs : List A) → Tested F xs 0 true
+  tested-none F xs = record { holds = λ e. passed-none F xs; fails = λ e. clash refl e }
+
+  pub tested-more : {F : A → List A → Bool} {xs : List A} {i : ℕ} {b : Bool} (a : Bool) → i < length xs → Tested F xs i b → AtSlot F xs i a → Tested F xs (i + 1) (a && b)
+  tested-more true h q at = record { holds = λ e. passed-more (q .holds e) at; fails = λ e. q .fails e }
+  tested-more false h q at = record { holds = λ e. clash e refl; fails = λ e. failed-at h at }
+
+  pub tested-all : (F : A → List A → Bool) (xs : List A) (b : Bool) → Tested F xs (length xs) b → b ≡ each F xs
+  tested-all F xs true q = sym (passed-all F xs (q .holds refl))
+  tested-all F xs false q = sym (q .fails refl)
+
   pub each-and : (F G : A → List A → Bool) (xs : List A) → each (λ x old. F x old && G x old) xs ≡ each F xs && each G xs
   unfolding each
   each-and F G [] = refl

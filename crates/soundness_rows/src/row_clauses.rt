@@ -1,5 +1,10 @@
-// The clauses of soundness of one row, each named as in rows/specs/Sound.antt.
-// The row comes as its slot's words: x; s and v are the words of its sources' slots.
+// The clauses of soundness of one row, each named as in rows/specs/Sound.antt, without branches, so that a loop over rows
+// tests several at once. The row comes as its slot's words: x; s and v are the packed words of its sources (packed.rt).
+use crate::packed::depth_in;
+use crate::packed::kind_in;
+use crate::packed::node_in;
+use crate::packed::rights_in;
+use crate::packed::same_object;
 use rows::Rights;
 use rows::Row;
 use rows::codes::A_CLIENT_END;
@@ -9,7 +14,6 @@ use rows::codes::ALL_RIGHTS;
 use rows::codes::AN_OPERATION;
 use rows::codes::BEFORE_CLISTS;
 use rows::codes::GREATEST_DEPTH;
-use rows::codes::LAST_CLIST;
 use rows::codes::LAST_OPERATION;
 use rows::codes::THE_SYSTEM;
 use rows::codes::is_clist;
@@ -19,26 +23,20 @@ use rows::codes::is_node;
 use rows::records::listed;
 ghost use mathlib.Core.Path.{_≡_};
 ghost use Prim.Native.Nat.{suc};
-ghost use lib.Dec.{eqb};
+ghost use lib.Dec.{eqb, leb};
 ghost use Rattle.rows.specs.Sound.{objectInRange, rightInRange, placeInRange, isOpening, isRegistered, isHeld};
-ghost use Rattle.rows.specs.Sound.{isPortEnd, isLentCopy, sourceRight, depthRight, copyMatches, isPairedWith};
-ghost use Rattle.rows.specs.Sound.{copyListed, sourceOf, viaOf};
-ghost use lib.ListN.{length};
-ghost use Rattle.rows.specs.declared.Row.{Row};
-ghost use Rattle.rows.specs.declared.Request.{Request};
-ghost use Rattle.rows.specs.Tables.{requestOf, lists};
+ghost use Rattle.rows.specs.Sound.{isPortEnd, copyMatches, isPairedWith, sourceOf, viaOf};
 ghost use Rattle.rows.specs.Layout.{recordsIn};
 ghost use Rattle.rows.specs.contracts.Sizes.{IsRecords};
-ghost use Rattle.soundness_rows.specs.contracts.Seen.{SaysOf, SaysOfLoan, SaysListed};
-ghost use Rattle.soundness_rows.specs.contracts.Clauses.{isOwn};
+ghost use Rattle.soundness_rows.specs.contracts.Seen.{SaysOf, SaysOfPacked};
+ghost use Rattle.soundness_rows.specs.contracts.Clauses.{ownRight, isCopyOver, shapeRight, depthNext, bySources};
 
 // ---- numbers
 // The next number. Ruled out: the same number; a sum that wraps to 0.
 pub fn follows(a: u32, b: u32) -> bool
     ensures { λ r. ⌜ r ≡ eqb (suc a) b ⌝ }
 {
-    let next = a as usize + 1;
-    next == b as usize
+    (0 < b) & (std::num::wrapping_sub_u32(b, 1) == a)
 }
 
 // ---- fields in range
@@ -47,29 +45,23 @@ pub fn object_in_range(x: Row, p: &[u32]) -> bool
     requires { ⌜ IsRecords (now p) ⌝ }
     ensures { λ r. ⌜ r ≡ objectInRange (recordsIn (now (p .entry))) x ⌝ }
 {
-    if x.kind == AN_OPERATION {
-        let manager = listed(p, x.object);
-        return manager & (x.operation <= LAST_OPERATION);
-    }
-    let none = x.operation == 0;
-    if x.kind == A_SUBDIRECTORY {
-        return is_node(x.object) & none;
-    }
-    if x.kind == A_CLIENT_END {
-        return (x.object == x.number) & none;
-    }
+    let manager = listed(p, x.object);
+    let node = is_node(x.object);
     let after = follows(x.object, x.number);
-    (x.kind == A_SERVER_END) & (after & none)
+    let none = x.operation == 0;
+    let operation = (x.kind == AN_OPERATION) & (manager & (x.operation <= LAST_OPERATION));
+    let subdirectory = (x.kind == A_SUBDIRECTORY) & (node & none);
+    let client = (x.kind == A_CLIENT_END) & ((x.object == x.number) & none);
+    let server = (x.kind == A_SERVER_END) & (after & none);
+    operation | (subdirectory | (client | server))
 }
 
 // Ruled out: an end with a right; rights of 8.
 pub fn right_in_range(x: Row) -> bool
     ensures { λ r. ⌜ r ≡ rightInRange x ⌝ }
 {
-    if is_end(x.kind) {
-        return x.rights <= 0;
-    }
-    x.rights <= ALL_RIGHTS
+    let end = is_end(x.kind);
+    (x.rights == 0) | (!end & (x.rights <= ALL_RIGHTS))
 }
 
 // Ruled out: the c-list of a process that is not listed; a place between nodes and c-lists.
@@ -77,12 +69,21 @@ pub fn place_in_range(x: Row, p: &[u32]) -> bool
     requires { ⌜ IsRecords (now p) ⌝ }
     ensures { λ r. ⌜ r ≡ placeInRange (recordsIn (now (p .entry))) x ⌝ }
 {
-    let place = x.place;
-    if place <= BEFORE_CLISTS {
-        return is_node(place);
-    }
-    let home = listed(p, place - BEFORE_CLISTS);
-    ((place <= LAST_CLIST) & home) | (place == THE_SYSTEM)
+    let node = is_node(x.place);
+    let clist = is_clist(x.place);
+    let home = listed(p, std::num::wrapping_sub_u32(x.place, BEFORE_CLISTS));
+    node | ((clist & home) | (x.place == THE_SYSTEM))
+}
+
+// The fields of a row by themselves. Ruled out: one of the four tests alone decides; depth 13.
+pub fn own_right(x: Row, p: &[u32]) -> bool
+    requires { ⌜ IsRecords (now p) ⌝ }
+    ensures { λ r. ⌜ r ≡ ownRight (recordsIn (now (p .entry))) x ⌝ }
+{
+    let object = object_in_range(x, p);
+    let right = right_in_range(x);
+    let place = place_in_range(x, p);
+    (object & (right & place)) & (x.depth <= GREATEST_DEPTH)
 }
 
 // ---- sources
@@ -96,106 +97,100 @@ fn is_opening(x: Row) -> bool
 }
 
 // Ruled out: a source that is in no node; a second source.
-fn is_registered(x: Row, s: Row, v: Row) -> bool
+fn is_registered(x: Row, s: u32, v: u32) -> bool
     ensures { λ r. ⌜ SaysOf x s v r (λ y rs. isRegistered y (sourceOf rs y)) ⌝ }
 {
     let node = is_node(x.place);
     let copied = is_copied(x.kind);
-    let from = is_node(s.place);
+    let from = node_in(s);
     node & (copied & (from & ((x.via == 0) & (x.request == 0))))
 }
 
 // Ruled out: a source that is in no node; a second source that is an operation.
-fn is_held(x: Row, s: Row, v: Row) -> bool
+fn is_held(x: Row, s: u32, v: u32) -> bool
     ensures { λ r. ⌜ SaysOf x s v r (λ y rs. isHeld y (sourceOf rs y) (viaOf rs y)) ⌝ }
 {
     let home = is_clist(x.place);
     let copied = is_copied(x.kind);
-    let from = is_node(s.place);
-    let through = (x.via == 0) | (v.kind == A_SUBDIRECTORY);
+    let from = node_in(s);
+    let kind = kind_in(v);
+    let through = (x.via == 0) | (kind == A_SUBDIRECTORY);
     home & (copied & (from & (through & (x.request == 0))))
 }
 
 // Ruled out: an end in a node; an end whose source is a subdirectory.
-fn is_port_end(x: Row, s: Row, v: Row) -> bool
+fn is_port_end(x: Row, s: u32, v: u32) -> bool
     ensures { λ r. ⌜ SaysOf x s v r (λ y rs. isPortEnd y (sourceOf rs y)) ⌝ }
 {
     let end = is_end(x.kind);
     let node = is_node(x.place);
-    let operation = s.kind == AN_OPERATION;
-    end & (!node & (operation & ((x.via == 0) & (x.request == 0))))
+    let kind = kind_in(s);
+    end & (!node & ((kind == AN_OPERATION) & ((x.via == 0) & (x.request == 0))))
 }
 
-// Ruled out: a second source that is a server end; one that is not the port of the request.
-fn is_lent_copy(x: Row, s: Row, v: Row, port: u32) -> bool
-    ensures { λ r. ⌜ SaysOfLoan x s v port r (λ vs y rs. isLentCopy vs y (sourceOf rs y) (viaOf rs y)) ⌝ }
+// A lent copy, but for the port of its request. Ruled out: a second source that is a server end; a copy of an end.
+fn is_copy_over(x: Row, s: u32, v: u32) -> bool
+    ensures { λ r. ⌜ SaysOf x s v r (λ y rs. isCopyOver y (sourceOf rs y) (viaOf rs y)) ⌝ }
 {
     let node = is_node(x.place);
     let copied = is_copied(x.kind);
-    let from = is_copied(s.kind);
-    let client = v.kind == A_CLIENT_END;
-    (0 < x.request) & (!node & (copied & (from & (client & (port == v.number)))))
+    let kind = kind_in(s);
+    let from = is_copied(kind);
+    let over = kind_in(v);
+    (0 < x.request) & (!node & (copied & (from & (over == A_CLIENT_END))))
 }
 
-// A row that was not lent and is no end. Ruled out: a row that is none of the three; an opening row alone.
-fn is_own(x: Row, s: Row, v: Row) -> bool
-    ensures { λ r. ⌜ SaysOf x s v r isOwn ⌝ }
+// One of the five, but for the port of a copy's request. Ruled out: a row that is none of them; an opening row alone.
+pub fn source_right(x: Row, s: u32, v: u32) -> bool
+    ensures { λ r. ⌜ SaysOf x s v r shapeRight ⌝ }
 {
     let opening = is_opening(x);
     let registered = is_registered(x, s, v);
     let held = is_held(x, s, v);
-    opening | (registered | held)
+    let end = is_port_end(x, s, v);
+    let copy = is_copy_over(x, s, v);
+    opening | (registered | (held | (end | copy)))
 }
 
-// One of the five, by what the row itself is. Ruled out: a row that is none of them; an opening row alone.
-pub fn source_right(x: Row, s: Row, v: Row, port: u32) -> bool
-    ensures { λ r. ⌜ SaysOfLoan x s v port r sourceRight ⌝ }
+// Ruled out: the depth of the first source alone decides; the same depth.
+pub fn depth_right(x: Row, s: u32, v: u32) -> bool
+    ensures { λ r. ⌜ SaysOf x s v r depthNext ⌝ }
 {
-    if x.request != 0 {
-        return is_lent_copy(x, s, v, port);
+    let mut top = depth_in(s);
+    let second = depth_in(v);
+    if top < second {
+        top = second;
     }
-    if is_end(x.kind) {
-        return is_port_end(x, s, v);
-    }
-    is_own(x, s, v)
+    follows(top, x.depth)
 }
 
-// Ruled out: the depth of the first source alone decides; depth 13.
-pub fn depth_right(x: Row, s: Row, v: Row) -> bool
-    ensures { λ r. ⌜ SaysOf x s v r depthRight ⌝ }
-{
-    let mut top = s.depth;
-    if top < v.depth {
-        top = v.depth;
-    }
-    let after = follows(top, x.depth);
-    after & (x.depth <= GREATEST_DEPTH)
-}
-
-// Ruled out: a copy with a right that its row lacks; a copy of another object.
-pub fn copy_matches(x: Row, s: Row, v: Row) -> bool
-    ensures { λ r. ⌜ SaysOf x s v r copyMatches ⌝ }
+// The row itself is packed too: w. Ruled out: a copy with a right that its row lacks; a copy of another object.
+pub fn copy_matches(x: Row, w: u32, s: u32, v: u32) -> bool
+    ensures { λ r. ⌜ SaysOfPacked x w s v r copyMatches ⌝ }
 {
     let end = is_end(x.kind);
-    let own = Rights(x.rights);
-    let rights = own.within(Rights(s.rights));
-    let same = (x.kind == s.kind)
-        & ((x.object == s.object) & ((x.operation == s.operation) & rights));
-    (x.source == 0) | (end | same)
+    let own = rights_in(w);
+    let given = rights_in(s);
+    let rights = Rights(own).within(Rights(given));
+    let same = same_object(w, s);
+    (x.source == 0) | (end | (same & rights))
 }
 
-// ---- other rows and requests
+// The clauses of its sources. Ruled out: one of the three tests alone decides; a wrong depth.
+pub fn sources_right(x: Row, w: u32, s: u32, v: u32) -> bool
+    ensures { λ r. ⌜ SaysOfPacked x w s v r bySources ⌝ }
+{
+    let right = source_right(x, s, v);
+    let depth = depth_right(x, s, v);
+    let copy = copy_matches(x, w, s, v);
+    right & (depth & copy)
+}
+
+// ---- other rows
 // Ruled out: ends of two ports; ends whose sources differ.
 pub fn is_paired_with(a: Row, b: Row) -> bool
     ensures { λ r. ⌜ r ≡ isPairedWith a b ⌝ }
 {
     let end = is_end(b.kind);
     end & ((a.object == b.object) & (a.source == b.source))
-}
-
-// Ruled out: a copy that its request does not list; a copy older than its request.
-pub fn copy_listed(x: Row, listed: bool) -> bool
-    ensures { λ r. ⌜ SaysListed x listed r ⌝ }
-{
-    (x.request == 0) | ((x.request < x.number) & listed)
 }

@@ -1,13 +1,9 @@
-// The rows are sound: the clauses of every row, the oldest first.
-use crate::row_clauses::copy_listed;
-use crate::row_clauses::copy_matches;
-use crate::row_clauses::depth_right;
-use crate::row_clauses::follows;
+// The rows are sound: the clauses of every row, the oldest first, in one loop for each group of clauses.
+use crate::packed::PACKED;
+use crate::packed::pack;
 use crate::row_clauses::is_paired_with;
-use crate::row_clauses::object_in_range;
-use crate::row_clauses::place_in_range;
-use crate::row_clauses::right_in_range;
-use crate::row_clauses::source_right;
+use crate::row_clauses::own_right;
+use crate::row_clauses::sources_right;
 use rows::Found;
 use rows::Row;
 use rows::codes::A_CLIENT_END;
@@ -20,14 +16,13 @@ use rows::read::row_at;
 ghost use mathlib.Core.Path.{_≡_};
 ghost use Prim.Native.Nat.{_<_, _≤_};
 ghost use Rattle.rows.specs.Tables.{requestOf, lists};
-ghost use Rattle.rows.specs.Sound.{endPaired};
 ghost use Rattle.rows.specs.Layout.{recordsIn};
 ghost use Rattle.rows.specs.contracts.Sizes.{ROWS, REQUESTS, IsTables, IsRecords};
-ghost use Rattle.rows.specs.contracts.OfState.{OfRequests, Tests};
-ghost use Rattle.soundness_rows.specs.contracts.AtSlot.{OfRowAt, OfRowAmong, OfSources, OfSlot};
-ghost use Rattle.soundness_rows.specs.contracts.Seen.{SaysOfLoan, SourcesBefore, SourcesOlder, slotRow};
-ghost use Rattle.soundness_rows.specs.contracts.Clauses.{fieldsInRange, sourceClauses, pairedAbove, pairedBelow};
-ghost use Rattle.soundness_rows.specs.contracts.Clauses.{allOfRows};
+ghost use Rattle.rows.specs.contracts.OfState.{OfRows, OfRequests, TestsTables, Tests};
+ghost use Rattle.soundness_rows.specs.contracts.AtSlot.{OfNeighbours, OfPorts, OfSources, OfLoan, OfFaithful};
+ghost use Rattle.soundness_rows.specs.contracts.Seen.{SourcesBefore, SourcesOlder, slotRow};
+ghost use Rattle.soundness_rows.specs.contracts.Packed.{PacksRows};
+ghost use Rattle.soundness_rows.specs.contracts.Clauses.{fieldsAndSources, loansRight, allOfRows};
 
 // What the request that a row bears says: its port, and whether it lists the row.
 pub struct Loan {
@@ -84,97 +79,119 @@ fn loan_of(t: &[u32], m: usize, q: u32, e: u32) -> Loan
 }
 
 // ---- ends in pairs
-// The client end x at slot i has its server end in the next slot.
-// Ruled out: a server end further on; the end of another port.
-fn pair_above(t: &[u32], x: Row, i: usize, n: usize) -> bool
-    requires { ⌜ IsTables (now t) × (i < ROWS) × (n ≤ ROWS) ⌝ }
-    ensures { λ r. ⌜ OfRowAmong (now (t .entry)) n x i r pairedAbove ⌝ }
+// Two rows of neighbouring slots: a client end stands right before the server end of its port, and nothing else does.
+// Ruled out: a server end after another row; a client end before the end of another port.
+fn beside(a: Row, b: Row) -> bool
+    ensures { λ r. ⌜ OfNeighbours a b r ⌝ }
 {
-    let j = i + 1;
-    if n <= j {
-        return false;
+    let client = a.kind == A_CLIENT_END;
+    let server = b.kind == A_SERVER_END;
+    let paired = is_paired_with(b, a);
+    (client & (server & paired)) | (!client & !server)
+}
+
+// Ends stand in pairs, where they have the objects that their numbers tell.
+// Ruled out: yes for an oldest row that is a server end; yes for a newest row that is a client end.
+fn ends_paired(t: &[u32], n: usize) -> bool
+    requires { ⌜ IsTables (now t) × (n ≤ ROWS) ⌝ }
+    ensures { λ r. ⌜ OfPorts (now (t .entry)) n r ⌝ }
+{
+    if n == 0 {
+        return true;
     }
-    let z = row_at(t, j);
-    let next = follows(x.number, z.number);
-    let paired = is_paired_with(x, z);
-    next & paired
-}
-
-// The server end x at slot i has its client end in the slot before.
-// Ruled out: a client end further back; the end of another port.
-fn pair_below(t: &[u32], x: Row, i: usize) -> bool
-    requires { ⌜ IsTables (now t) × (i < ROWS) ⌝ }
-    ensures { λ r. ⌜ OfRowAt (now (t .entry)) x i r pairedBelow ⌝ }
-{
-    if i == 0 {
-        return false;
+    let oldest = row_at(t, 0);
+    let mut right = !(oldest.kind == A_SERVER_END);
+    let mut i = 0;
+    while i < n - 1 {
+        let a = row_at(t, i);
+        i += 1;
+        let b = row_at(t, i);
+        right = beside(a, b) & right;
     }
-    let z = row_at(t, i - 1);
-    let next = follows(z.number, x.number);
-    let paired = is_paired_with(x, z);
-    next & paired
+    let newest = row_at(t, i);
+    right & !(newest.kind == A_CLIENT_END)
 }
 
-// Ruled out: a client end without its server end; a server end without its client end.
-fn end_paired(t: &[u32], x: Row, i: usize, n: usize) -> bool
-    requires { ⌜ IsTables (now t) × (i < ROWS) × (n ≤ ROWS) ⌝ }
-    ensures { λ r. ⌜ OfRowAmong (now (t .entry)) n x i r endPaired ⌝ }
-{
-    if x.kind == A_CLIENT_END {
-        return pair_above(t, x, i, n);
-    }
-    if x.kind == A_SERVER_END {
-        return pair_below(t, x, i);
-    }
-    true
-}
-
-// ---- all of it
-// Ruled out: one of the three tests alone decides; rights or a place out of range.
-fn fields_in_range(x: Row, p: &[u32]) -> bool
-    requires { ⌜ IsRecords (now p) ⌝ }
-    ensures { λ r. ⌜ r ≡ fieldsInRange (recordsIn (now (p .entry))) x ⌝ }
-{
-    let object = object_in_range(x, p);
-    let right = right_in_range(x);
-    let place = place_in_range(x, p);
-    object & (right & place)
-}
-
-// Ruled out: one of the three tests alone decides; a wrong depth.
-fn by_sources(x: Row, s: Row, v: Row, port: u32) -> bool
-    ensures { λ r. ⌜ SaysOfLoan x s v port r sourceClauses ⌝ }
-{
-    let right = source_right(x, s, v, port);
-    let depth = depth_right(x, s, v);
-    let copy = copy_matches(x, s, v);
-    right & (depth & copy)
-}
-
-// Ruled out: the tests of another row's sources; a copy that its request does not list.
-fn sources_sound(t: &[u32], x: Row, m: usize) -> bool
-    requires { ⌜ IsTables (now t) × (m ≤ REQUESTS) × (x .source ≤ ROWS) × (x .via ≤ ROWS) ⌝ }
-    ensures { λ r. ⌜ OfSources (now (t .entry)) m x r ⌝ }
-{
-    let s = source_row(t, x.source);
-    let v = source_row(t, x.via);
-    let loan = loan_of(t, m, x.request, x.number);
-    let right = by_sources(x, s, v, loan.port);
-    let listed = copy_listed(x, loan.listed);
-    right & listed
-}
-
-// The clauses of the row at slot i. Ruled out: a row whose fields alone are right; the row at another slot.
-fn row_sound(t: &[u32], p: &[u32], i: usize, n: usize, m: usize) -> bool
-    requires sizes { ⌜ IsTables (now t) × IsRecords (now p) × (i < ROWS) × (n ≤ ROWS) × (m ≤ REQUESTS) ⌝ }
+// ---- of one slot
+// The clauses of the sources of the row at slot i. Ruled out: the sources of another row; the word of the slot before.
+fn sources_at(t: &[u32], packs: &[u32; PACKED], i: usize, n: usize) -> bool
+    requires sizes { ⌜ IsTables (now t) × (i < n) × (n ≤ ROWS) ⌝ }
     requires sources { ⌜ SourcesBefore (now t) i ⌝ }
-    ensures { λ r. ⌜ OfSlot (now (t .entry)) (now (p .entry)) n m i r ⌝ }
+    requires packed { ⌜ PacksRows (now t) n (now packs) ⌝ }
+    ensures { λ r. ⌜ OfSources (now (t .entry)) n i r ⌝ }
 {
     let x = row_at(t, i);
-    let fields = fields_in_range(x, p);
-    let sources = sources_sound(t, x, m);
-    let paired = end_paired(t, x, i, n);
-    fields & (sources & paired)
+    let w = packs[i + 1];
+    let s = packs[x.source as usize];
+    let v = packs[x.via as usize];
+    sources_right(x, w, s, v)
+}
+
+// The request that the row at slot i bears, if it bears one: it is older, it lists the row, and its port is the row's
+// second source. Ruled out: a copy that its request does not list; a copy over another port.
+fn loan_right(t: &[u32], i: usize, m: usize) -> bool
+    requires sizes { ⌜ IsTables (now t) × (i < ROWS) × (m ≤ REQUESTS) ⌝ }
+    requires sources { ⌜ SourcesBefore (now t) i ⌝ }
+    ensures { λ r. ⌜ OfLoan (now (t .entry)) m i r ⌝ }
+{
+    let x = row_at(t, i);
+    if x.request == 0 {
+        return true;
+    }
+    let loan = loan_of(t, m, x.request, x.number);
+    let v = source_row(t, x.via);
+    (x.request < x.number) & (loan.listed & (loan.port == v.number))
+}
+
+// ---- of all rows
+// Ruled out: the last row alone decides; a row past the first n.
+fn packed_sound(t: &[u32], packs: &[u32; PACKED], n: usize) -> bool
+    requires sizes { ⌜ IsTables (now t) × (n ≤ ROWS) ⌝ }
+    requires sources { ⌜ SourcesOlder (now t) n ⌝ }
+    requires packed { ⌜ PacksRows (now t) n (now packs) ⌝ }
+    ensures { λ r. ⌜ OfFaithful (now (t .entry)) n r ⌝ }
+{
+    let mut right = true;
+    let mut i = 0;
+    while i < n {
+        right = sources_at(t, packs, i, n) & right;
+        i += 1;
+    }
+    right
+}
+
+// The clauses of fields and of sources: in one loop fields are tested and rows packed, in the next their sources.
+// Ruled out: words left from no row; the last row is not tested.
+fn sources_sound(t: &[u32], p: &[u32], n: usize) -> bool
+    requires sizes { ⌜ IsTables (now t) × IsRecords (now p) × (n ≤ ROWS) ⌝ }
+    requires sources { ⌜ SourcesOlder (now t) n ⌝ }
+    ensures { λ r. ⌜ OfRows (now (t .entry)) n r (fieldsAndSources (recordsIn (now (p .entry)))) ⌝ }
+{
+    let mut packs = [0u32; PACKED];
+    let mut right = true;
+    let mut i = 0;
+    while i < n {
+        let x = row_at(t, i);
+        right = own_right(x, p) & right;
+        i += 1;
+        packs[i] = pack(x);
+    }
+    right & packed_sound(t, &packs, n)
+}
+
+// Ruled out: the last row alone decides; a copy that only another request lists.
+fn loans_right(t: &[u32], n: usize, m: usize) -> bool
+    requires sizes { ⌜ IsTables (now t) × (n ≤ ROWS) × (m ≤ REQUESTS) ⌝ }
+    requires sources { ⌜ SourcesOlder (now t) n ⌝ }
+    ensures { λ r. ⌜ TestsTables (now (t .entry)) n m r loansRight ⌝ }
+{
+    let mut right = true;
+    let mut i = 0;
+    while i < n {
+        right = loan_right(t, i, m) & right;
+        i += 1;
+    }
+    right
 }
 
 // The clauses of every row. Ruled out: a last row that is not tested; true where one row breaks one clause.
@@ -183,13 +200,8 @@ pub fn rows_sound(t: &[u32], p: &[u32], n: usize, m: usize) -> bool
     requires sources { ⌜ SourcesOlder (now t) n ⌝ }
     ensures { λ r. ⌜ Tests (now (t .entry)) (now (p .entry)) n m r allOfRows ⌝ }
 {
-    let mut i = 0;
-    while i < n {
-        let good = row_sound(t, p, i, n, m);
-        if !good {
-            return false;
-        }
-        i += 1;
-    }
-    true
+    let sources = sources_sound(t, p, n);
+    let paired = ends_paired(t, n);
+    let loans = loans_right(t, n, m);
+    sources & (paired & loans)
 }

@@ -31,9 +31,17 @@ OfRequest t n j r F = OfRows t n r (λ rs. F rs (requestAt t j))
 abbrev pub numberApart : List Row → Request → Bool
 numberApart rs v = not (member (v .number) (numbers rs))
 
+-- the request in slot j lists nothing
+abbrev pub ListsNone : List ℕ → ℕ → Type 0
+ListsNone t j = requestAt t j .items ≡ 0 ∷ 0 ∷ 0 ∷ 0 ∷ []
+
 -- each of its items may be listed
 abbrev pub itemsListable : List Row → Request → Bool
 itemsListable rs v = all (λ e. mayBeListed v (rowOf rs e)) (nonzero (v .items))
+
+-- none of them stands twice either
+abbrev pub itemsRight : List Row → Request → Bool
+itemsRight rs v = distinct (nonzero (v .items)) && itemsListable rs v
 
 -- r says that e is no item, or one that a request numbered q may list
 abbrev pub TestsItem : List ℕ → ℕ → ℕ → ℕ → Bool → Type 0
@@ -44,7 +52,7 @@ TestsItem t n q e r =
 -- what is asked of each request by itself, but for its port
 unfoldable pub requestRight : List Process → List Row → Request → Bool
 requestRight ps rs v =
-    numberApart rs v && (leb (v .fetched) 1 && (isListed ps (v .asker) && (distinct (nonzero (v .items)) && itemsListable rs v)))
+    numberApart rs v && (leb (v .fetched) 1 && (isListed ps (v .asker) && itemsRight rs v))
 
 -- the slot plus 1 of the client end of its port, if that stands
 unfoldable pub standingPort : List Row → Request → ℕ

@@ -1,37 +1,45 @@
 -- What contracts of a test of one slot say.
-use Prim.Native.Nat.{ℕ}
+use Prim.Native.Nat.{ℕ, suc, _+_}
 use mathlib.Core.Bool.{Bool}
 use mathlib.Core.List.{List, _∷_, _++_}
 use mathlib.Core.Path.{_≡_}
 use lib.ListN.{length}
 use Rattle.rows.specs.declared.Row.{Row}
 use Rattle.rows.specs.Tables.{State}
-use Rattle.rows.specs.Layout.{recordsIn, rawRow}
+use Rattle.rows.specs.Lists.{each}
+use Rattle.rows.specs.Sound.{endsPaired}
+use Rattle.rows.specs.Layout.{rawRow}
 use Rattle.rows.specs.contracts.Represents.{Represents}
-use Rattle.soundness_rows.specs.contracts.Clauses.{sourceAndLoan, rowSound}
+use Rattle.soundness_rows.specs.contracts.Clauses.{bySources, loanRight, besideOlder}
+use Rattle.soundness_rows.specs.contracts.Packed.{Faithful}
 
 -- b is what the test says of the element at slot i, counted from the oldest, with the older ones at hand
 pub record AtSlot {A : Type 0} (F : A → List A → Bool) (xs : List A) (i : ℕ) (b : Bool) : Type 0 where
   pub told : (new : List A) (x : A) (old : List A) → xs ≡ new ++ (x ∷ old) → length old ≡ i → b ≡ F x old
 
--- ---- of every state that t represents, x the words of slot i
--- r is what F, which may look at all rows, says of the row at slot i
-abbrev pub OfRowAt : List ℕ → Row → ℕ → Bool → (List Row → Row → Bool) → Type 0
-OfRowAt t x i r F = (st : State) → Represents t st → x ≡ rawRow t i → AtSlot (λ y old. F (st .rows) y) (st .rows) i r
+-- ends have the object that their number tells
+pub record PortsNamed (rs : List Row) : Type 0 where
+  pub client : (new : List Row) (y : Row) (old : List Row) → rs ≡ new ++ (y ∷ old) → y .kind ≡ 3 → y .object ≡ y .number
+  pub server : (new : List Row) (y : Row) (old : List Row) → rs ≡ new ++ (y ∷ old) → y .kind ≡ 4 → suc (y .object) ≡ y .number
 
--- the same, where n rows stand
-abbrev pub OfRowAmong : List ℕ → ℕ → Row → ℕ → Bool → (List Row → Row → Bool) → Type 0
-OfRowAmong t n x i r F =
-    (st : State) → Represents t st → n ≡ length (st .rows) → x ≡ rawRow t i → AtSlot (λ y old. F (st .rows) y) (st .rows) i r
+-- ---- of every state that t represents
+-- r says of every two rows whose words a and b are, b right after a, whether they may stand so
+abbrev pub OfNeighbours : Row → Row → Bool → Type 0
+OfNeighbours a b r = (t : List ℕ) (st : State) (i : ℕ) → Represents t st → a ≡ rawRow t i → b ≡ rawRow t (i + 1) → AtSlot besideOlder (st .rows) (i + 1) r
 
--- r is what the clauses of sources and loans say of the row, whatever its slot, where m requests stand
-abbrev pub OfSources : List ℕ → ℕ → Row → Bool → Type 0
-OfSources t m x r =
-    (st : State) (i : ℕ) → Represents t st → m ≡ length (st .requests) → x ≡ rawRow t i
-    → AtSlot (λ y old. sourceAndLoan (st .requests) y old) (st .rows) i r
+-- r says whether ends stand in pairs, where n rows stand whose ends have the objects that their numbers tell
+abbrev pub OfPorts : List ℕ → ℕ → Bool → Type 0
+OfPorts t n r = (st : State) → Represents t st → n ≡ length (st .rows) → PortsNamed (st .rows) → r ≡ endsPaired (st .rows)
 
--- r is what all clauses say of the row at slot i, where the records p, n rows and m requests stand
-abbrev pub OfSlot : List ℕ → List ℕ → ℕ → ℕ → ℕ → Bool → Type 0
-OfSlot t p n m i r =
-    (st : State) → Represents t st → st .processes ≡ recordsIn p → n ≡ length (st .rows) → m ≡ length (st .requests)
-    → AtSlot (rowSound st) (st .rows) i r
+-- r is what the clauses of sources say of the row at slot i, where n rows stand, whose words tell what they say
+abbrev pub OfSources : List ℕ → ℕ → ℕ → Bool → Type 0
+OfSources t n i r = (st : State) → Represents t st → n ≡ length (st .rows) → Faithful (st .rows) → AtSlot bySources (st .rows) i r
+
+-- the same of all rows
+abbrev pub OfFaithful : List ℕ → ℕ → Bool → Type 0
+OfFaithful t n r = (st : State) → Represents t st → n ≡ length (st .rows) → Faithful (st .rows) → r ≡ each bySources (st .rows)
+
+-- r is what the clause of the request that it bears says of the row at slot i, where m requests stand
+abbrev pub OfLoan : List ℕ → ℕ → ℕ → Bool → Type 0
+OfLoan t m i r =
+    (st : State) → Represents t st → m ≡ length (st .requests) → AtSlot (λ y old. loanRight (st .requests) y) (st .rows) i r

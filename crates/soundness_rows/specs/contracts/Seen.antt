@@ -6,11 +6,10 @@ use mathlib.Core.Path.{_≡_}
 use lib.Dec.{eqb}
 use lib.ListN.{getD}
 use Rattle.rows.specs.declared.Row.{Row}
-use Rattle.rows.specs.declared.Request.{Request}
-use Rattle.rows.specs.Tables.{noRow, rowOf, requestOf, lists}
-use Rattle.rows.specs.Sound.{copyListed}
+use Rattle.rows.specs.Tables.{noRow, rowOf}
 use Rattle.rows.specs.Layout.{rawRow}
 use Rattle.rows.specs.contracts.Sizes.{SOURCE, VIA}
+use Rattle.soundness_rows.specs.contracts.Packed.{Packs}
 
 -- x is y, but for the sources
 pub record Same (x y : Row) : Type 0 where
@@ -23,28 +22,22 @@ pub record Same (x y : Row) : Type 0 where
   pub depth : x .depth ≡ y .depth
   pub request : x .request ≡ y .request
 
--- y is a row of the state, rs the older rows; x is y with its sources as slots plus 1, s and v are those sources, `noRow` for none
-pub record Seen (x s v y : Row) (rs : List Row) : Type 0 where
+-- y is a row of the state, rs the older rows; x is y with its sources as slots plus 1, s and v pack those sources, or no row
+pub record Seen (x : Row) (s v : ℕ) (y : Row) (rs : List Row) : Type 0 where
   pub own : Same x y
-  pub source : Same s (rowOf rs (y .source))
-  pub via : Same v (rowOf rs (y .via))
+  pub source : Packs s (rowOf rs (y .source))
+  pub via : Packs v (rowOf rs (y .via))
   pub source-none : eqb (x .source) 0 ≡ eqb (y .source) 0
   pub via-none : eqb (x .via) 0 ≡ eqb (y .via) 0
-  pub via-number : v .number ≡ y .via
 
 -- ---- what a test of the words x, s and v says
 -- r is F of every row y and older rows that have those words
-abbrev pub SaysOf : Row → Row → Row → Bool → (Row → List Row → Bool) → Type 0
+abbrev pub SaysOf : Row → ℕ → ℕ → Bool → (Row → List Row → Bool) → Type 0
 SaysOf x s v r F = (y : Row) (rs : List Row) → Seen x s v y rs → r ≡ F y rs
 
--- r is F of them and of every list of requests in which the request that y bears is on that port
-abbrev pub SaysOfLoan : Row → Row → Row → ℕ → Bool → (List Request → Row → List Row → Bool) → Type 0
-SaysOfLoan x s v port r F =
-    (y : Row) (rs : List Row) (vs : List Request) → Seen x s v y rs → port ≡ requestOf vs (y .request) .port → r ≡ F vs y rs
-
--- r is the clause of a copy's listing, where `listed` says whether the request that x bears lists x
-abbrev pub SaysListed : Row → Bool → Bool → Type 0
-SaysListed x listed r = (vs : List Request) → listed ≡ lists (x .number) (requestOf vs (x .request)) → r ≡ copyListed vs x
+-- the same, where w packs the row itself
+abbrev pub SaysOfPacked : Row → ℕ → ℕ → ℕ → Bool → (Row → List Row → Bool) → Type 0
+SaysOfPacked x w s v r F = (y : Row) (rs : List Row) → Seen x s v y rs → Packs w y → r ≡ F y rs
 
 -- ---- source words
 -- the sources of the row at slot i are slots before its own, plus 1, or 0; those of the first n rows are

@@ -14,19 +14,15 @@ fetched-in-range-requires c κs = search needs
 requester-listed-requires : tie.Need-requester-listed-requires
 requester-listed-requires c κs = search needs
 
-items-apart-requires : tie.Need-items-apart-requires
-items-apart-requires c κs = search needs
-
-items-lent-requires : tie.Need-items-lent-requires
-items-lent-requires c κs = search needs
+items-right-requires : tie.Need-items-right-requires
+items-right-requires c κs = search needs
 
 returns : tie.Need-returns
 unfolding requestRight
-returns c = λ st rep e i.
-    let asked = c .before .before in
-    let fetched = asked .before in
-    fetched .before .number-apart .ensures st rep e i
-    && (fetched .fetched-in-range .ensures i && (asked .requester-listed .ensures i && (c .before .items-apart .ensures i && c .items-lent .ensures st rep e i)))
+returns c =
+    λ st rep e i.
+    c .before .before .before .number-apart .ensures st rep e i
+    && (c .before .before .fetched-in-range .ensures i && (c .before .requester-listed .ensures i && c .items-right .ensures st rep e i))
 
 pub request-right-spec : {M : Type 1} → statement M
 request-right-spec =
@@ -35,6 +31,5 @@ request-right-spec =
     number-apart-requires
     fetched-in-range-requires
     requester-listed-requires
-    items-apart-requires
-    items-lent-requires
+    items-right-requires
     returns)

@@ -1,26 +1,40 @@
--- `row_clauses::copy_matches` meets its contract: the definition, test by test.
+-- `row_clauses::copy_matches` meets its contract: of an end nothing is asked; else kind, operation and object as one number, and the rights.
 use borrow.Author.Needs.{needs}
 use mathlib.Core.Path.{refl}
-use Rattle.rows.specs.Sound.{matchesSource}
+use Rattle.rows.specs.Tables.{rowOf}
+use Rattle.soundness_rows.proofs.RowClauses.{copy-split}
 use Rattle.soundness_rows.proofs.row_clauses.copy_matches.Statement.{statement}
 use Rattle.soundness_rows.proofs.row_clauses.copy_matches.Tie as tie
 
 is-end-requires : tie.Need-is-end-requires
 is-end-requires c κs = search needs
 
+rights-in-requires : tie.Need-rights-in-requires
+rights-in-requires c κs = search needs
+
+rights-in-requires-2 : tie.Need-rights-in-requires-2
+rights-in-requires-2 c κs = search needs
+
 within-requires : tie.Need-within-requires
 within-requires c κs = search needs
 
+same-object-requires : tie.Need-same-object-requires
+same-object-requires c κs = search needs
+
 returns : tie.Need-returns
-unfolding matchesSource
 returns c =
-    λ y rs h.
-    let kind = c .before .before .before in
-    let rights = kind .before .before .before .before in
-    let x = h .own in
-    let s = h .source in
-    rw (rights .before .is-end .ensures, rights .within .ensures)
-    (rw (h .source-none, x .kind, x .object, x .operation, x .rights, s .kind, s .object, s .operation, s .rights) refl)
+    λ y rs h p.
+    let src = rowOf rs (y .source) in
+    rw (c .before .before .before .before .before .is-end .ensures, c .before .before .within .ensures, c .before .before .before .before .rights-in .ensures y p, c .before .before .before .rights-in2 .ensures src (h .source), h .own .kind, h .source-none)
+    (copy-split rs y (c .before .same-object .result) (c .before .same-object .ensures y src p (h .source)))
 
 pub copy-matches-spec : {M : Type 1} → statement M
-copy-matches-spec = tie.close (tie.spec is-end-requires within-requires returns)
+copy-matches-spec =
+    tie.close
+    (tie.spec
+    is-end-requires
+    rights-in-requires
+    rights-in-requires-2
+    within-requires
+    same-object-requires
+    returns)
