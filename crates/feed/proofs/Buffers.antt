@@ -21,24 +21,31 @@ use Rattle.text.proofs.OpeningLaws.{line-split, line-some}
 use Rattle.feed.specs.declared.Stage.the-variants.{Calls, Over}
 use Rattle.feed.specs.declared.Kept.{Kept}
 use Rattle.feed.specs.Feeding.{keptOfLine, cut, withLine, goesOn, stageAfter}
-use Rattle.feed.specs.contracts.Buffers.{LINE, feed-sizes-meant, sessionIn, HasRoom, KeepsByte}
+use Rattle.feed.specs.contracts.Buffers.{LINE, feed-sizes-meant, sessionIn, Stands, HasRoom, KeepsByte}
 use Rattle.feed.proofs.Lines.{cut-all, cut-full}
+
+-- ---- what stands in the buffer has its length
+pub text-long : (k : Kept) (b : List ℕ) → Stands k b → length (take (k .text) b) ≡ k .text
+text-long k b stands = length-take-le (k .text) b (omega arith)
+
+pub line-long : (k : Kept) (b : List ℕ) → Stands k b → length (take (k .line) (drop (k .text) b)) ≡ k .line
+line-long k b stands = let m = length-drop (k .text) b in length-take-le (k .line) (drop (k .text) b) (omega arith)
 
 -- ---- a byte is kept
 module _ (c : ℕ) (k : Kept) (b : List ℕ) (room : HasRoom k b) where
   begun-line : List ℕ
   begun-line = take (k .line) (drop (k .text) b)
 
-  line-long : length begun-line ≡ k .line
+  begun-long : length begun-line ≡ k .line
   unfolding begun-line
-  line-long = let m = length-drop (k .text) b in length-take-le (k .line) (drop (k .text) b) (omega arith)
+  begun-long = line-long k b (omega arith)
 
   -- a full line stays
   pub byte-full : k .line ≡ LINE → KeepsByte c k b k b
   unfolding sessionIn begun-line
   byte-full full =
       record {
-        session = λ t p. ap (λ l. withLine l (sessionIn k b t p)) (sym (cut-full begun-line (c ∷ []) (line-long ∙ full ∙ feed-sizes-meant .line)));
+        session = λ t p. ap (λ l. withLine l (sessionIn k b t p)) (sym (cut-full begun-line (c ∷ []) (begun-long ∙ full ∙ feed-sizes-meant .line)));
         stands = omega arith;
       }
 
@@ -46,7 +53,7 @@ module _ (c : ℕ) (k : Kept) (b : List ℕ) (room : HasRoom k b) where
   line-more : (k .line ≡ LINE → ⊥) → take (k .line + 1) (drop (k .text) (set b (k .text + k .line) c)) ≡ cut (begun-line ++ (c ∷ []))
   unfolding begun-line
   line-more some =
-      let long = line-long in
+      let long = begun-long in
       let m = length-drop (k .text) b in
       let n = length-append begun-line (c ∷ []) in
       let size = feed-sizes-meant .line in

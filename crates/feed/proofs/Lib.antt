@@ -5,3 +5,5 @@ pub mod Replies
 pub mod Feeding
 pub mod Prints
 pub mod Buffers
+pub mod Moves
+pub mod Parts

@@ -6,10 +6,13 @@ use mathlib.Core.Path.{_≡_, refl}
 use lib.ListN.{length, take, drop}
 use Rattle.rows.specs.Limits.{nodes, processes, mostBytes}
 use Rattle.rows.specs.Layout.{rightLengths}
+use Rattle.rows.specs.contracts.Sizes.{IsTables, IsRecords}
 use Rattle.text.specs.Entry.{openEntry}
 use Rattle.feed.specs.declared.Stage.{Stage}
 use Rattle.feed.specs.declared.Kept.{Kept}
-use Rattle.feed.specs.Feeding.{keptOfLine, cut, Session, begun, withLine, Step, stageAfter, lineFed, partsFed}
+use Rattle.feed.specs.declared.Moved.{Moved}
+use Rattle.feed.specs.declared.Fed.{Fed}
+use Rattle.feed.specs.Feeding.{keptOfLine, cut, Session, begun, withLine, Step, stageAfter, lineFed, fed, partsFed}
 use Rattle.feed.specs.Prints.{mostText}
 
 -- ---- sizes, named in contracts as in code
@@ -83,6 +86,14 @@ pub record Takes (x : Step) (k : Kept) (b t p out after : List ℕ) (n : ℕ) : 
   pub stands : Stands k b
   pub writes : Writes (x .printed) out after n
 
+-- what is kept, and how many bytes were printed, at the start of a line
+abbrev pub atLineStart : Stage → ℕ → ℕ → Moved
+atLineStart g text n = record { kept = record { stage = g; text = text; line = 0 }; printed = n }
+
+-- what f does to the session of k in the buffer b and the runs t and p is done: now it is that of r in a, u and v
+abbrev pub Moves : (Session → Step) → Kept → List ℕ → List ℕ → List ℕ → List ℕ → Moved → List ℕ → List ℕ → List ℕ → List ℕ → Type 0
+Moves f k b t p out r a u v after = Takes (f (sessionIn k b t p)) (r .kept) a u v out after (r .printed)
+
 -- the line begun has ended
 abbrev pub lineEnded : Session → Step
 lineEnded s = lineFed (s .stage) s (s .line)
@@ -94,3 +105,11 @@ bytesOf part at next = take (next - at) (drop at part)
 -- a part is read from a position on, up to its end unless `out` is full, and some bytes of it if any are left
 abbrev pub ReadsOn : ℕ → List ℕ → ℕ → Type 0
 ReadsOn at part next = (at ≤ next) × (next ≤ length part) × (at < length part → at < next)
+
+-- the bytes up to the position r .next are fed
+abbrev pub Feeds : List ℕ → ℕ → Kept → List ℕ → List ℕ → List ℕ → List ℕ → Fed → List ℕ → List ℕ → List ℕ → List ℕ → Type 0
+Feeds part at k b t p out r a u v after = Takes (fed (sessionIn k b t p) (bytesOf part at (r .next))) (r .kept) a u v out after (r .printed)
+
+-- a session begins, in any buffer and runs of the right size
+abbrev pub Begins : Kept → Type 0
+Begins r = (b t p : List ℕ) → length b ≡ KEPT → IsTables t → IsRecords p → Ready r b t p
