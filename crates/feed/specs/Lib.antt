@@ -1,5 +1,6 @@
 -- Definitions of the program's reading: a session fed in parts, and what it promises; the tests are computed.
 pub mod Feeding
 pub mod Prints
+pub mod contracts
 pub mod Computes
 pub mod tests

@@ -1,0 +1,40 @@
+// Lines across parts: a byte is kept of the line begun; the lines of a text are counted.
+use crate::Kept;
+use crate::LINE;
+use text::opening_lines::line_end;
+ghost use mathlib.Core.Path.{_≡_};
+ghost use lib.ListN.{length};
+ghost use Rattle.text.specs.Opening.{linesOf};
+ghost use Rattle.feed.specs.contracts.Buffers.{HasRoom, KeepsByte};
+
+// One more byte of the line begun, if it has room.
+// Ruled out: 256 bytes kept, so that a line of 256 bytes is a call; a byte over the opening's text.
+pub fn keep_byte(kept: &mut [u8], k: Kept, b: u8) -> Kept
+    requires { ⌜ HasRoom k (now kept) ⌝ }
+    ensures { λ r. ⌜ KeepsByte b k (now (kept .entry)) r (now (kept .exit)) ⌝ }
+{
+    if k.line == LINE {
+        return k;
+    }
+    let at = k.text + k.line;
+    kept[at] = b;
+    let stage = k.stage;
+    Kept {
+        stage,
+        text: k.text,
+        line: k.line + 1,
+    }
+}
+
+// How many lines a text has. Ruled out: a last line without its line feed is not counted.
+pub fn count_lines(text: &[u8]) -> usize
+    ensures { λ r. ⌜ r ≡ length (linesOf (now (text .entry))) ⌝ }
+{
+    let mut at = 0;
+    let mut n = 0;
+    while at < text.len() {
+        at = line_end(text, at);
+        n += 1;
+    }
+    n
+}
