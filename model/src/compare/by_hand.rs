@@ -45,9 +45,13 @@ fn claim(case: &cases::Case) -> Option<String> {
             format!("(stateOf {} {})", runs(&tables), runs(&records))
         }
     };
+    Some(format!("{told} && {}", clause_alone(&state, clause)))
+}
+
+/// This clause breaks in the state, and no other.
+pub fn clause_alone(state: &str, clause: usize) -> String {
     let holds = CLAUSES.iter().map(|c| u32::from(*c != clause));
-    let alone = same(&format!("clauses {state}"), &list(holds));
-    Some(format!("{told} && {alone}"))
+    same(&format!("clauses {state}"), &list(holds))
 }
 
 /// The clauses in the order in which Sound.antt has them in its five parts.

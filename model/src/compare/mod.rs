@@ -12,6 +12,7 @@ pub mod histories;
 pub mod limits;
 pub mod random_tables;
 pub mod sessions;
+pub mod shapes;
 pub mod smaller;
 pub mod states;
 pub mod tables;
@@ -50,10 +51,11 @@ pub struct Sizes {
 /// All cases of a seed.
 pub fn cases(seed: u64, sizes: Sizes) -> std::io::Result<Vec<Case>> {
     let mut rng = Rng::new(seed);
-    let mut cases = match sizes.by_hand {
-        0 => Vec::new(),
-        _ => by_hand::by_hand()?,
-    };
+    let mut cases = Vec::new();
+    if sizes.by_hand > 0 {
+        cases.extend(by_hand::by_hand()?);
+        cases.extend(shapes::shapes());
+    }
     cases.extend(sessions::conformance(sizes.lines)?);
     if sizes.lines > 0 {
         cases.extend(sessions::of_manual()?);
