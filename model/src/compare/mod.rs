@@ -26,7 +26,7 @@ use crate::random::Rng;
 /// How many cases of each sort are written.
 #[derive(Clone, Copy, Debug)]
 pub struct Sizes {
-    /// 0: none of the cases of cases/, else all.
+    /// The most rows of a case of cases/; 0: none of them.
     pub by_hand: usize,
     /// Lines of the longest conformance session; 0: none, and none of the manual.
     pub lines: usize,
@@ -53,7 +53,8 @@ pub fn cases(seed: u64, sizes: Sizes) -> std::io::Result<Vec<Case>> {
     let mut rng = Rng::new(seed);
     let mut cases = Vec::new();
     if sizes.by_hand > 0 {
-        cases.extend(by_hand::by_hand()?);
+        cases.extend(by_hand::by_hand(sizes.by_hand)?);
+        cases.extend(by_hand::all_histories()?);
         cases.extend(shapes::shapes());
     }
     cases.extend(sessions::conformance(sizes.lines)?);
