@@ -7,7 +7,7 @@ use model::run_session;
 use std::collections::BTreeSet;
 
 const SIZES: Sizes = Sizes {
-    by_hand: 1,
+    by_hand: 40,
     states: 12,
     lines: 30,
     sessions: 6,

@@ -1,6 +1,7 @@
 //! Writes cases for the prover, as tools/compare asks for them. Usage:
 //!
 //! compare write DIR SEED [--sessions N --calls N --damaged N ..]   all cases of a seed
+//! compare named DIR NAMES [--histories N ..]       the cases of cases/ with these names, and those of seed 1
 //! compare prefixes DIR SORT SESSION       the session cut after some of its lines
 //! compare runs DIR SORT SESSION           the session with many lines left out
 //! compare lines DIR SORT SESSION          the session with few lines left out
@@ -9,7 +10,7 @@
 //! compare show SESSION [ANSWER]           the session with the model's answers
 
 use model::compare::smaller::{self, Claim};
-use model::compare::{bits, write, Case, Sizes};
+use model::compare::{bits, by_hand, write, Case, Sizes};
 use model::session::Session;
 use model::Tables;
 use std::fs;
@@ -23,6 +24,12 @@ fn main() -> Outcome {
     match words.as_slice() {
         ["write", directory, seed, options @ ..] => {
             let cases = model::compare::cases(seed.parse()?, sizes(options)?)?;
+            written(directory, &cases)
+        }
+        ["named", directory, names, options @ ..] => {
+            let names = fs::read_to_string(names)?;
+            let mut cases = by_hand::named(&names.lines().collect::<Vec<_>>())?;
+            cases.extend(model::compare::cases(1, sizes(options)?)?);
             written(directory, &cases)
         }
         [how @ ("prefixes" | "runs" | "lines"), directory, sort, session] => {

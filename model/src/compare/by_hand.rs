@@ -2,15 +2,48 @@
 
 use super::antt::{bytes, list, runs, state, state_numbers};
 use super::case::{name, same, Case};
+use super::histories;
 use crate::cases::{self, Lent, Step};
 use crate::session::{call, open};
 use crate::tables::Tables;
 use crate::words::{call_entry, open_entry};
 
-/// All of them; an error names a case that is no case for the definitions.
-pub fn by_hand() -> std::io::Result<Vec<Case>> {
+/// Those of at most so many rows; an error names a case that is no case for the definitions.
+pub fn by_hand(rows: usize) -> std::io::Result<Vec<Case>> {
+    let few = |case: &cases::Case| {
+        let start = case.start.as_ref();
+        start.is_none_or(|lent| lent.tables.rows.len() <= rows)
+    };
+    chosen(few)
+}
+
+/// Those with these names; `history of NAME` is the history of a session.
+pub fn named(names: &[&str]) -> std::io::Result<Vec<Case>> {
+    let mut found = chosen(|case| names.contains(&case.name.as_str()))?;
+    let noted = |case: &&cases::Case| names.contains(&format!("history of {}", case.name).as_str());
+    let cases = cases::by_hand()?;
+    found.extend(histories(cases.iter().filter(noted)));
+    Ok(found)
+}
+
+/// The histories of the sessions among them.
+pub fn all_histories() -> std::io::Result<Vec<Case>> {
+    Ok(histories(cases::by_hand()?.iter()))
+}
+
+fn histories<'a>(cases: impl Iterator<Item = &'a cases::Case>) -> Vec<Case> {
+    let sessions = cases.filter(|case| case.is_session()).enumerate();
+    let each = sessions.map(|(at, case)| {
+        let about = format!("{} history of {}", case.at, case.name);
+        histories::case(name("history-case", at), about, case.session().0)
+    });
+    each.collect()
+}
+
+fn chosen(test: impl Fn(&cases::Case) -> bool) -> std::io::Result<Vec<Case>> {
     let mut found = Vec::new();
-    for (at, case) in cases::by_hand()?.iter().enumerate() {
+    let all = cases::by_hand()?;
+    for (at, case) in all.iter().enumerate().filter(|(_, case)| test(case)) {
         let claim = claim(case).ok_or_else(|| {
             let said = format!("{}: no case for the definitions", case.at);
             std::io::Error::new(std::io::ErrorKind::InvalidData, said)
@@ -45,9 +78,13 @@ fn claim(case: &cases::Case) -> Option<String> {
             format!("(stateOf {} {})", runs(&tables), runs(&records))
         }
     };
+    Some(format!("{told} && {}", clause_alone(&state, clause)))
+}
+
+/// This clause breaks in the state, and no other.
+pub fn clause_alone(state: &str, clause: usize) -> String {
     let holds = CLAUSES.iter().map(|c| u32::from(*c != clause));
-    let alone = same(&format!("clauses {state}"), &list(holds));
-    Some(format!("{told} && {alone}"))
+    same(&format!("clauses {state}"), &list(holds))
 }
 
 /// The clauses in the order in which Sound.antt has them in its five parts.

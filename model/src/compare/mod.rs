@@ -12,6 +12,7 @@ pub mod histories;
 pub mod limits;
 pub mod random_tables;
 pub mod sessions;
+pub mod shapes;
 pub mod smaller;
 pub mod states;
 pub mod tables;
@@ -25,7 +26,7 @@ use crate::random::Rng;
 /// How many cases of each sort are written.
 #[derive(Clone, Copy, Debug)]
 pub struct Sizes {
-    /// 0: none of the cases of cases/, else all.
+    /// The most rows of a case of cases/; 0: none of them.
     pub by_hand: usize,
     /// Lines of the longest conformance session; 0: none, and none of the manual.
     pub lines: usize,
@@ -50,10 +51,12 @@ pub struct Sizes {
 /// All cases of a seed.
 pub fn cases(seed: u64, sizes: Sizes) -> std::io::Result<Vec<Case>> {
     let mut rng = Rng::new(seed);
-    let mut cases = match sizes.by_hand {
-        0 => Vec::new(),
-        _ => by_hand::by_hand()?,
-    };
+    let mut cases = Vec::new();
+    if sizes.by_hand > 0 {
+        cases.extend(by_hand::by_hand(sizes.by_hand)?);
+        cases.extend(by_hand::all_histories()?);
+        cases.extend(shapes::shapes());
+    }
     cases.extend(sessions::conformance(sizes.lines)?);
     if sizes.lines > 0 {
         cases.extend(sessions::of_manual()?);

@@ -4,8 +4,9 @@ use super::antt::{bytes, list, runs};
 use super::case::{name, same, Case};
 use super::conformance::conformance_calls;
 use super::random_tables::sound_call;
+use super::states::state_call;
 use crate::random::damage::damage;
-use crate::random::{openings, Profile, Rng, SMALL};
+use crate::random::{openings, Calls, Profile, Rng, Shape, SMALL};
 use crate::sound::sound;
 use crate::tables::Tables;
 use crate::words::{call_entry, encode, open_entry, PROCESS_WORDS, TABLES_WORDS};
@@ -82,10 +83,13 @@ fn is_small(tables: &Tables) -> bool {
     tables.rows.len() <= MOST_ROWS && !tables.requests.is_empty()
 }
 
-/// Random sound tables of few rows, and a line.
+/// Sound tables of few rows, and a line: those of a session, or such as no session made.
 fn small_call(rng: &mut Rng) -> (Tables, Vec<u8>) {
     loop {
-        let (tables, line) = sound_call(rng);
+        let (tables, line) = match rng.percent(50) {
+            true => sound_call(rng),
+            false => state_call(rng, Shape::Few, &mut Calls::default()),
+        };
         if is_small(&tables) {
             return (tables, line);
         }

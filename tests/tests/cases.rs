@@ -1,0 +1,34 @@
+//! The cases of cases/, of docs/MANUAL.md and of conformance/, on the entry points of the
+//! static library: every answer, and every word afterwards.
+
+use kernel::entry;
+use model::cases::{self, run, Entries};
+
+/// An entry point with a lent reply; the reply's bytes.
+type Lent = fn(&mut [u32], &mut [u32], &[u8], &mut [u8]) -> usize;
+
+fn replied(entry: Lent, tables: &mut [u32], records: &mut [u32], text: &[u8]) -> Vec<u8> {
+    let mut reply = [0; 256];
+    let length = entry(tables, records, text, &mut reply);
+    reply[..length].to_vec()
+}
+
+const KERNEL: Entries = Entries {
+    open: |tables, records, text| replied(entry::open, tables, records, text),
+    call: |tables, records, line| replied(entry::call, tables, records, line),
+};
+
+#[test]
+fn cases_on_the_entry_points() {
+    let cases = cases::all().expect("the cases are read");
+    let (mut steps, mut without) = (0, 0);
+    for case in &cases {
+        match run(case, KERNEL) {
+            Ok(0) => without += 1,
+            Ok(count) => steps += count,
+            Err(said) => panic!("{said}"),
+        }
+    }
+    assert!(cases.len() >= 700, "{} cases", cases.len());
+    assert!(steps >= 13_000 && without <= 6, "{steps} steps, {without} without words");
+}
