@@ -1,6 +1,8 @@
 -- Demand 3 and kept soundness, proved of the definitions. In reading order, a line a file:
 
 -- ---- what is shown
+-- every promise of docs/ASSURANCE.md, of this crate and of those below it
+pub mod Promises
 -- demand 3 over the entry points on words: Along, then the three parts
 pub mod Demand3
 -- kept soundness on words; `session` is what the entry points reply
