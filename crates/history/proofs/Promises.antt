@@ -10,6 +10,8 @@ use Rattle.tables.proofs.Words.{state-words, sound-words, words-state}
 use Rattle.tables.proofs.Marking.{marked-reaches, marked-closed, marked-least}
 use Rattle.kept.proofs.Steps.{close-request-steps, close-port-steps}
 use Rattle.text.proofs.Numbers.{exact, capped, never-wrapped}
+use Rattle.text.proofs.CallsBack.{call-read}
+use Rattle.text.proofs.AnswersBack.{answer-read}
 use Rattle.history.specs.Promises.{Promises}
 use Rattle.history.proofs.Demand3.{demand3}
 use Rattle.history.proofs.Kept.{kept}
@@ -32,4 +34,6 @@ promises =
       nodes-never-vanish = λ st e. nodes-never-vanish st (sound-open st e);
       rights-never-grow = rights-never-grow;
       never-wrapped = never-wrapped;
+      call-read = call-read;
+      answer-read = answer-read;
     }

@@ -13,9 +13,15 @@ use Rattle.rows.specs.Codes.{isEnd, isNode, within}
 use Rattle.rows.specs.Tables.{State, rowOf, numbers, sources, reaches, marked}
 use Rattle.rows.specs.Sound.{sound}
 use Rattle.rows.specs.Layout.{wordsOf, recordsOf, stateOf, soundWords}
+use Rattle.calls.specs.declared.Call.{Call}
+use Rattle.calls.specs.declared.Answer.{Answer}
 use Rattle.closing.specs.Closing.{closeRequest, closePort}
 use Rattle.closing.specs.Steps.{closeRequestBySteps, closePortBySteps}
+use Rattle.text.specs.declared.Reading.the-variants.{Asks}
 use Rattle.text.specs.Patterns.{isDigit, run, digits}
+use Rattle.text.specs.CallLines.{readingOf}
+use Rattle.text.specs.Answers.{printed}
+use Rattle.text.specs.ReadBack.{callText, InRange, answeredBy, saying, answerInRange}
 use Rattle.text.specs.Entry.{openEntry, callOn}
 use Rattle.history.specs.Reading.{accepts}
 use Rattle.history.specs.Demand3.{Demand3, lentAfter, stateIn}
@@ -53,3 +59,7 @@ pub record Promises : Type 0 where
   pub never-wrapped : (s : List ℕ) (i : ℕ) →
       let n = run isDigit (λ v b. v * 10 + (b - 48)) 0 i (drop i s) .value in
       digits s i .value ≡ (if leb n greatestNumber then n else suc greatestNumber)
+  -- (rule P28) every call whose numbers are in range can be written as a line, and that line asks for it
+  pub call-read : (c : Call) → InRange c → readingOf (callText c) ≡ Asks c
+  -- (rule P29) the text of an answer tells its refusal, or its values
+  pub answer-read : (a : Answer) → answerInRange a ≡ true → answeredBy (printed a) ≡ saying a

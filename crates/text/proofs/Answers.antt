@@ -30,7 +30,7 @@ unfolding run
 one-more v k i t h = rw (digit-is k h) refl
 
 -- the digits of n are worth n
-run-decimal : (d n i : ℕ) (t : List ℕ) → n < 10 ^ d → n ≤ greatestNumber → run isDigit grown 0 i (decimal d n ++ t) ≡ run isDigit grown n (i + length (decimal d n)) t
+pub run-decimal : (d n i : ℕ) (t : List ℕ) → n < 10 ^ d → n ≤ greatestNumber → run isDigit grown 0 i (decimal d n ++ t) ≡ run isDigit grown n (i + length (decimal d n)) t
 unfolding decimal greatestNumber
 run-decimal zero n i t h l = let z : n ≡ 0 = omega arith in let y : i + 0 ≡ i = omega arith in rw (z, y) refl
 run-decimal (suc d) n i t h l = pick (ltb n 10) refl (run-decimal d (n / 10) i ((48 + n % 10) ∷ t))
@@ -54,9 +54,9 @@ run-decimal (suc d) n i t h l = pick (ltb n 10) refl (run-decimal d (n / 10) i (
         (ih (omega arith) (omega arith) ∙ one-more (n / 10) (n % 10) (i + length (decimal d (n / 10))) t (omega arith) ∙ (rw (grown-digit n l, j) refl))
 
 -- s begins with a digit, with 0 only if n is 0
-record Leads (s : List ℕ) (n : ℕ) : Type 0 where
-  digit : isDigit (getD s 0 0) ≡ true
-  zeros : eqb (getD s 0 0) 48 ≡ eqb n 0
+pub record Leads (s : List ℕ) (n : ℕ) : Type 0 where
+  pub digit : isDigit (getD s 0 0) ≡ true
+  pub zeros : eqb (getD s 0 0) 48 ≡ eqb n 0
 
 leads-one : (n : ℕ) (t : List ℕ) → n < 10 → Leads ((48 + n) ∷ t) n
 leads-one n t h =
@@ -65,7 +65,7 @@ leads-one n t h =
       zeros = bool-eq (eqb (48 + n) 48) (eqb n 0) (λ e. let q = eqb-true (48 + n) 48 e in eq-eqb n 0 (omega arith)) (λ e. let q = eqb-true n 0 e in eq-eqb (48 + n) 48 (omega arith));
     }
 
-leads-decimal : (d n : ℕ) (t : List ℕ) → n < 10 ^ suc d → Leads (decimal (suc d) n ++ t) n
+pub leads-decimal : (d n : ℕ) (t : List ℕ) → n < 10 ^ suc d → Leads (decimal (suc d) n ++ t) n
 unfolding decimal
 leads-decimal zero n t h = let l : n < 10 = omega arith in rw (lt-ltb n 10 l) (leads-one n t l)
 leads-decimal (suc d) n t h = pick (ltb n 10) refl (leads-decimal d (n / 10) ((48 + n % 10) ∷ t))
@@ -79,10 +79,10 @@ leads-decimal (suc d) n t h = pick (ltb n 10) refl (leads-decimal d (n / 10) ((4
         rw append-snoc (record { digit = l .digit; zeros = l .zeros ∙ ne-eqb (n / 10) 0 (omega arith) ∙ sym (ne-eqb n 0 (omega arith)) })
 
 -- ---- a printed number
-run-ends : (v i : ℕ) (t : List ℕ) → isDigit (getD t 0 0) ≡ false → run isDigit grown v i t .value ≡ v
+pub run-ends : (test : ℕ → Bool) (more : ℕ → ℕ → ℕ) (v i : ℕ) (u : List ℕ) → test (getD u 0 0) ≡ false → run test more v i u ≡ record { value = v; next = i }
 unfolding run
-run-ends v i [] e = refl
-run-ends v i (b ∷ t) e = rw e refl
+run-ends test more v i [] e = refl
+run-ends test more v i (b ∷ u) e = rw e refl
 
 -- what is read where the digits of n stand, with no digit after them
 pub record Gives (f : Read) (n : ℕ) : Type 0 where
@@ -97,7 +97,7 @@ number-printed s r n t e h z =
     let there : r .next ≡ r .next + 0 = omega arith in
     let begins : getD s (r .next) 0 ≡ getD (decimal 10 n ++ t) 0 0 = ap (λ k. getD s k 0) there ∙ sym (getD-drop (r .next) s 0 0) ∙ ap (λ x. getD x 0 0) e in
     let worth : run isDigit grown 0 (r .next) (drop (r .next) s) .value ≡ n =
-    ap (λ x. run isDigit grown 0 (r .next) x .value) e ∙ ap (λ x. x .value) (run-decimal 10 n (r .next) t lt h) ∙ run-ends n (r .next + length (decimal 10 n)) t z in
+    ap (λ x. run isDigit grown 0 (r .next) x .value) e ∙ ap (λ x. x .value) (run-decimal 10 n (r .next) t lt h) ∙ ap (λ x. x .value) (run-ends isDigit grown n (r .next + length (decimal 10 n)) t z) in
     rw (begins, l .zeros, l .digit) (pick worth (eqb n 0) refl)
   where
     pick : run isDigit grown 0 (r .next) (drop (r .next) s) .value ≡ n → (b : Bool) → eqb n 0 ≡ b

@@ -1,6 +1,12 @@
 -- Laws of the text side. One line a file:
 -- printed answers read back: the digits of a number give the number
 pub mod Answers
+-- where a reader stands in a text, and what one piece of a pattern reads there
+pub mod Cursor
+-- a call written as a line reads back as itself
+pub mod CallsBack
+-- what an answer says is read back from its text
+pub mod AnswersBack
 -- what a call line that is read as a call guarantees: caller, numbers and items in range
 pub mod Readings
 -- what an accepted opening text guarantees of its forms

@@ -1,0 +1,120 @@
+-- What an answer says is read back from its text.
+use Prim.Native.Nat.{ℕ, zero, suc, _+_, _≤_}
+use native.Mathlib.Omega.{arith}
+use mathlib.Core.Path.{_≡_, refl, sym, ap, subst, _∙_}
+use mathlib.Core.Bool.{Bool, true, false, cond, _&&_}
+use mathlib.Core.List.{List, [], _∷_, _++_, append-assoc}
+use lib.Dec.{leb, eqb}
+use lib.ListN.{length, getD}
+use borrow.Author.Tests.{leb-true, eq-eqb, eqb-true}
+use Rattle.rows.specs.Lists.{bytes, between, all, nonzero, some}
+use Rattle.rows.specs.Limits.{greatestNumber, mostItems}
+use Rattle.rows.proofs.Bools.{and-l, and-r, clash}
+use Rattle.changes.proofs.Removed.{length-filter}
+use Rattle.calls.specs.declared.Answer.{Answer}
+use Rattle.calls.specs.declared.Answer.the-variants.{Done, Made, Fetched, Told, Refused}
+use Rattle.calls.specs.Answers.{refusalOf, valuesOf}
+use Rattle.text.specs.declared.Read.{Read}
+use Rattle.text.specs.Patterns.{isDigit, bad, began, form, whole}
+use Rattle.text.specs.Answers.{digitsOf, spaced, okText, noText, printed}
+use Rattle.text.specs.ReadBack.{Answered, valuesAt, answeredBy, saying, answerInRange}
+use Rattle.text.proofs.Cursor.{At, at-start, at-skip, at-next, reading, takes-byte, other-byte, takes-number, then-reads, reads-all, then-bad}
+
+-- ---- the values
+values-lead : (ns : List ℕ) → isDigit (getD (spaced ns ++ (41 ∷ 10 ∷ [])) 0 0) ≡ false
+unfolding spaced isDigit between
+values-lead [] = refl
+values-lead (n ∷ ns) = refl
+
+no-value : (s : List ℕ) (i : ℕ) (u : List ℕ) → At s i (41 ∷ u) → form s i " #" .good ≡ false
+unfolding form began bytes bad
+no-value s i u a = ap (λ (f : Read). f .good) (then-bad s (reading i 0 0 0 0) 32 (35 ∷ []) (other-byte s i 0 0 0 0 41 32 u a refl refl refl))
+
+record Taken (s : List ℕ) (n : ℕ) (u : List ℕ) (f : Read) : Type 0 where
+  good : f .good ≡ true
+  value : f .c ≡ n
+  there : At s (f .next) u
+
+take-value : (s : List ℕ) (i n : ℕ) (u : List ℕ) → n ≤ greatestNumber → isDigit (getD u 0 0) ≡ false → At s i (32 ∷ (digitsOf n ++ u)) → Taken s n u (form s i " #")
+unfolding form began bytes
+take-value s i n u h e a0 =
+    let a1 = at-next s i 32 _ a0 in
+    subst (Taken s n u)
+    (sym (then-reads s _ _ _ 32 _ (takes-byte s i 0 0 0 0 32 _ a0 refl refl) (then-reads s _ _ _ 35 _ (takes-number s _ 0 0 0 0 n _ a1 h e) (reads-all s _))))
+    (record { good = refl; value = refl; there = at-skip s _ (digitsOf n) _ a1 })
+
+values-back : (s : List ℕ) (k : ℕ) (ns : List ℕ) (i : ℕ) → length ns ≤ k → all (λ n. leb n greatestNumber) ns ≡ true → At s i (spaced ns ++ (41 ∷ 10 ∷ [])) → valuesAt k s i ≡ ns
+unfolding valuesAt spaced all
+values-back s zero [] i h r a = refl
+values-back s zero (n ∷ ns) i h r a = absurd (omega arith)
+values-back s (suc k) [] i h r a = rw (no-value s i (10 ∷ []) a) refl
+values-back s (suc k) (n ∷ ns) i h r a =
+    let fits : n ≤ greatestNumber = leb-true n greatestNumber (and-l (leb n greatestNumber) (all (λ n. leb n greatestNumber) ns) r) in
+    let t = take-value s i n (spaced ns ++ (41 ∷ 10 ∷ [])) fits (values-lead ns) (subst (At s i) (ap (λ (l : List ℕ). 32 ∷ l) (append-assoc (digitsOf n) (spaced ns) (41 ∷ 10 ∷ []))) a) in
+    let rest = values-back s k ns (form s i " #" .next) (omega arith) (and-r (leb n greatestNumber) (all (λ n. leb n greatestNumber) ns) r) (t .there) in
+    rw (t .good) (λ m. t .value m ∷ rest m)
+
+-- ---- `(ok n ..)` is no refusal
+ok-no-refusal : (s u : List ℕ) → At s 0 (40 ∷ 111 ∷ u) → form s 0 "(no #)\n" .good ≡ false
+unfolding form began bytes bad
+ok-no-refusal s u a0 =
+    ap (λ (f : Read). f .good)
+    (then-reads s (reading 0 0 0 0 0) _ bad 40 (110 ∷ 111 ∷ 32 ∷ 35 ∷ 41 ∷ 10 ∷ []) (takes-byte s 0 0 0 0 0 40 _ a0 refl refl)
+    (then-bad s (reading 1 0 0 0 0) 110 (111 ∷ 32 ∷ 35 ∷ 41 ∷ 10 ∷ []) (other-byte s 1 0 0 0 0 111 110 u (at-next s 0 40 _ a0) refl refl refl)))
+
+ok-back : (ns : List ℕ) → length ns ≤ suc mostItems → all (λ n. leb n greatestNumber) ns ≡ true → answeredBy (okText ns) ≡ record { refusal = 0; values = ns }
+unfolding answeredBy okText whole bytes
+ok-back ns h r =
+    let s : List ℕ = 40 ∷ 111 ∷ 107 ∷ (spaced ns ++ (41 ∷ 10 ∷ [])) in
+    let a = at-next s 2 107 _ (at-next s 1 111 _ (at-next s 0 40 _ (at-start s))) in
+    rw (ok-no-refusal s _ (at-start s), values-back s (suc mostItems) ns 3 h r a) refl
+
+-- ---- `(no k)`
+no-back : (k : ℕ) → k ≤ greatestNumber → answeredBy (noText (k ∷ [])) ≡ record { refusal = k; values = [] }
+unfolding answeredBy noText spaced bytes whole form began isDigit between
+no-back k h =
+    let s : List ℕ = 40 ∷ 110 ∷ 111 ∷ 32 ∷ ((digitsOf k ++ []) ++ (41 ∷ 10 ∷ [])) in
+    let a0 = at-start s in
+    let a1 = at-next s 0 40 _ a0 in
+    let a2 = at-next s 1 110 _ a1 in
+    let a3 = at-next s 2 111 _ a2 in
+    let a4 : At s 4 (digitsOf k ++ (41 ∷ 10 ∷ [])) = subst (At s 4) (append-assoc (digitsOf k) [] (41 ∷ 10 ∷ [])) (at-next s 3 32 _ a3) in
+    let a5 = at-skip s 4 (digitsOf k) _ a4 in
+    let a6 = at-next s _ 41 _ a5 in
+    let a7 = at-next s _ 10 _ a6 in
+    let e = a7 .size in
+    rw (
+      then-reads s (reading 0 0 0 0 0) _ _ 40 (110 ∷ 111 ∷ 32 ∷ 35 ∷ 41 ∷ 10 ∷ []) (takes-byte s 0 0 0 0 0 40 _ a0 refl refl)
+          (then-reads s _ _ _ 110 _ (takes-byte s 1 0 0 0 0 110 _ a1 refl refl)
+          (then-reads s _ _ _ 111 _ (takes-byte s 2 0 0 0 0 111 _ a2 refl refl)
+          (then-reads s _ _ _ 32 _ (takes-byte s 3 0 0 0 0 32 _ a3 refl refl)
+          (then-reads s _ _ _ 35 _ (takes-number s 4 0 0 0 0 k _ a4 h refl)
+          (then-reads s _ _ _ 41 _ (takes-byte s _ 0 0 0 k 41 _ a5 refl refl)
+          (then-reads s _ _ _ 10 _ (takes-byte s _ 0 0 0 k 10 _ a6 refl refl) (reads-all s _))))))),
+      eq-eqb (4 + length (digitsOf k) + 1 + 1) (length s) (omega arith),
+    ) refl
+
+-- ---- every answer
+few-values : (a : Answer) → length (valuesOf a) ≤ suc mostItems
+unfolding valuesOf mostItems nonzero
+few-values Done = omega arith
+few-values (Made n) = omega arith
+few-values (Fetched v a b c d) = let h = length-filter some (a ∷ b ∷ c ∷ d ∷ []) in omega arith
+few-values (Told t) = omega arith
+few-values (Refused k) = omega arith
+
+values-none : (a : Answer) → eqb (refusalOf a) 0 ≡ false → valuesOf a ≡ []
+unfolding refusalOf valuesOf
+values-none Done e = clash refl e
+values-none (Made n) e = clash refl e
+values-none (Fetched v a b c d) e = clash refl e
+values-none (Told t) e = clash refl e
+values-none (Refused k) e = refl
+
+pub answer-read : (a : Answer) → answerInRange a ≡ true → answeredBy (printed a) ≡ saying a
+unfolding printed saying answerInRange
+answer-read a h = pick (eqb (refusalOf a) 0) refl
+  where
+    pick : (b : Bool) → eqb (refusalOf a) 0 ≡ b → answeredBy (cond b (okText (valuesOf a)) (noText (refusalOf a ∷ []))) ≡ record { refusal = refusalOf a; values = valuesOf a }
+    pick true e = ok-back (valuesOf a) (few-values a) (and-r (leb (refusalOf a) greatestNumber) _ h) ∙ (rw (eqb-true (refusalOf a) 0 e) refl)
+    pick false e = no-back (refusalOf a) (leb-true (refusalOf a) greatestNumber (and-l (leb (refusalOf a) greatestNumber) _ h)) ∙ (rw (values-none a e) refl)

@@ -1,0 +1,358 @@
+-- A call whose numbers are in range, written as a line, reads back as itself.
+use Prim.Native.Nat.{ℕ, zero, suc, _+_, _*_, _/_, _%_, _^_, _≤_, _<_}
+use Prim.Native.String.{String}
+use native.Mathlib.Omega.{arith}
+use mathlib.Core.Path.{_≡_, refl, sym, ap, subst, _∙_}
+use mathlib.Core.Bool.{Bool, true, false, not, cond, _&&_}
+use mathlib.Core.List.{List, [], _∷_, _++_, map, append-assoc}
+use lib.Dec.{leb, eqb}
+use lib.ListN.{length, getD, length-append}
+use borrow.Author.Tests.{leb-true, le-ltb, eq-eqb, ne-eqb}
+use Rattle.rows.specs.Lists.{bytes, between, all, filter, some, distinct}
+use Rattle.rows.specs.Limits.{greatestNumber, processes, mostBytes, mostItems, allRights}
+use Rattle.rows.proofs.Bools.{and-l, and-r, clash}
+use Rattle.calls.specs.declared.Item.{Item}
+use Rattle.calls.specs.declared.Items.{Items}
+use Rattle.calls.specs.declared.Call.{Call}
+use Rattle.calls.specs.declared.Call.the-variants.{Go, Hold, Register, Drop, Port, Close, Ask, Fetch, Reply, Refuse, Revoke, Comes}
+use Rattle.calls.specs.Loans.{itemsOf}
+use Rattle.changes.proofs.Removed.{length-filter}
+use Rattle.text.specs.declared.Read.{Read}
+use Rattle.text.specs.declared.Reading.{Reading}
+use Rattle.text.specs.declared.Reading.the-variants.{Asks}
+use Rattle.text.specs.Patterns.{isDigit, isLetter, spelt, bad, began, form, whole, wordFrom, wordOf, mostGroups}
+use Rattle.text.specs.CallLines.{isProcess, isNumber, ranged, simple, simpleForm, comesForm, Gathered, itemOf, addItem, gathered, itemRanged, packed, judged, askForm, readingOf}
+use Rattle.text.specs.Answers.{decimal, digitsOf}
+use Rattle.text.proofs.Answers.{leads-decimal}
+use Rattle.text.specs.ReadBack.{simpleText, itemsText, askText, comesText, callText, AskInRange, InRange}
+use Rattle.text.proofs.Cursor.{At, at-start, at-skip, at-next, reading, takes-byte, other-byte, no-number, takes-number, takes-word, then-reads, reads-all, then-bad}
+
+-- ---- numbers as text
+decimal-short : (d n : ℕ) → length (decimal d n) ≤ d
+unfolding decimal
+decimal-short zero n = omega arith
+decimal-short (suc d) n = pick (leb (suc n) 10) (decimal-short d (n / 10))
+  where
+    pick : (b : Bool) → length (decimal d (n / 10)) ≤ d → length (cond b ((48 + n) ∷ []) (decimal d (n / 10) ++ ((48 + n % 10) ∷ []))) ≤ suc d
+    pick true h = omega arith
+    pick false h = let e = length-append (decimal d (n / 10)) ((48 + n % 10) ∷ []) in omega arith
+
+pub digits-short : (n : ℕ) → length (digitsOf n) ≤ 10
+unfolding digitsOf
+digits-short n = decimal-short 10 n
+
+-- it begins with a digit
+record Begins (u : List ℕ) : Type 0 where
+  first : ℕ
+  others : List ℕ
+  is : u ≡ first ∷ others
+  digit : first ≤ 57
+
+begins : (u : List ℕ) → isDigit (getD u 0 0) ≡ true → Begins u
+unfolding isDigit between
+begins [] e = clash e refl
+begins (b ∷ u) e = record { first = b; others = u; is = refl; digit = leb-true b 57 (and-r (leb 48 b) (leb b 57) e) }
+
+digits-begin : (n : ℕ) (u : List ℕ) → n ≤ greatestNumber → Begins (digitsOf n ++ u)
+unfolding digitsOf greatestNumber
+digits-begin n u h = let lt : n < 10 ^ 10 = omega arith in begins (decimal 10 n ++ u) (leads-decimal 9 n u lt .digit)
+
+-- ---- a whole form
+ends : (s : List ℕ) (i w x y z : ℕ) → At s i [] → whole s (reading i w x y z) ≡ true
+unfolding whole
+ends s i w x y z a = let e = a .size in eq-eqb i (length s) (omega arith)
+
+short : (s : List ℕ) → length s ≤ 256 → readingOf s ≡ askForm s (comesForm s (simpleForm s))
+unfolding readingOf mostBytes
+short s h = rw (le-ltb 256 (length s) h) refl
+
+-- a line that begins with a number is no `comes`
+no-comes : (s : List ℕ) (p : ℕ) (u : List ℕ) (other : Reading) → At s 0 (40 ∷ (digitsOf p ++ u)) → p ≤ greatestNumber → comesForm s other ≡ other
+unfolding comesForm whole form began bytes bad
+no-comes s p u other a h =
+    let d = digits-begin p u h in
+    let at : At s 1 (d .first ∷ d .others) = subst (λ (l : List ℕ). At s 1 l) (d .is) (at-next s 0 40 (digitsOf p ++ u) a) in
+    let low = d .digit in
+    rw (then-reads s (reading 0 0 0 0 0) (reading 1 0 0 0 0) bad 40 (99 ∷ 111 ∷ 109 ∷ 101 ∷ 115 ∷ 32 ∷ 35 ∷ 32 ∷ 35 ∷ 41 ∷ 10 ∷ [])
+    (takes-byte s 0 0 0 0 0 40 (digitsOf p ++ u) a refl refl)
+    (then-bad s (reading 1 0 0 0 0) 99 (111 ∷ 109 ∷ 101 ∷ 115 ∷ 32 ∷ 35 ∷ 32 ∷ 35 ∷ 41 ∷ 10 ∷ []) (other-byte s 1 0 0 0 0 (d .first) 99 (d .others) at (ne-eqb (d .first) 99 (λ e. omega arith)) refl refl))) refl
+
+-- ---- calls of one number
+module _ (s : List ℕ) (p n b : ℕ) (ws : List ℕ) (l : all isLetter (b ∷ ws) ≡ true) (hp : p ≤ greatestNumber) (hn : n ≤ greatestNumber)
+    (a0 : At s 0 (40 ∷ (digitsOf p ++ (32 ∷ ((b ∷ ws) ++ (32 ∷ (digitsOf n ++ (41 ∷ 10 ∷ [])))))))) where
+  a1 : At s 1 (digitsOf p ++ (32 ∷ ((b ∷ ws) ++ (32 ∷ (digitsOf n ++ (41 ∷ 10 ∷ []))))))
+  a1 = at-next s 0 40 _ a0
+
+  a2 : At s (1 + length (digitsOf p)) (32 ∷ ((b ∷ ws) ++ (32 ∷ (digitsOf n ++ (41 ∷ 10 ∷ [])))))
+  a2 = at-skip s 1 (digitsOf p) _ a1
+
+  a3 : At s (1 + length (digitsOf p) + 1) ((b ∷ ws) ++ (32 ∷ (digitsOf n ++ (41 ∷ 10 ∷ []))))
+  a3 = at-next s (1 + length (digitsOf p)) 32 _ a2
+
+  a4 : At s (1 + length (digitsOf p) + 1 + length (b ∷ ws)) (32 ∷ (digitsOf n ++ (41 ∷ 10 ∷ [])))
+  a4 = at-skip s (1 + length (digitsOf p) + 1) (b ∷ ws) _ a3
+
+  a5 : At s (1 + length (digitsOf p) + 1 + length (b ∷ ws) + 1) (digitsOf n ++ (41 ∷ 10 ∷ []))
+  a5 = at-next s (1 + length (digitsOf p) + 1 + length (b ∷ ws)) 32 _ a4
+
+  a6 : At s (1 + length (digitsOf p) + 1 + length (b ∷ ws) + 1 + length (digitsOf n)) (41 ∷ 10 ∷ [])
+  a6 = at-skip s (1 + length (digitsOf p) + 1 + length (b ∷ ws) + 1) (digitsOf n) _ a5
+
+  a7 : At s (1 + length (digitsOf p) + 1 + length (b ∷ ws) + 1 + length (digitsOf n) + 1) (10 ∷ [])
+  a7 = at-next s _ 41 _ a6
+
+  a8 : At s (1 + length (digitsOf p) + 1 + length (b ∷ ws) + 1 + length (digitsOf n) + 1 + 1) []
+  a8 = at-next s _ 10 _ a7
+
+  simple-read : form s 0 "(# @ #)\n" ≡ reading (1 + length (digitsOf p) + 1 + length (b ∷ ws) + 1 + length (digitsOf n) + 1 + 1) (wordFrom 0 (b ∷ ws)) 0 p n
+  unfolding form began bytes isDigit isLetter between
+  simple-read =
+      let w = wordFrom 0 (b ∷ ws) in
+      then-reads s _ _ _ 40 _ (takes-byte s 0 0 0 0 0 40 _ a0 refl refl)
+      (then-reads s _ _ _ 35 _ (takes-number s 1 0 0 0 0 p _ a1 hp refl)
+      (then-reads s _ _ _ 32 _ (takes-byte s _ 0 0 0 p 32 _ a2 refl refl)
+      (then-reads s _ _ _ 64 _ (takes-word s _ 0 0 0 p b ws _ a3 l refl)
+      (then-reads s _ _ _ 32 _ (takes-byte s _ w 0 0 p 32 _ a4 refl refl)
+      (then-reads s _ _ _ 35 _ (takes-number s _ w 0 0 p n _ a5 hn refl)
+      (then-reads s _ _ _ 41 _ (takes-byte s _ w 0 p n 41 _ a6 refl refl)
+      (then-reads s _ _ _ 10 _ (takes-byte s _ w 0 p n 10 _ a7 refl refl) (reads-all s _))))))))
+
+  simple-form : simpleForm s ≡ simple (wordFrom 0 (b ∷ ws)) p n
+  unfolding simpleForm
+  simple-form = rw (simple-read, ends s _ (wordFrom 0 (b ∷ ws)) 0 p n a8) refl
+
+  -- a word that does not begin with a is not ask
+  no-ask : (other : Reading) → eqb b 97 ≡ false → askForm s other ≡ other
+  unfolding askForm form began bytes bad isDigit between
+  no-ask other d =
+      rw (then-reads s (reading 0 0 0 0 0) _ bad 40 (35 ∷ 32 ∷ 97 ∷ 115 ∷ 107 ∷ 32 ∷ 35 ∷ []) (takes-byte s 0 0 0 0 0 40 _ a0 refl refl)
+      (then-reads s _ _ _ 35 _ (takes-number s 1 0 0 0 0 p _ a1 hp refl)
+      (then-reads s _ _ _ 32 _ (takes-byte s _ 0 0 0 p 32 _ a2 refl refl)
+      (then-bad s _ 97 _ (other-byte s _ 0 0 0 p b 97 _ a3 d refl refl))))) refl
+
+  simple-back : eqb b 97 ≡ false → length ws ≤ 8 → readingOf s ≡ simple (wordFrom 0 (b ∷ ws)) p n
+  simple-back d few =
+      let e = a8 .size in
+      let dp = digits-short p in
+      let dn = digits-short n in
+      short s (omega arith) ∙ no-ask (comesForm s (simpleForm s)) d ∙ no-comes s p _ (simpleForm s) a0 hp ∙ simple-form
+
+-- ---- comes
+comes-read : (s : List ℕ) (e q : ℕ) → e ≤ greatestNumber → q ≤ greatestNumber → At s 0 (bytes "(comes " ++ (digitsOf e ++ (32 ∷ (digitsOf q ++ (41 ∷ 10 ∷ [])))))
+    → (form s 0 "(comes # #)\n" ≡ reading (7 + length (digitsOf e) + 1 + length (digitsOf q) + 1 + 1) 0 0 e q) × At s (7 + length (digitsOf e) + 1 + length (digitsOf q) + 1 + 1) []
+unfolding form began bytes isDigit between
+comes-read s e q he hq a0 =
+    let a1 = at-next s 0 40 _ a0 in
+    let a2 = at-next s 1 99 _ a1 in
+    let a3 = at-next s 2 111 _ a2 in
+    let a4 = at-next s 3 109 _ a3 in
+    let a5 = at-next s 4 101 _ a4 in
+    let a6 = at-next s 5 115 _ a5 in
+    let a7 = at-next s 6 32 _ a6 in
+    let a8 = at-skip s 7 (digitsOf e) _ a7 in
+    let a9 = at-next s _ 32 _ a8 in
+    let b1 = at-skip s _ (digitsOf q) _ a9 in
+    let b2 = at-next s _ 41 _ b1 in (
+      then-reads s _ _ _ 40 _ (takes-byte s 0 0 0 0 0 40 _ a0 refl refl)
+          (then-reads s _ _ _ 99 _ (takes-byte s 1 0 0 0 0 99 _ a1 refl refl)
+          (then-reads s _ _ _ 111 _ (takes-byte s 2 0 0 0 0 111 _ a2 refl refl)
+          (then-reads s _ _ _ 109 _ (takes-byte s 3 0 0 0 0 109 _ a3 refl refl)
+          (then-reads s _ _ _ 101 _ (takes-byte s 4 0 0 0 0 101 _ a4 refl refl)
+          (then-reads s _ _ _ 115 _ (takes-byte s 5 0 0 0 0 115 _ a5 refl refl)
+          (then-reads s _ _ _ 32 _ (takes-byte s 6 0 0 0 0 32 _ a6 refl refl)
+          (then-reads s _ _ _ 35 _ (takes-number s 7 0 0 0 0 e _ a7 he refl)
+          (then-reads s _ _ _ 32 _ (takes-byte s _ 0 0 0 e 32 _ a8 refl refl)
+          (then-reads s _ _ _ 35 _ (takes-number s _ 0 0 0 e q _ a9 hq refl)
+          (then-reads s _ _ _ 41 _ (takes-byte s _ 0 0 e q 41 _ b1 refl refl)
+          (then-reads s _ _ _ 10 _ (takes-byte s _ 0 0 e q 10 _ b2 refl refl) (reads-all s _)))))))))))),
+      at-next s _ 10 _ b2,
+    )
+
+-- `comes` is no number
+comes-no-ask : (s u : List ℕ) (other : Reading) → At s 0 (40 ∷ 99 ∷ u) → askForm s other ≡ other
+unfolding askForm form began bytes bad isDigit between
+comes-no-ask s u other a0 =
+    rw (then-reads s (reading 0 0 0 0 0) _ bad 40 (35 ∷ 32 ∷ 97 ∷ 115 ∷ 107 ∷ 32 ∷ 35 ∷ []) (takes-byte s 0 0 0 0 0 40 _ a0 refl refl)
+    (then-bad s (reading 1 0 0 0 0) 35 (32 ∷ 97 ∷ 115 ∷ 107 ∷ 32 ∷ 35 ∷ []) (no-number s 1 0 0 0 0 99 u (at-next s 0 40 _ a0) refl refl))) refl
+
+-- ---- ask
+items-lead : (is : List Item) → isDigit (getD (itemsText is ++ (41 ∷ 10 ∷ [])) 0 0) ≡ false
+unfolding itemsText bytes isDigit between
+items-lead [] = refl
+items-lead (i ∷ is) = refl
+
+items-short : (is : List Item) → length (itemsText is) ≤ 24 * length is
+unfolding itemsText bytes
+items-short [] = omega arith
+items-short (i ∷ is) =
+    let h = items-short is in
+    let r = digits-short (i .row) in
+    let t = digits-short (i .rights) in
+    let x = length-append (digitsOf (i .row)) (32 ∷ (digitsOf (i .rights) ++ (41 ∷ itemsText is))) in
+    let y = length-append (digitsOf (i .rights)) (41 ∷ itemsText is) in
+    omega arith
+
+-- all items are gathered, and the reader stands before the last bracket
+record Gathers (s : List ℕ) (is : List Item) (g : Gathered) : Type 0 where
+  items : g .items ≡ is
+  there : At s (g .next) (41 ∷ 10 ∷ [])
+
+item-row : (i : Item) → itemRanged i ≡ true → i .row ≤ greatestNumber
+unfolding itemRanged isNumber between
+item-row i e = leb-true (i .row) greatestNumber (and-r (leb 1 (i .row)) (leb (i .row) greatestNumber) (and-l (leb 1 (i .row) && leb (i .row) greatestNumber) (leb (i .rights) allRights) e))
+
+item-rights : (i : Item) → itemRanged i ≡ true → i .rights ≤ greatestNumber
+unfolding itemRanged isNumber between allRights greatestNumber
+item-rights i e = let h = leb-true (i .rights) 7 (and-r (isNumber (i .row)) (leb (i .rights) 7) e) in omega arith
+
+-- the text after an item's own
+regroup : (i : Item) (is : List Item) → itemsText (i ∷ is) ++ (41 ∷ 10 ∷ [])
+    ≡ 32 ∷ 40 ∷ (digitsOf (i .row) ++ (32 ∷ (digitsOf (i .rights) ++ (41 ∷ (itemsText is ++ (41 ∷ 10 ∷ []))))))
+unfolding itemsText bytes
+regroup i is =
+    ap (λ (l : List ℕ). 32 ∷ 40 ∷ l)
+    (append-assoc (digitsOf (i .row)) (32 ∷ (digitsOf (i .rights) ++ (41 ∷ itemsText is))) (41 ∷ 10 ∷ [])
+    ∙ ap (λ (l : List ℕ). digitsOf (i .row) ++ (32 ∷ l)) (append-assoc (digitsOf (i .rights)) (41 ∷ itemsText is) (41 ∷ 10 ∷ [])))
+
+-- one item
+record Taken (s : List ℕ) (i : Item) (u : List ℕ) (f : Read) : Type 0 where
+  good : f .good ≡ true
+  item : itemOf f ≡ i
+  there : At s (f .next) u
+
+take-item : (s : List ℕ) (j : ℕ) (i : Item) (u : List ℕ) → itemRanged i ≡ true
+    → At s j (32 ∷ 40 ∷ (digitsOf (i .row) ++ (32 ∷ (digitsOf (i .rights) ++ (41 ∷ u))))) → Taken s i u (form s j " (# #)")
+unfolding form began bytes isDigit between itemOf
+take-item s j i u r a0 =
+    let a1 = at-next s j 32 _ a0 in
+    let a2 = at-next s _ 40 _ a1 in
+    let a3 = at-skip s _ (digitsOf (i .row)) _ a2 in
+    let a4 = at-next s _ 32 _ a3 in
+    let a5 = at-skip s _ (digitsOf (i .rights)) _ a4 in
+    subst (Taken s i u)
+    (sym (then-reads s _ _ _ 32 _ (takes-byte s j 0 0 0 0 32 _ a0 refl refl)
+    (then-reads s _ _ _ 40 _ (takes-byte s _ 0 0 0 0 40 _ a1 refl refl)
+    (then-reads s _ _ _ 35 _ (takes-number s _ 0 0 0 0 (i .row) _ a2 (item-row i r) refl)
+    (then-reads s _ _ _ 32 _ (takes-byte s _ 0 0 0 (i .row) 32 _ a3 refl refl)
+    (then-reads s _ _ _ 35 _ (takes-number s _ 0 0 0 (i .row) (i .rights) _ a4 (item-rights i r) refl)
+    (then-reads s _ _ _ 41 _ (takes-byte s _ 0 0 (i .row) (i .rights) 41 _ a5 refl refl) (reads-all s _))))))))
+    (record { good = refl; item = refl; there = at-next s _ 41 _ a5 })
+
+no-item : (s : List ℕ) (j : ℕ) (u : List ℕ) → At s j (41 ∷ u) → form s j " (# #)" .good ≡ false
+unfolding form began bytes bad
+no-item s j u a = ap (λ (f : Read). f .good) (then-bad s (reading j 0 0 0 0) 32 (40 ∷ 35 ∷ 32 ∷ 35 ∷ 41 ∷ []) (other-byte s j 0 0 0 0 41 32 u a refl refl refl))
+
+gather-items : (s : List ℕ) (k : ℕ) (is : List Item) (j : ℕ) → length is ≤ k → all itemRanged is ≡ true → At s j (itemsText is ++ (41 ∷ 10 ∷ [])) → Gathers s is (gathered k s j)
+unfolding gathered itemsText bytes all addItem itemOf
+gather-items s zero [] j h r a = record { items = refl; there = a }
+gather-items s zero (i ∷ is) j h r a = absurd (omega arith)
+gather-items s (suc k) [] j h r a =
+    rw (no-item s j (10 ∷ []) a) (record { items = refl; there = a })
+gather-items s (suc k) (i ∷ is) j h r a =
+    let here : itemRanged i ≡ true = and-l (itemRanged i) (all itemRanged is) r in
+    let t = take-item s j i (itemsText is ++ (41 ∷ 10 ∷ [])) here (subst (At s j) (regroup i is) a) in
+    let g = gather-items s k is (form s j " (# #)" .next) (omega arith) (and-r (itemRanged i) (all itemRanged is) r) (t .there) in
+    rw (t .good) (record { items = λ m. t .item m ∷ g .items m; there = g .there })
+
+last-bracket : (s : List ℕ) (j : ℕ) → At s j (41 ∷ 10 ∷ []) → whole s (form s j ")\n") ≡ true
+unfolding form began bytes
+last-bracket s j a =
+    let a1 = at-next s j 41 _ a in
+    subst (λ (f : Read). whole s f ≡ true)
+    (sym (then-reads s _ _ _ 41 _ (takes-byte s j 0 0 0 0 41 _ a refl refl) (then-reads s _ _ _ 10 _ (takes-byte s _ 0 0 0 0 10 _ a1 refl refl) (reads-all s _))))
+    (ends s _ 0 0 0 0 (at-next s _ 10 _ a1))
+
+ask-read : (s : List ℕ) (p c : ℕ) (is : List Item) → p ≤ greatestNumber → c ≤ greatestNumber
+    → At s 0 (40 ∷ (digitsOf p ++ (32 ∷ 97 ∷ 115 ∷ 107 ∷ 32 ∷ (digitsOf c ++ (itemsText is ++ (41 ∷ 10 ∷ []))))))
+    → (form s 0 "(# ask #" ≡ reading (1 + length (digitsOf p) + 1 + 1 + 1 + 1 + 1 + length (digitsOf c)) 0 0 p c)
+    × At s (1 + length (digitsOf p) + 1 + 1 + 1 + 1 + 1 + length (digitsOf c)) (itemsText is ++ (41 ∷ 10 ∷ []))
+unfolding form began bytes isDigit between
+ask-read s p c is hp hc a0 =
+    let a1 = at-next s 0 40 _ a0 in
+    let a2 = at-skip s 1 (digitsOf p) _ a1 in
+    let a3 = at-next s _ 32 _ a2 in
+    let a4 = at-next s _ 97 _ a3 in
+    let a5 = at-next s _ 115 _ a4 in
+    let a6 = at-next s _ 107 _ a5 in
+    let a7 = at-next s _ 32 _ a6 in (
+      then-reads s _ _ _ 40 _ (takes-byte s 0 0 0 0 0 40 _ a0 refl refl)
+          (then-reads s _ _ _ 35 _ (takes-number s 1 0 0 0 0 p _ a1 hp refl)
+          (then-reads s _ _ _ 32 _ (takes-byte s _ 0 0 0 p 32 _ a2 refl refl)
+          (then-reads s _ _ _ 97 _ (takes-byte s _ 0 0 0 p 97 _ a3 refl refl)
+          (then-reads s _ _ _ 115 _ (takes-byte s _ 0 0 0 p 115 _ a4 refl refl)
+          (then-reads s _ _ _ 107 _ (takes-byte s _ 0 0 0 p 107 _ a5 refl refl)
+          (then-reads s _ _ _ 32 _ (takes-byte s _ 0 0 0 p 32 _ a6 refl refl)
+          (then-reads s _ _ _ 35 _ (takes-number s _ 0 0 0 p c _ a7 hc (items-lead is)) (reads-all s _)))))))),
+      at-skip s _ (digitsOf c) _ a7,
+    )
+
+process-fits : (p : ℕ) → isProcess p ≡ true → p ≤ greatestNumber
+unfolding isProcess between processes greatestNumber
+process-fits p e = let h = leb-true p 64 (and-r (leb 1 p) (leb p 64) e) in omega arith
+
+number-fits : (n : ℕ) → isNumber n ≡ true → n ≤ greatestNumber
+unfolding isNumber between
+number-fits n e = leb-true n greatestNumber (and-r (leb 1 n) (leb n greatestNumber) e)
+
+judged-asks : (p c : ℕ) (is : List Item) → isProcess p ≡ true → isNumber c ≡ true → all itemRanged is ≡ true → distinct (map (λ i. i .row) is) ≡ true → length is ≤ mostItems
+    → judged p c is ≡ Asks (Ask p c (packed is))
+unfolding judged
+judged-asks p c is hp hc r d h = rw (hp, hc, r, d, le-ltb mostItems (length is) h) refl
+
+ask-back : (s : List ℕ) (p c : ℕ) (is : List Item) → isProcess p ≡ true → isNumber c ≡ true → all itemRanged is ≡ true → distinct (map (λ i. i .row) is) ≡ true → length is ≤ 4
+    → At s 0 (40 ∷ (digitsOf p ++ (32 ∷ 97 ∷ 115 ∷ 107 ∷ 32 ∷ (digitsOf c ++ (itemsText is ++ (41 ∷ 10 ∷ [])))))) → readingOf s ≡ Asks (Ask p c (packed is))
+unfolding askForm mostGroups mostItems
+ask-back s p c is hp hc r d h a0 =
+    let f = ask-read s p c is (process-fits p hp) (number-fits c hc) a0 in
+    let j = 1 + length (digitsOf p) + 1 + 1 + 1 + 1 + 1 + length (digitsOf c) in
+    let g = gather-items s 64 is j (omega arith) r (f .1) in
+    let dp = digits-short p in
+    let dc = digits-short c in
+    let di = items-short is in
+    let la = length-append (itemsText is) (41 ∷ 10 ∷ []) in
+    let e = f .1 .size in
+    short s (omega arith)
+    ∙ (rw (f .0, last-bracket s (gathered 64 s j .next) (g .there), g .items) (judged-asks p c is hp hc r d h))
+
+-- ---- every call
+-- a call of one number, by the letters of its word
+one-number : (p n b : ℕ) (ws : List ℕ) → all isLetter (b ∷ ws) ≡ true → eqb b 97 ≡ false → length ws ≤ 8 → isProcess p ≡ true → n ≤ greatestNumber
+    → (r : Reading) → simple (wordFrom 0 (b ∷ ws)) p n ≡ r → readingOf (40 ∷ (digitsOf p ++ (32 ∷ ((b ∷ ws) ++ (32 ∷ (digitsOf n ++ (41 ∷ 10 ∷ []))))))) ≡ r
+one-number p n b ws l d few hp hn r e =
+    let s : List ℕ = 40 ∷ (digitsOf p ++ (32 ∷ ((b ∷ ws) ++ (32 ∷ (digitsOf n ++ (41 ∷ 10 ∷ [])))))) in
+    simple-back s p n b ws l (process-fits p hp) hn (at-start s) d few ∙ e
+
+-- with a number above 0
+named : (p e : ℕ) → isProcess p && isNumber e ≡ true → (b : ℕ) (ws : List ℕ) → all isLetter (b ∷ ws) ≡ true → eqb b 97 ≡ false → length ws ≤ 8
+    → (r : Reading) → simple (wordFrom 0 (b ∷ ws)) p e ≡ r → readingOf (40 ∷ (digitsOf p ++ (32 ∷ ((b ∷ ws) ++ (32 ∷ (digitsOf e ++ (41 ∷ 10 ∷ []))))))) ≡ r
+named p e h b ws l d few r q = one-number p e b ws l d few (and-l (isProcess p) (isNumber e) h) (number-fits e (and-r (isProcess p) (isNumber e) h)) r q
+
+comes-back : (e q : ℕ) → isNumber e ≡ true → isNumber q ≡ true → readingOf (bytes "(comes " ++ (digitsOf e ++ (32 ∷ (digitsOf q ++ (41 ∷ 10 ∷ []))))) ≡ Asks (Comes e q)
+unfolding comesForm ranged bytes
+comes-back e q he hq =
+    let s = bytes "(comes " ++ (digitsOf e ++ (32 ∷ (digitsOf q ++ (41 ∷ 10 ∷ [])))) in
+    let f = comes-read s e q (number-fits e he) (number-fits q hq) (at-start s) in
+    let z = f .1 .size in
+    let de = digits-short e in
+    let dq = digits-short q in
+    short s (omega arith) ∙ comes-no-ask s _ (comesForm s (simpleForm s)) (at-start s) ∙ (rw (f .0, ends s _ 0 0 e q (f .1), he, hq) refl)
+
+few-items : (is : Items) → length (itemsOf is) ≤ 4
+unfolding itemsOf
+few-items is = length-filter (λ i. some (i .row)) (is .first ∷ is .second ∷ is .third ∷ is .fourth ∷ [])
+
+pub call-read : (c : Call) → InRange c → readingOf (callText c) ≡ Asks c
+unfolding InRange callText simpleText askText comesText simple ranged bytes wordOf wordFrom spelt all isLetter between
+call-read (Go p e) h =
+    one-number p e 103 (111 ∷ []) refl refl (omega arith) (and-l (isProcess p) (leb e greatestNumber) h) (leb-true e greatestNumber (and-r (isProcess p) (leb e greatestNumber) h)) (Asks (Go p e)) (rw h refl)
+call-read (Hold p e) h = named p e h 104 (111 ∷ 108 ∷ 100 ∷ []) refl refl (omega arith) (Asks (Hold p e)) (rw h refl)
+call-read (Register p e) h = named p e h 114 (101 ∷ 103 ∷ 105 ∷ 115 ∷ 116 ∷ 101 ∷ 114 ∷ []) refl refl (omega arith) (Asks (Register p e)) (rw h refl)
+call-read (Drop p e) h = named p e h 100 (114 ∷ 111 ∷ 112 ∷ []) refl refl (omega arith) (Asks (Drop p e)) (rw h refl)
+call-read (Port p e) h = named p e h 112 (111 ∷ 114 ∷ 116 ∷ []) refl refl (omega arith) (Asks (Port p e)) (rw h refl)
+call-read (Close p e) h = named p e h 99 (108 ∷ 111 ∷ 115 ∷ 101 ∷ []) refl refl (omega arith) (Asks (Close p e)) (rw h refl)
+call-read (Ask p c is) h = ask-back _ p c (itemsOf is) (h .caller) (h .port) (h .items) (h .apart) (few-items is) (at-start _) ∙ ap (λ (x : Items). Asks (Ask p c x)) (h .first)
+call-read (Fetch p e) h = named p e h 102 (101 ∷ 116 ∷ 99 ∷ 104 ∷ []) refl refl (omega arith) (Asks (Fetch p e)) (rw h refl)
+call-read (Reply p e) h = named p e h 114 (101 ∷ 112 ∷ 108 ∷ 121 ∷ []) refl refl (omega arith) (Asks (Reply p e)) (rw h refl)
+call-read (Refuse p e) h = named p e h 114 (101 ∷ 102 ∷ 117 ∷ 115 ∷ 101 ∷ []) refl refl (omega arith) (Asks (Refuse p e)) (rw h refl)
+call-read (Revoke p e) h = named p e h 114 (101 ∷ 118 ∷ 111 ∷ 107 ∷ 101 ∷ []) refl refl (omega arith) (Asks (Revoke p e)) (rw h refl)
+call-read (Comes e q) h = comes-back e q (and-l (isNumber e) (isNumber q) h) (and-r (isNumber e) (isNumber q) h)
