@@ -9,6 +9,7 @@ use std::collections::BTreeSet;
 const SIZES: Sizes = Sizes {
     by_hand: 40,
     states: 12,
+    pieces: 20,
     lines: 30,
     sessions: 6,
     chosen: 4,

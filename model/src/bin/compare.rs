@@ -76,6 +76,7 @@ fn sizes(options: &[&str]) -> Result<Sizes, Box<dyn std::error::Error>> {
     Ok(Sizes {
         by_hand: number("--by-hand")?,
         states: number("--states")?,
+        pieces: number("--pieces")?,
         lines: number("--lines")?,
         sessions: number("--sessions")?,
         calls: number("--calls")?,

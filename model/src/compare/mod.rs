@@ -10,6 +10,7 @@ pub mod features;
 pub mod full;
 pub mod histories;
 pub mod limits;
+pub mod pieces;
 pub mod random_tables;
 pub mod sessions;
 pub mod shapes;
@@ -30,6 +31,8 @@ pub struct Sizes {
     pub by_hand: usize,
     /// Lines of the longest conformance session; 0: none, and none of the manual.
     pub lines: usize,
+    /// The most rows of a piece of a longer one; 0: none.
+    pub pieces: usize,
     /// Random sessions, others chosen for their features, the calls of each.
     pub sessions: usize,
     pub chosen: usize,
@@ -58,6 +61,7 @@ pub fn cases(seed: u64, sizes: Sizes) -> std::io::Result<Vec<Case>> {
         cases.extend(shapes::shapes());
     }
     cases.extend(sessions::conformance(sizes.lines)?);
+    cases.extend(pieces::pieces(sizes.lines, sizes.pieces)?);
     if sizes.lines > 0 {
         cases.extend(sessions::of_manual()?);
     }
