@@ -4,6 +4,18 @@
 use crate::call_words::{AnswerWords, CallWords};
 use crate::{RequestFields, RequestMarks, RowFields, RowMarks};
 
+/// Both runs, the bytes and the lent reply, each a pointer and a length.
+pub type EntryPoint = unsafe extern "C" fn(
+    *mut u32,
+    usize,
+    *mut u32,
+    usize,
+    *const u8,
+    usize,
+    *mut u8,
+    usize,
+) -> usize;
+
 extern "C" {
     // lookups.rt
     pub fn kernel_rows_in(t: *const u32, t_len: usize) -> usize;

@@ -5,19 +5,15 @@
 
 mod common;
 
-use common::calls::{calls_of_round, others_stay, the_last_number, the_last_request, the_last_row};
+use common::calls::{calls_of, others_stay, the_last_number, the_last_request, the_last_row};
 use common::performed::Perform;
-use common::refused::Refused;
 use kernel::performing::perform;
 
 const PERFORM: Perform = perform;
 
 #[test]
 fn calls_as_the_model_makes_them() {
-    let mut seen = Refused::default();
-    for round in 0..5 {
-        calls_of_round(&PERFORM, round, &mut seen);
-    }
+    let seen = calls_of(&PERFORM, 0..5);
     seen.print("performed as the model performs");
     seen.check(100);
     assert!(seen.calls() >= 300_000, "{} calls", seen.calls());
@@ -27,11 +23,7 @@ fn calls_as_the_model_makes_them() {
 #[ignore = "the longer run"]
 fn more_calls() {
     let rounds = std::env::var("ROUNDS").map_or(50, |n| n.parse().expect("a number of rounds"));
-    let mut seen = Refused::default();
-    for round in 5..5 + rounds {
-        calls_of_round(&PERFORM, round, &mut seen);
-        println!("round {round}: {} calls", seen.calls());
-    }
+    let seen = calls_of(&PERFORM, 5..5 + rounds);
     seen.print("performed as the model performs");
     seen.check(100);
 }

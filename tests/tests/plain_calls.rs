@@ -3,20 +3,15 @@
 
 mod common;
 
-use common::calls::{calls_of_round, others_stay, the_last_number, the_last_request, the_last_row};
+use common::calls::{calls_of, others_stay, the_last_number, the_last_request, the_last_row};
 use common::performed::Perform;
-use common::refused::Refused;
 use kernel::plain::calls::perform;
 
 const PERFORM: Perform = perform;
 
 #[test]
 fn calls_as_the_model_makes_them() {
-    let mut seen = Refused::default();
-    for round in 0..5 {
-        calls_of_round(&PERFORM, round, &mut seen);
-    }
-    seen.check(100);
+    calls_of(&PERFORM, 0..5).check(100);
 }
 
 #[test]

@@ -15,12 +15,22 @@ use model::random::{lines, openings, Profile, Rng, SMALL};
 use model::session::open;
 use model::words::{PROCESS_WORDS, TABLES_WORDS};
 use model::{sound, Tables};
+use std::ops::Range;
 
 /// Sessions of each small profile in a round, the calls of each, and how many
 /// calls there are between two looks at the tables.
 const SESSIONS: u64 = 60;
 const CALLS: usize = 150;
 const LOOK: usize = 30;
+
+/// So many rounds, with what they answered.
+pub fn calls_of(made: &dyn Made, rounds: Range<u64>) -> Refused {
+    let mut seen = Refused::default();
+    for round in rounds {
+        calls_of_round(made, round, &mut seen);
+    }
+    seen
+}
 
 /// A part of the run; each round has other seeds.
 pub fn calls_of_round(made: &dyn Made, round: u64, seen: &mut Refused) {

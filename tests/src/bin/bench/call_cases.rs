@@ -7,7 +7,7 @@ use model::limits::REQUESTS;
 use model::Tables;
 
 pub struct Case {
-    pub name: &'static str,
+    pub name: String,
     pub tables: Tables,
     /// With its line feed.
     pub line: String,
@@ -18,149 +18,132 @@ pub struct Case {
 /// What the tables of a case begin with: an opening, and calls on it.
 struct Start {
     opening: &'static str,
-    calls: &'static [&'static str],
+    calls: &'static [&'static [&'static str]],
 }
 
-/// An operation held by process 1, its row 4, a subdirectory held, row 5; row 3 is in the subdirectory's node.
+const TWO_NODES: &str = "(node 1 (op 2 0 7) (dir 2 7))\n(node 2 (op 2 1 7))\n\
+    (process 1 1)\n(process 2 1)\n(open)\n";
+
+const ONE_NODE: &str = "(node 1 (op 2 0 7) (dir 1 7))\n(process 1 1)\n(process 2 1)\n(open)\n";
+
+const HOLD_BOTH: &[&str] = &["(1 hold 1)", "(1 hold 2)"];
+
+/// An operation held by process 1, row 4, and a subdirectory, row 5; row 3 is in its node.
 const DIRECTORIES: Start = Start {
-    opening:
-        "(node 1 (op 2 0 7) (dir 2 7))\n(node 2 (op 2 1 7))\n(process 1 1)\n(process 2 1)\n(open)\n",
-    calls: &["(1 hold 1)", "(1 hold 2)"],
+    opening: TWO_NODES,
+    calls: &[HOLD_BOTH],
 };
 
 /// The same, and process 1 is in that node.
 const IN_NODE: Start = Start {
-    calls: &["(1 hold 1)", "(1 hold 2)", "(1 go 5)"],
-    ..DIRECTORIES
+    opening: TWO_NODES,
+    calls: &[HOLD_BOTH, &["(1 go 5)"]],
 };
 
 /// An operation and a subdirectory held, rows 3 and 4, and two ports, client ends 5 and 7.
+const MAKE_PORTS: &[&str] = &["(1 port 3)", "(1 port 3)"];
 const PORTS: Start = Start {
-    opening: "(node 1 (op 2 0 7) (dir 1 7))\n(process 1 1)\n(process 2 1)\n(open)\n",
-    calls: &["(1 hold 1)", "(1 hold 2)", "(1 port 3)", "(1 port 3)"],
+    opening: ONE_NODE,
+    calls: &[HOLD_BOTH, MAKE_PORTS],
 };
 
 /// Over the first port a request, number 9, with two copies and the other port's client end.
+const ASK: &[&str] = &["(1 ask 5 (3 7) (4 7) (7 0))"];
 const ASKED: Start = Start {
-    calls: &[
-        "(1 hold 1)",
-        "(1 hold 2)",
-        "(1 port 3)",
-        "(1 port 3)",
-        "(1 ask 5 (3 7) (4 7) (7 0))",
-    ],
-    ..PORTS
+    opening: ONE_NODE,
+    calls: &[HOLD_BOTH, MAKE_PORTS, ASK],
 };
 
 /// And fetched.
 const FETCHED: Start = Start {
-    calls: &[
-        "(1 hold 1)",
-        "(1 hold 2)",
-        "(1 port 3)",
-        "(1 port 3)",
-        "(1 ask 5 (3 7) (4 7) (7 0))",
-        "(2 fetch 6)",
-    ],
-    ..PORTS
+    opening: ONE_NODE,
+    calls: &[HOLD_BOTH, MAKE_PORTS, ASK, &["(2 fetch 6)"]],
 };
 
-/// Process 2 has lent the borrowed end 5 to itself, so a newer request lists it.
+/// Process 1 lends end 5 to process 2, which lends it to itself: a newer request lists it.
+const LEND: &[&str] = &["(1 port 2)", "(1 port 2)", "(1 ask 3 (5 0))", "(2 fetch 4)"];
+const LEND_ON: &[&str] = &[
+    "(2 hold 1)",
+    "(2 port 8)",
+    "(2 ask 9 (5 0))",
+    "(2 fetch 10)",
+];
 const LENT_ON: Start = Start {
     opening: "(node 1 (op 2 0 7))\n(process 1 1)\n(process 2 1)\n(open)\n",
-    calls: &[
-        "(1 hold 1)",
-        "(1 port 2)",
-        "(1 port 2)",
-        "(1 ask 3 (5 0))",
-        "(2 fetch 4)",
-        "(2 hold 1)",
-        "(2 port 8)",
-        "(2 ask 9 (5 0))",
-        "(2 fetch 10)",
-    ],
+    calls: &[&["(1 hold 1)"], LEND, LEND_ON],
 };
 
-/// A name, the start, whether numbers are left, the call, its refusal, and the rows that it adds.
-type Measured = (&'static str, &'static Start, bool, &'static str, u32, usize);
+/// The call's name, the start, the line, its refusal or 0, and the rows that it adds.
+type Measured = (&'static str, &'static Start, &'static str, u32, usize);
 
 const CASES: [Measured; 24] = [
-    ("go", &DIRECTORIES, true, "(1 go 5)", 0, 0),
-    ("go, refused 8", &DIRECTORIES, true, "(1 go 4)", 8, 0),
-    ("hold", &IN_NODE, true, "(1 hold 3)", 0, 1),
-    ("hold, refused 18", &IN_NODE, false, "(1 hold 3)", 18, 1),
-    ("register", &DIRECTORIES, true, "(1 register 4)", 0, 1),
-    (
-        "register, refused 18",
-        &DIRECTORIES,
-        false,
-        "(1 register 4)",
-        18,
-        1,
-    ),
-    ("drop", &DIRECTORIES, true, "(1 drop 5)", 0, 0),
-    ("drop, refused 13", &IN_NODE, true, "(1 drop 5)", 13, 0),
-    ("port", &DIRECTORIES, true, "(1 port 4)", 0, 2),
-    ("port, refused 18", &DIRECTORIES, false, "(1 port 4)", 18, 2),
-    ("close", &FETCHED, true, "(1 close 5)", 0, 0),
-    ("close, refused 12", &FETCHED, true, "(2 close 7)", 12, 0),
-    (
-        "ask, three items",
-        &PORTS,
-        true,
-        "(1 ask 5 (3 7) (4 7) (7 0))",
-        0,
-        2,
-    ),
-    (
-        "ask, refused 18",
-        &PORTS,
-        false,
-        "(1 ask 5 (3 7) (4 7) (7 0))",
-        18,
-        2,
-    ),
-    ("fetch, three items", &ASKED, true, "(2 fetch 6)", 0, 0),
-    ("fetch, refused 11", &FETCHED, true, "(2 fetch 6)", 11, 0),
-    ("reply", &FETCHED, true, "(2 reply 6)", 0, 0),
-    ("reply, refused 14", &LENT_ON, true, "(2 reply 4)", 14, 0),
-    ("refuse", &FETCHED, true, "(2 refuse 6)", 0, 0),
-    ("refuse, refused 11", &PORTS, true, "(2 refuse 6)", 11, 0),
-    ("revoke", &FETCHED, true, "(1 revoke 9)", 0, 0),
-    ("revoke, refused 7", &FETCHED, true, "(2 revoke 9)", 7, 0),
-    ("comes", &FETCHED, true, "(comes 10 9)", 0, 0),
-    ("comes, refused 7", &FETCHED, true, "(comes 10 8)", 7, 0),
+    ("go", &DIRECTORIES, "(1 go 5)", 0, 0),
+    ("go", &DIRECTORIES, "(1 go 4)", 8, 0),
+    ("hold", &IN_NODE, "(1 hold 3)", 0, 1),
+    ("hold", &IN_NODE, "(1 hold 3)", 18, 1),
+    ("register", &DIRECTORIES, "(1 register 4)", 0, 1),
+    ("register", &DIRECTORIES, "(1 register 4)", 18, 1),
+    ("drop", &DIRECTORIES, "(1 drop 5)", 0, 0),
+    ("drop", &IN_NODE, "(1 drop 5)", 13, 0),
+    ("port", &DIRECTORIES, "(1 port 4)", 0, 2),
+    ("port", &DIRECTORIES, "(1 port 4)", 18, 2),
+    ("close", &FETCHED, "(1 close 5)", 0, 0),
+    ("close", &FETCHED, "(2 close 7)", 12, 0),
+    ("ask", &PORTS, "(1 ask 5 (3 7) (4 7) (7 0))", 0, 2),
+    ("ask", &PORTS, "(1 ask 5 (3 7) (4 7) (7 0))", 18, 2),
+    ("fetch", &ASKED, "(2 fetch 6)", 0, 0),
+    ("fetch", &FETCHED, "(2 fetch 6)", 11, 0),
+    ("reply", &FETCHED, "(2 reply 6)", 0, 0),
+    ("reply", &LENT_ON, "(2 reply 4)", 14, 0),
+    ("refuse", &FETCHED, "(2 refuse 6)", 0, 0),
+    ("refuse", &PORTS, "(2 refuse 6)", 11, 0),
+    ("revoke", &FETCHED, "(1 revoke 9)", 0, 0),
+    ("revoke", &FETCHED, "(2 revoke 9)", 7, 0),
+    ("comes", &FETCHED, "(comes 10 9)", 0, 0),
+    ("comes", &FETCHED, "(comes 10 8)", 7, 0),
 ];
 
-/// All cases at so many rows. An eighth of 100 rows and of more belong to requests.
+/// All cases at so many rows.
 pub fn cases(rows: usize) -> impl Iterator<Item = Case> {
-    let requests = if rows < 100 { 0 } else { rows / 8 };
+    let requests = requests_beside(rows);
     CASES
         .iter()
         .map(move |measured| built(measured, rows, requests))
 }
 
-/// The case of that name with so many rows and requests.
-pub fn case(name: &str, rows: usize, requests: usize) -> Case {
+/// An eighth of 100 rows and of more belong to a request each.
+pub fn requests_beside(rows: usize) -> usize {
+    if rows < 100 {
+        return 0;
+    }
+    rows / 8
+}
+
+/// The accepted call of that name with so many rows and requests.
+pub fn accepted(name: &str, rows: usize, requests: usize) -> Case {
     let mut cases = CASES.iter().filter(|measured| measured.0 == name);
     built(cases.next().expect("a case"), rows, requests)
 }
 
-/// With so many rows, less those that the call adds, and so many requests, less one if it asks. The rows of the case
-/// are the oldest.
-fn built(
-    &(name, start, left, line, refusal, adds): &Measured,
-    rows: usize,
-    requests: usize,
-) -> Case {
+fn begun(start: &Start) -> Tables {
     let mut tables = opened(start.opening);
-    for line in start.calls {
+    for line in start.calls.iter().copied().flatten() {
         call(&mut tables, line);
     }
-    let asks = usize::from(line.contains("ask"));
-    tables = with_requests(tables, requests.min(REQUESTS - asks));
-    tables = with_rows(tables, rows - adds);
-    if !left {
+    tables
+}
+
+/// With so many rows, less those that the call adds, and so many requests,
+/// less one if it asks. The rows of the case are the oldest.
+fn built(&(call, start, line, refusal, adds): &Measured, rows: usize, requests: usize) -> Case {
+    let asks = usize::from(call == "ask");
+    let tables = with_requests(begun(start), requests.min(REQUESTS - asks));
+    let mut tables = with_rows(tables, rows - adds);
+    let mut name = call.to_string();
+    if refusal != 0 {
+        name += &format!(", refused {refusal}");
+    }
+    if refusal == 18 {
         tables = with_numbers_left(tables, 0);
     }
     assert!(model::sound(&tables), "{name}");
@@ -175,14 +158,14 @@ fn built(
 
 /// A fetch whose answer is the longest: a request and four copies, the last of number 1,000,000.
 pub fn longest_answer() -> Case {
-    let mut tables = opened(PORTS.opening);
-    for line in PORTS.calls.iter().chain(&["(1 hold 1)", "(1 hold 1)"]) {
+    let mut tables = begun(&PORTS);
+    for line in ["(1 hold 1)", "(1 hold 1)"] {
         call(&mut tables, line);
     }
     tables = with_numbers_left(tables, 5);
     call(&mut tables, "(1 ask 5 (3 7) (4 7) (9 7) (10 7))");
     Case {
-        name: "fetch, the longest answer",
+        name: "fetch, the longest answer".to_string(),
         tables,
         line: "(2 fetch 6)\n".to_string(),
         refusal: 0,

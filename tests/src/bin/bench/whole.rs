@@ -1,13 +1,12 @@
 //! Whole calls, bytes to bytes: the calls, openings, the parts of a call, and
 //! how a call grows with rows and with requests.
 
-use crate::call_cases::{case, cases, longest_answer, Case};
+use crate::call_cases::{accepted, cases, longest_answer, requests_beside, Case};
 use crate::measure::{Layer, Measured};
 use crate::on_runs::{measure, On};
 use kernel::layout::{PROCESS_WORDS, TABLES_WORDS};
 use kernel::{entry, plain, reading};
 use model::session::open;
-use model::Tables;
 use std::hint::black_box as hidden;
 
 /// The bytes of both runs, each of which decides whether the tables are sound.
@@ -25,80 +24,64 @@ fn replied(point: Point, t: &mut [u32], p: &mut [u32], bytes: &[u8]) -> Reply {
 
 pub fn on_whole_calls(by: &mut dyn Measured) {
     for rows in crate::SIZES {
-        for Case {
-            name, tables, line, ..
-        } in cases(rows)
-        {
-            whole(by, Layer::Whole, name, &tables, line.as_bytes());
+        for case in cases(rows) {
+            called(by, Layer::Whole, &case, &case.line);
         }
     }
     let longest = longest_answer();
-    whole(
-        by,
-        Layer::Whole,
-        longest.name,
-        &longest.tables,
-        longest.line.as_bytes(),
-    );
-    opening(
-        by,
-        "opening of one node and one process",
-        b"(node 1 (op 1 0 7))\n(process 1 1)\n(open)\n",
-    );
-    opening(by, "opening of the largest text", &largest_text());
-    for (rows, requests) in [
-        (10, 0),
-        (64, 0),
-        (256, 0),
-        (512, 0),
-        (1024, 0),
-        (1024, 16),
-        (1024, 64),
-        (1024, 128),
-    ] {
-        let Case {
-            name, tables, line, ..
-        } = case("hold", rows, requests);
-        whole(by, Layer::Growth, name, &tables, line.as_bytes());
+    called(by, Layer::Whole, &longest, &longest.line);
+    let smallest = b"(node 1 (op 1 0 7))\n(process 1 1)\n(open)\n";
+    opening(by, "one node and one process", smallest);
+    opening(by, "the largest text", &largest_text());
+    for rows in [10, 64, 256, 512, 1024] {
+        grown(by, rows, 0);
+    }
+    for requests in [16, 64, 128] {
+        grown(by, 1024, requests);
     }
     for rows in crate::SIZES {
-        for name in ["hold", "ask, three items", "reply", "comes"] {
-            let requests = if rows < 100 { 0 } else { rows / 8 };
-            parts(by, &case(name, rows, requests));
+        for name in ["hold", "ask", "reply", "comes"] {
+            parts(by, &accepted(name, rows, requests_beside(rows)));
         }
     }
 }
 
-fn whole(by: &mut dyn Measured, layer: Layer, name: &str, tables: &Tables, line: &[u8]) {
+fn grown(by: &mut dyn Measured, rows: usize, requests: usize) {
+    let case = accepted("hold", rows, requests);
+    called(by, Layer::Growth, &case, &case.line);
+}
+
+/// The call of a line on the tables of a case.
+fn called(by: &mut dyn Measured, layer: Layer, case: &Case, line: &str) {
     let on = On {
         layer,
-        name: name.to_string(),
-        tables,
+        name: case.name.clone(),
+        tables: &case.tables,
         reads: RUNS + line.len(),
     };
-    measure(
-        by,
-        on,
-        |t, p| replied(entry::call, t, p, line),
-        |t, p| replied(plain::entry::call, t, p, line),
-    );
+    entered(by, on, line.as_bytes(), [entry::call, plain::entry::call]);
 }
 
 /// An opening, on words that were opened before.
-fn opening(by: &mut dyn Measured, name: &str, text: &[u8]) {
+fn opening(by: &mut dyn Measured, what: &str, text: &[u8]) {
     let (tables, answer, _) = open(text);
-    assert!(answer.accepted(), "{name}");
+    assert!(answer.accepted(), "{what}");
     let on = On {
         layer: Layer::Opening,
-        name: name.to_string(),
+        name: format!("opening of {what}"),
         tables: &tables,
         reads: RUNS + text.len(),
     };
+    entered(by, on, text, [entry::open, plain::entry::open]);
+}
+
+/// An entry point, proved and in plain Rust.
+fn entered(by: &mut dyn Measured, on: On, bytes: &[u8], [proved, plain]: [Point; 2]) {
     measure(
         by,
         on,
-        |t, p| replied(entry::open, t, p, text),
-        |t, p| replied(plain::entry::open, t, p, text),
+        |t, p| replied(proved, t, p, bytes),
+        |t, p| replied(plain, t, p, bytes),
     );
 }
 
@@ -115,11 +98,10 @@ fn largest_text() -> Vec<u8> {
 /// which is refused before it is read; the line with a caller that is not
 /// listed, which is read and refused; and the whole call.
 fn parts(by: &mut dyn Measured, case: &Case) {
-    let tables = &case.tables;
     let on = On {
         layer: Layer::Parts,
-        name: case.name.to_string(),
-        tables,
+        name: case.name.clone(),
+        tables: &case.tables,
         reads: RUNS,
     };
     measure(
@@ -128,25 +110,15 @@ fn parts(by: &mut dyn Measured, case: &Case) {
         |t, p| reading::sound(t, p),
         |t, p| plain::sound(t, p),
     );
-    whole(by, Layer::Parts, case.name, tables, b"");
-    whole(
-        by,
-        Layer::Parts,
-        case.name,
-        tables,
-        unlisted(case).as_bytes(),
-    );
-    whole(by, Layer::Parts, case.name, tables, case.line.as_bytes());
+    for line in ["", &unlisted(case), &case.line] {
+        called(by, Layer::Parts, case, line);
+    }
 }
 
-/// The line with process 64 for its caller; comes has none, so that its row does not stand.
+/// The line with process 64 for its caller; comes has none, so its row is one that does not stand.
 fn unlisted(case: &Case) -> String {
-    let line = case
-        .line
-        .trim_start_matches("(comes 10")
-        .trim_start_matches(['(', '1', '2']);
-    match case.name {
-        "comes" => format!("(comes 999999{line}"),
-        _ => format!("(64{line}"),
+    match case.line.strip_prefix("(comes 10") {
+        Some(rest) => format!("(comes 999999{rest}"),
+        None => format!("(64{}", &case.line[2..]),
     }
 }
