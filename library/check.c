@@ -101,6 +101,21 @@ static void twelve(void) {
     }
 }
 
+/* the longest answer, whose printing takes the most stack */
+static void longest(void) {
+    static const char *const lines[] = {
+        "(1 hold 1)\n", "(1 hold 1)\n", "(1 hold 1)\n", "(1 hold 1)\n", "(1 port 999990)\n",
+        "(1 ask 999994 (999990 7) (999991 7) (999992 7) (999993 7))\n",
+    };
+    const size_t t = TABLET_TABLES_WORDS, p = TABLET_PROCESSES_WORDS;
+    open_text(t, p, "(node 1 (op 1 0 7))\n(process 1 1)\n(open)\n", 256);
+    tables[t - 1] = 999990; /* the next number */
+    for (size_t i = 0; i < sizeof lines / sizeof *lines; i++)
+        call(t, p, lines[i], 256);
+    check("the longest answer",
+          answered(call(t, p, "(1 fetch 999995)\n", 256), "(ok 999996 999997 999998 999999 1000000)\n"));
+}
+
 /* a stack of its own, filled with a pattern, shows how much of it was used */
 static unsigned char stack[4 * TABLET_STACK_BYTES];
 static ucontext_t here, there;
@@ -109,6 +124,7 @@ static void on_that_stack(void) {
     openings();
     calls();
     twelve();
+    longest();
 }
 
 static size_t stack_used(void) {
