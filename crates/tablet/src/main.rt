@@ -31,7 +31,7 @@ struct Turn {
 fn write_out(out: &[u8], n: usize) -> bool
     requires { ⌜ n ≤ length (now out) ⌝ }
 {
-    let written = io::write_all(STDOUT_FILENO, &out[..n]);
+    let written = io::write_all(STDOUT_FILENO, &out[0..n]);
     if !written {
         io::write_all(STDERR_FILENO, b"tablet: the output cannot be written\n");
     }
