@@ -94,7 +94,8 @@ fn read_once(
 ) -> Turn
     requires ready { ⌜ Ready k (now kept) (now tables) (now processes) ⌝ }
     requires sizes { ⌜ REPLY ≤ length (now out) ⌝ }
-    ensures { λ r. ⌜ (r .going ≡ true → Ready (r .kept) (now (kept .exit)) (now (tables .exit)) (now (processes .exit))) ⌝ }
+    ensures { λ r. ⌜ (r .going ≡ true →
+        Ready (r .kept) (now (kept .exit)) (now (tables .exit)) (now (processes .exit))) ⌝ }
 {
     let got = libc::read(STDIN_FILENO, part);
     if got > 0 {
@@ -113,8 +114,8 @@ fn read_once(
 }
 
 // ---- the session
-// Turn after turn, from a number of them that no input uses up: a proved loop has to end, and nothing says that the input
-// does.
+// Turn after turn, from a number of them that no input uses up: a proved loop has to end, and nothing says that the
+// input does.
 fn session(
     tables: &mut [u32],
     processes: &mut [u32],

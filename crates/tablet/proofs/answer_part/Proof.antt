@@ -18,7 +18,9 @@ abbrev μ-loop : tie.MeasureT-loop
 μ-loop tables₀ processes₀ kept₀ part out₀ here₀ at₀ written₀ tables processes kept out here at written = length part - at
 
 loop-holds : tie.Need-loop-holds Inv-loop μ-loop
-loop-holds c = let s = c .before .before .before .before .before in (omega arith, s .pre .0, search needs, search needs, search needs, search needs)
+loop-holds c =
+    let s = c .before .before .before .before .before in
+    (omega arith, s .pre .0, search needs, search needs, search needs, search needs)
 
 feed-requires : tie.Need-feed-requires Inv-loop μ-loop
 feed-requires c κs =

@@ -21,7 +21,9 @@ begin-requires : tie.Need-begin-requires Inv-loop μ-loop
 begin-requires c κs = search needs
 
 loop-holds : tie.Need-loop-holds Inv-loop μ-loop
-loop-holds c = let s = c .before .before .before .before .before .before in (λ e. c .begin .ensures (s .args .kept .now) (s .args .tables .now) (s .args .processes .now) (s .pre .1 .0) (s .pre .0 .0) (s .pre .0 .1), search needs, search needs, search needs, search needs, search needs)
+loop-holds c =
+    let s = c .before .before .before .before .before .before in
+    (λ e. c .begin .ensures (s .args .kept .now) (s .args .tables .now) (s .args .processes .now) (s .pre .1 .0) (s .pre .0 .0) (s .pre .0 .1), search needs, search needs, search needs, search needs, search needs)
 
 read-once-requires : tie.Need-read-once-requires Inv-loop μ-loop
 read-once-requires c κs =
@@ -31,10 +33,14 @@ read-once-requires c κs =
     (l .inv .0 (c .before .before .before .before .before .before .loop-test .taken), omega arith)
 
 sub-turns : tie.Need-sub-turns Inv-loop μ-loop
-sub-turns c = let some = ltb-true 0 (c .before .before .before .before .before .before .before .before .before .before .before .before .before .before .before .before .before .before .before .loop .turns) (c .before .before .before .before .before .before .before .before .before .before .before .before .before .before .before .before .before .if1 .taken) in omega arith
+sub-turns c =
+    let some = ltb-true 0 (c .before .before .before .before .before .before .before .before .before .before .before .before .before .before .before .before .before .before .before .loop .turns) (c .before .before .before .before .before .before .before .before .before .before .before .before .before .before .before .before .before .if1 .taken) in
+    omega arith
 
 loop-less : tie.Need-loop-less Inv-loop μ-loop
-loop-less c = let some = ltb-true 0 (c .before .before .before .before .before .before .before .before .before .before .before .before .before .before .before .before .before .before .before .loop .turns) (c .before .before .before .before .before .before .before .before .before .before .before .before .before .before .before .before .before .if1 .taken) in omega arith
+loop-less c =
+    let some = ltb-true 0 (c .before .before .before .before .before .before .before .before .before .before .before .before .before .before .before .before .before .before .before .loop .turns) (c .before .before .before .before .before .before .before .before .before .before .before .before .before .before .before .before .before .if1 .taken) in
+    omega arith
 
 loop-again : tie.Need-loop-again Inv-loop μ-loop
 loop-again c =
