@@ -1,5 +1,6 @@
 //! Proves and builds the Rattle crates `test_exports` and `entry` as static
-//! libraries, and links them. Each defines its exported names alone.
+//! libraries, and links them; each defines its exported names alone. Proves and
+//! builds the program `tablet`, which the tests start.
 
 use std::path::{Path, PathBuf};
 use std::process::Command;
@@ -10,22 +11,24 @@ fn main() {
     let root = Path::new(&package).parent().expect("a repository above");
     let out = PathBuf::from(env::var("OUT_DIR").expect("cargo names a folder"));
     for library in ["test_exports", "entry"] {
-        built(root, &out, library);
+        let archive = format!("staticlib/lib{library}.a");
+        built(root, &out, ["staticlib", library], &archive);
         println!("cargo:rustc-link-lib=static={library}");
     }
     println!("cargo:rustc-link-search=native={}", out.display());
+    let program = built(root, &out, ["check", "tablet"], "bin/tablet");
+    println!("cargo:rustc-env=TABLET={}", program.display());
     for source in ["crates", "crates.txt"] {
         println!("cargo:rerun-if-changed={}", root.join(source).display());
     }
 }
 
-/// Builds a library and copies it: `rt ci` removes target/, and cargo does not see that.
-fn built(root: &Path, out: &Path, library: &str) {
-    let mut rt = Command::new("rt");
-    let status = rt.args(["staticlib", library]).current_dir(root).status();
-    let built = status.expect("rt starts").success();
-    assert!(built, "rt staticlib {library}");
-    let file = format!("lib{library}.a");
-    let archive = root.join("target/staticlib").join(&file);
-    fs::copy(archive, out.join(file)).expect("the archive is there");
+/// Has rt write a file, and copies it: `rt ci` removes target/, and cargo does not see that.
+fn built(root: &Path, out: &Path, words: [&str; 2], file: &str) -> PathBuf {
+    let status = Command::new("rt").args(words).current_dir(root).status();
+    assert!(status.expect("rt starts").success(), "rt {words:?}");
+    let from = root.join("target").join(file);
+    let to = out.join(from.file_name().expect("a name"));
+    fs::copy(from, &to).expect("the file is there");
+    to
 }

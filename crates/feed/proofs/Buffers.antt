@@ -1,11 +1,11 @@
 -- Laws of a session in its buffer: a byte kept, lines counted, an opening decided, and the stage after it.
-use Prim.Native.Nat.{ℕ, suc, _+_, _≤_, _<_}
+use Prim.Native.Nat.{ℕ, _+_, _≤_, _<_}
 use native.Mathlib.Numerals.{add-one}
 use native.Mathlib.Omega.{arith}
 use mathlib.Core.Bool.{Bool, true, false, cond, _&&_}
 use mathlib.Core.List.{List, [], _∷_, _++_}
 use mathlib.Core.Path.{_≡_, refl, sym, ap, _∙_}
-use lib.Dec.{ltb, eqb}
+use lib.Dec.{ltb}
 use lib.ListN.{length, take, drop, set, getD, length-append, length-drop, length-set, drop-of-length-le}
 use lib.Seq.{length-take-le, take-set-le, drop-set-add, take-suc-set}
 use borrow.Author.Tests.{lt-ltb}
@@ -20,7 +20,7 @@ use Rattle.text.specs.contracts.Openings.{firstLine, Ends}
 use Rattle.text.proofs.OpeningLaws.{line-split, line-some}
 use Rattle.feed.specs.declared.Stage.the-variants.{Calls, Over}
 use Rattle.feed.specs.declared.Kept.{Kept}
-use Rattle.feed.specs.Feeding.{keptOfLine, cut, withLine, goesOn, stageAfter}
+use Rattle.feed.specs.Feeding.{cut, withLine, goesOn, stageAfter}
 use Rattle.feed.specs.contracts.Buffers.{LINE, feed-sizes-meant, sessionIn, Stands, HasRoom, KeepsByte}
 use Rattle.feed.proofs.Lines.{cut-all, cut-full}
 

@@ -1,8 +1,8 @@
 -- Laws of steps in buffers: a line that has ended at each stage, a byte, bytes one after the other.
-use Prim.Native.Nat.{ℕ, _+_, _-_, _≤_}
+use Prim.Native.Nat.{ℕ, _+_, _-_}
 use native.Mathlib.Omega.{arith}
 use mathlib.Core.Bool.{true, false, cond}
-use mathlib.Core.List.{List, [], _∷_, _++_}
+use mathlib.Core.List.{List, [], _++_}
 use mathlib.Core.Path.{_≡_, refl, sym, ap, subst, _∙_}
 use lib.Dec.{eqb}
 use lib.ListN.{length, take, drop}
@@ -14,7 +14,7 @@ use Rattle.feed.specs.declared.Stage.{Stage}
 use Rattle.feed.specs.declared.Stage.the-variants.{Opening, Calls, Over}
 use Rattle.feed.specs.declared.Kept.{Kept}
 use Rattle.feed.specs.declared.Moved.{Moved}
-use Rattle.feed.specs.Feeding.{Session, lineStart, withLine, Step, silent, undecided, opened, openingLine, callLine, lineFed, byteFed, finished}
+use Rattle.feed.specs.Feeding.{Session, withLine, silent, undecided, opened, openingLine, callLine, lineFed, byteFed, finished}
 use Rattle.feed.specs.contracts.Buffers.{sessionIn, Stands, KeepsByte, withByte, Writes, StageOf, Takes, atLineStart, Moves, lineEnded}
 use Rattle.feed.proofs.Buffers.{line-long}
 

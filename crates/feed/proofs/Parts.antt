@@ -120,7 +120,7 @@ feeding-starts part at k b t p out h stands =
     record { low = omega arith; high = h; takes = rw e (record { session = refl; stands = stands; writes = (refl, refl) }) }
 
 -- what is written stands in the buffer
-pub writes-within : (text out after : List ℕ) (n : ℕ) → Writes text out after n → length after ≡ length out → n ≤ length out
+pub writes-within : (text out after : List ℕ) (n : ℕ) → Writes text out after n → length after ≡ length out → n ≤ length after
 writes-within text out after n w same =
     let long = ap length (w .1) in
     let parts = length-append text (drop n out) in

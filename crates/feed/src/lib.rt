@@ -7,8 +7,8 @@ pub enum Stage {
     Over,
 }
 
-// What the buffer of the bytes kept has: in front, so many bytes of an opening that is not decided; then, so many of the
-// line begun.
+// What the buffer of the bytes kept has: in front, so many bytes of an opening that is not decided; then, so many of
+// the line begun.
 pub struct Kept {
     pub stage: Stage,
     pub text: usize,

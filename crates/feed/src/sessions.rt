@@ -177,7 +177,8 @@ pub fn finish(
     out: &mut [u8],
 ) -> usize
     requires { ⌜ Stands k (now kept) × (REPLY ≤ length (now out)) ⌝ }
-    ensures { λ r. ⌜ Writes
+    ensures within { λ r. ⌜ r ≤ length (now (out .exit)) ⌝ }
+    ensures writes { λ r. ⌜ Writes
         (finished (k .stage) (sessionIn k (now (kept .entry)) (now (tables .entry)) (now (processes .entry))))
         (now (out .entry)) (now (out .exit)) r ⌝ }
 {

@@ -1,6 +1,5 @@
 -- `deciding::stage_after` meets its contract: the reply's second byte tells.
 use borrow.Author.Needs.{needs}
-use mathlib.Core.Path.{ap, sym, subst, _∙_}
 use Rattle.feed.proofs.Buffers.{toldBy, told-opening}
 use Rattle.feed.proofs.deciding.stage_after.Statement.{statement}
 use Rattle.feed.proofs.deciding.stage_after.Tie as tie

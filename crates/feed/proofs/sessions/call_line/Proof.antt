@@ -1,8 +1,5 @@
 -- `sessions::call_line` meets its contract: the line begun is answered as a call.
 use borrow.Author.Needs.{needs}
-use native.Mathlib.Omega.{arith}
-use mathlib.Core.Path.{subst, sym}
-use Rattle.feed.specs.contracts.Buffers.{Moves}
 use Rattle.feed.proofs.Moves.{call-answered}
 use Rattle.feed.proofs.sessions.call_line.Statement.{statement}
 use Rattle.feed.proofs.sessions.call_line.Tie as tie

@@ -1,6 +1,6 @@
 -- `sessions::feed` meets its contract: the bytes read so far are fed.
 use borrow.Author.Needs.{needs}
-use Prim.Native.Nat.{_≤_, _+_, _-_}
+use Prim.Native.Nat.{_≤_, _-_}
 use native.Mathlib.Omega.{arith}
 use mathlib.Core.Path.{_≡_, _∙_}
 use lib.ListN.{length, take, drop, length-drop}
@@ -20,7 +20,9 @@ abbrev μ-loop : tie.MeasureT-loop
 μ-loop tables₀ processes₀ kept₀ part at out₀ here₀ i₀ n₀ tables processes kept out here i n = length part - i
 
 loop-holds : tie.Need-loop-holds Inv-loop μ-loop
-loop-holds c = let s = c .before .before .before .before .before in (feeding-starts (s .args .part .now) (s .args .at) (s .args .k) (s .args .kept .now) (s .args .tables .now) (s .args .processes .now) (s .args .out .now) (s .pre .1 .0) (s .pre .0 .stands), search needs, search needs, search needs, search needs, omega arith)
+loop-holds c =
+    let s = c .before .before .before .before .before in
+    (feeding-starts (s .args .part .now) (s .args .at) (s .args .k) (s .args .kept .now) (s .args .tables .now) (s .args .processes .now) (s .args .out .now) (s .pre .1 .0) (s .pre .0 .stands), search needs, search needs, search needs, search needs, omega arith)
 
 sub-if1 : tie.Need-sub-if1 Inv-loop μ-loop
 sub-if1 c = search needs
@@ -57,10 +59,16 @@ add-n c =
     search needs
 
 add-i : tie.Need-add-i Inv-loop μ-loop
-add-i c = let taken = c .before .before .before .before .before .before .before .before .before .before .before .before .before .before .before .before .before .loop-test .taken in let good = c .before .before .before .before .before .before .before .before .before .before .before .before .before .before .before .before .before .before .before .before .before .before .before .before .good in search needs
+add-i c =
+    let taken = c .before .before .before .before .before .before .before .before .before .before .before .before .before .before .before .before .before .loop-test .taken in
+    let good = c .before .before .before .before .before .before .before .before .before .before .before .before .before .before .before .before .before .before .before .before .before .before .before .before .good in
+    search needs
 
 loop-less : tie.Need-loop-less Inv-loop μ-loop
-loop-less c = let l = c .before .before .before .before .before .before .before .before .before .before .before .before .before .before .before .before .before .before .loop in let t = c .before .before .before .before .before .before .before .before .before .before .before .before .before .before .before .before .before .loop-test .taken in omega arith
+loop-less c =
+    let l = c .before .before .before .before .before .before .before .before .before .before .before .before .before .before .before .before .before .before .loop in
+    let t = c .before .before .before .before .before .before .before .before .before .before .before .before .before .before .before .before .before .loop-test .taken in
+    omega arith
 
 loop-again : tie.Need-loop-again Inv-loop μ-loop
 loop-again c =

@@ -1,6 +1,5 @@
 -- `sessions::opening_line` meets its contract: the opening waits, or it is decided and answered.
 use borrow.Author.Needs.{needs}
-use native.Mathlib.Omega.{arith}
 use mathlib.Core.Path.{sym, _∙_}
 use lib.Seq.{length-take-le}
 use Rattle.feed.proofs.Moves.{opening-waits, opening-decided}

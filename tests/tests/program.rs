@@ -1,0 +1,143 @@
+//! The program `tablet` through pipes, byte for byte: the conformance sessions, random sessions, parts of any size, line by line.
+
+use model::random::damage::damage;
+use model::random::{session, Rng, PROFILES};
+use model::run_session;
+use std::fs;
+use std::io::{BufRead, BufReader, Read, Write};
+use std::path::Path;
+use std::process::{Child, ChildStdin, Command, Stdio};
+use std::thread;
+
+/// The program, which build.rs had proved and built.
+const PROGRAM: &str = env!("TABLET");
+
+fn started() -> Child {
+    Command::new(PROGRAM)
+        .stdin(Stdio::piped())
+        .stdout(Stdio::piped())
+        .stderr(Stdio::piped())
+        .spawn()
+        .expect("the program starts")
+}
+
+/// Hands the input over in parts of this size. After a refused opening the program reads no more, so a write may fail.
+fn hand_over(mut to: ChildStdin, input: &[u8], size: usize) {
+    for part in input.chunks(size) {
+        if to.write_all(part).is_err() {
+            return;
+        }
+    }
+}
+
+/// What the program prints on an input that comes in parts of this size.
+fn printed(input: &[u8], size: usize) -> Vec<u8> {
+    let mut program = started();
+    let to = program.stdin.take().expect("a pipe");
+    let input = input.to_vec();
+    let feeder = thread::spawn(move || hand_over(to, &input, size));
+    let output = program.wait_with_output().expect("the program ends");
+    feeder.join().expect("the input is handed over");
+    assert!(output.status.success() && output.stderr.is_empty());
+    output.stdout
+}
+
+fn conformance() -> Vec<(String, Vec<u8>, Vec<u8>)> {
+    let folder = Path::new(env!("CARGO_MANIFEST_DIR")).join("../model/conformance/sessions");
+    let names = fs::read_dir(folder).expect("the sessions are there");
+    let paths = names.map(|entry| entry.expect("an entry").path());
+    let inputs = paths.filter(|path| path.extension().is_some_and(|e| e == "session"));
+    let read = |path: &Path| fs::read(path).expect("a file");
+    inputs
+        .map(|path| {
+            (
+                path.display().to_string(),
+                read(&path),
+                read(&path.with_extension("answers")),
+            )
+        })
+        .collect()
+}
+
+#[test]
+fn conformance_sessions_are_answered() {
+    let sessions = conformance();
+    assert!(sessions.len() >= 80, "{}", sessions.len());
+    for (name, input, answers) in sessions {
+        assert!(printed(&input, input.len().max(1)) == answers, "{name}");
+    }
+}
+
+#[test]
+fn parts_of_any_size_are_the_same() {
+    for (name, input, answers) in conformance().iter().filter(|s| s.1.len() < 20_000) {
+        for size in [1, 7, 255, 256, 257] {
+            assert!(printed(input, size) == *answers, "{name} in parts of {size}");
+        }
+    }
+}
+
+#[test]
+fn random_sessions_are_answered_as_by_the_model() {
+    for seed in 0..2_000 {
+        let profile = PROFILES[seed as usize % PROFILES.len()];
+        let mut input = session(seed, profile, 60);
+        if seed % 5 == 0 {
+            input = damage(&mut Rng::new(seed), &input);
+        }
+        assert!(printed(&input, 4_096) == run_session(&input), "seed {seed}");
+    }
+}
+
+/// Each line is answered before the next one is written.
+#[test]
+fn a_session_is_driven_line_by_line() {
+    let mut program = started();
+    let mut to = program.stdin.take().expect("a pipe");
+    let mut from = BufReader::new(program.stdout.take().expect("a pipe"));
+    let mut ask = |text: &[u8]| {
+        to.write_all(text).expect("it reads on");
+        let mut answer = String::new();
+        from.read_line(&mut answer).expect("an answer");
+        answer
+    };
+    assert_eq!(ask(b"(node 1 (op 1 0 7))\n(process 1 1)\n(open)\n"), "(ok 0)\n");
+    assert_eq!(ask(b"(1 hold 1)\n"), "(ok 2)\n");
+    assert_eq!(ask(&[&[b'x'; 100_000][..], b"\n"].concat()), "(no 2)\n");
+    assert_eq!(ask(b"(1 hold 1)\n"), "(ok 3)\n");
+    assert_eq!(ask(b"(comes 3 1)\n"), "(no 7)\n");
+    to.write_all(b"(1 hold 1)").expect("it reads on");
+    drop(to);
+    let mut rest = String::new();
+    from.read_to_string(&mut rest).expect("the end");
+    assert_eq!(rest, "(no 2)\n");
+    assert!(program.wait().expect("it ends").success());
+}
+
+/// The program ends while its input is still open.
+#[test]
+fn after_a_refused_opening_it_reads_no_more() {
+    let mut program = started();
+    let mut to = program.stdin.take().expect("a pipe");
+    to.write_all(b"(node 33)\n").expect("it reads");
+    let output = program.wait_with_output().expect("the program ends");
+    assert_eq!(output.stdout, b"(no 3 1)\n");
+    drop(to);
+}
+
+/// Where nothing can be written, it says so and ends.
+#[test]
+fn an_output_that_is_full_ends_it() {
+    let full = fs::OpenOptions::new().write(true).open("/dev/full");
+    let mut program = Command::new(PROGRAM)
+        .stdin(Stdio::piped())
+        .stdout(full.expect("a device"))
+        .stderr(Stdio::piped())
+        .spawn()
+        .expect("the program starts");
+    let mut to = program.stdin.take().expect("a pipe");
+    to.write_all(b"(node 1)\n(open)\n").expect("it reads");
+    let output = program.wait_with_output().expect("the program ends");
+    assert_eq!(output.stderr, b"tablet: the output cannot be written\n");
+    drop(to);
+}
