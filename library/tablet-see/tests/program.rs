@@ -137,9 +137,9 @@ fn the_picture_of_the_documents_is_what_is_drawn() {
     let picture = concat!(env!("CARGO_MANIFEST_DIR"), "/../../docs/session.svg");
     let picture = fs::read_to_string(picture).expect("docs/session.svg");
     assert_eq!(
-        shown(&["draw", "--after", "5"]),
+        shown(&["draw", "--after", "5", "--request", "7"]),
         picture,
-        "tablet-see draw --after 5 < examples/session.in > docs/session.svg"
+        "tablet-see draw --after 5 --request 7 < examples/session.in > docs/session.svg"
     );
 }
 
