@@ -30,5 +30,8 @@ fn cases_on_the_entry_points() {
         }
     }
     assert!(cases.len() >= 700, "{} cases", cases.len());
-    assert!(steps >= 13_000 && without <= 5, "{steps} steps, {without} without words");
+    assert!(
+        steps >= 13_000 && without <= 5,
+        "{steps} steps, {without} without words"
+    );
 }

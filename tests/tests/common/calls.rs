@@ -1,5 +1,6 @@
 //! The calls that are made on words and compared: sessions of all profiles,
-//! all calls on altered but sound tables, full tables.
+//! all calls on altered but sound tables, on sound tables that no session made,
+//! full tables.
 
 use super::performed::{Made, Pair, Perform};
 use super::refused::Refused;
@@ -11,7 +12,7 @@ use model::call::{Call, Word};
 use model::compare::full;
 use model::limits::{LAST_NUMBER, REQUESTS, ROWS};
 use model::random::alter::alter_gently;
-use model::random::{lines, openings, Profile, Rng, SMALL};
+use model::random::{lines, openings, sound_state, Calls, Profile, Rng, SMALL};
 use model::session::open;
 use model::words::{PROCESS_WORDS, TABLES_WORDS};
 use model::{sound, Tables};
@@ -22,6 +23,9 @@ use std::ops::Range;
 const SESSIONS: u64 = 60;
 const CALLS: usize = 150;
 const LOOK: usize = 30;
+
+/// Sound tables that no session made, in a round.
+const STATES: usize = 40;
 
 /// So many rounds, with what they answered.
 pub fn calls_of(made: &dyn Made, rounds: Range<u64>) -> Refused {
@@ -39,6 +43,7 @@ pub fn calls_of_round(made: &dyn Made, round: u64, seen: &mut Refused) {
         let mut rng = Rng::new(round * 10_000 + session);
         played(made, &mut rng, profile, CALLS, seen);
     }
+    on_states(made, &mut Rng::new(round * 10_000 + 9_998), seen);
     played(
         made,
         &mut Rng::new(round * 10_000 + 9_999),
@@ -62,6 +67,18 @@ fn played(made: &dyn Made, rng: &mut Rng, profile: Profile, count: usize, seen: 
         if at % LOOK == 0 && profile != Profile::Full {
             tried(made, rng, &pair.tables, seen);
         }
+    }
+}
+
+/// All sorts of calls on sound tables that no session made, and those in which each
+/// ground of each refusal decides.
+fn on_states(made: &dyn Made, rng: &mut Rng, seen: &mut Refused) {
+    let mut grounds = Calls::default();
+    for _ in 0..STATES {
+        let tables = sound_state(rng);
+        let mut calls = calls(rng, &tables);
+        calls.extend((0..8).map(|_| grounds.call(rng, &tables)));
+        Pair::new(tables).each(made, &calls, seen);
     }
 }
 
