@@ -99,7 +99,7 @@ fn code_of(fetched: bool) -> u8
 fn listed_once(t: &[u32], listing: &mut [u8; ROWS], slots: [usize; 4], j: usize) -> bool
     requires { ⌜ IsTables (now t) × (j < REQUESTS) × SlotsWithin ROWS slots ⌝ }
     ensures once { λ r. ⌜ r ≡ onceIn (now (listing .entry)) slots (requestAt (now (t .entry)) j) ⌝ }
-    ensures marked { λ _. ⌜ now (listing .exit) ≡ markedIn (now (listing .entry)) slots (requestAt (now (t .entry)) j) ⌝ }
+    ensures all { λ _. ⌜ now (listing .exit) ≡ markedIn (now (listing .entry)) slots (requestAt (now (t .entry)) j) ⌝ }
 {
     let word = t[Q_FETCHED + j];
     let fetched = word == 1;

@@ -26,7 +26,8 @@ ghost use Rattle.rows.specs.Layout.{requestAt, recordsIn, rowSlot};
 ghost use Rattle.rows.specs.contracts.Sizes.{ROWS, REQUESTS, REQUEST, IsTables, IsRecords};
 ghost use Rattle.rows.specs.contracts.OfState.{OfRows, TestsTables, Tests};
 ghost use Rattle.soundness_loans.specs.contracts.Clauses.{OfRequest, TestsItem, wordAt, numberApart};
-ghost use Rattle.soundness_loans.specs.contracts.Clauses.{ListsNone, OfItems, SlotsWithin, itemsListable, requestRight, standingPort};
+ghost use Rattle.soundness_loans.specs.contracts.Clauses.{ListsNone, OfItems, SlotsWithin};
+ghost use Rattle.soundness_loans.specs.contracts.Clauses.{itemsListable, requestRight, standingPort};
 ghost use Rattle.soundness_loans.specs.contracts.Clauses.{requestsRight, portsRight, allOfRequests, isFree};
 ghost use Rattle.soundness_loans.specs.contracts.Clauses.{withMark};
 
