@@ -34,10 +34,10 @@ abbrev pub ofRequests : State → Bool
 ofRequests st =
     numbersApart (st .rows) (st .requests) &&
     (fetchedInRange (st .requests) &&
-    (portsStand (st .rows) (st .requests) && (requestersListed (st .processes) (st .requests) && (itemsApart (st .requests) && (itemsLent (st .rows) (st .requests) && onePerPort (st .requests))))))
+    (portsStand (st .rows) (st .requests) && (requestersListed (st .processes) (st .requests) && (itemsApart (st .requests) && onePerPort (st .requests)))))
 
 abbrev pub ofHolders : State → Bool
-ofHolders st = olderFetched (st .requests) && systemHolds (st .requests) (st .rows)
+ofHolders st = itemsLent (st .rows) (st .requests) && (olderFetched (st .requests) && systemHolds (st .requests) (st .rows))
 
 -- each follows from soundness
 module _ (st : State) (e : sound st ≡ true) where
@@ -53,13 +53,14 @@ module _ (st : State) (e : sound st ≡ true) where
   sound-requests : ofRequests st ≡ true
   sound-requests =
       let s = sound-open st e in
-      rw (s .numbers .numbers-apart, s .loans .fetched-in-range, s .loans .ports-stand, s .loans .requesters-listed, s .loans .items-apart, s .loans .items-lent, s .loans .one-per-port) refl
+      rw (s .numbers .numbers-apart, s .loans .fetched-in-range, s .loans .ports-stand, s .loans .requesters-listed, s .loans .items-apart, s .loans .one-per-port) refl
 
   sound-holders : ofHolders st ≡ true
-  sound-holders = let s = sound-open st e in rw (s .holders .older-fetched, s .holders .system-holds) refl
+  sound-holders = let s = sound-open st e in rw (s .loans .items-lent, s .holders .older-fetched, s .holders .system-holds) refl
 
 -- and soundness from all of them, part by part
-module _ (st : State) {t : List ℕ} (rep : Represents t st) (rows : ofRows st ≡ true) (requests : ofRequests st ≡ true) where
+module _ (st : State) {t : List ℕ} (rep : Represents t st) (rows : ofRows st ≡ true) (requests : ofRequests st ≡ true)
+    (holders : ofHolders st ≡ true) where
   abbrev Laid : Type 0
   Laid = rowsRise (st .rows) && (requestsRise (st .requests) && (rowsFit (st .rows) && (requestsFit (st .requests) && (itemsFew (st .requests) && sourcesOlder (st .rows))))) ≡ true
 
@@ -108,20 +109,20 @@ module _ (st : State) {t : List ℕ} (rep : Represents t st) (rows : ofRows st �
         copies-listed = search (and-l, and-r);
       }
 
-  all-parts : recordsFit (st .processes) ≡ true → ofNext st ≡ true → recordsInRange (st .processes) ≡ true → ofHolders st ≡ true → processesPlaced (st .rows) (st .processes) ≡ true → Sound st
-  all-parts fit next records holders placed =
+  all-parts : recordsFit (st .processes) ≡ true → ofNext st ≡ true → recordsInRange (st .processes) ≡ true → processesPlaced (st .rows) (st .processes) ≡ true → Sound st
+  all-parts fit next records placed =
       record {
         numbers = all-numbers next;
         rows = all-rows;
         loans = all-loans;
-        holders = record { older-fetched = search and-l; system-holds = search and-r };
+        holders = record { older-fetched = search (and-l, and-r); system-holds = search (and-l, and-r) };
         placed = record { records-fit = fit; records-in-range = records; processes-placed = placed };
       }
 
--- the tests of the groups, each of which may take those before it as given
+-- the tests of the groups
 module _ (st : State) {t : List ℕ} (rep : Represents t st) (fit : recordsFit (st .processes) ≡ true) where
   pub groups-sound : (rows requests holders placed : Bool) → rows ≡ ofRows st → requests ≡ ofRequests st
-      → (itemsLent (st .rows) (st .requests) ≡ true → holders ≡ ofHolders st) → placed ≡ processesPlaced (st .rows) (st .processes)
+      → holders ≡ ofHolders st → placed ≡ processesPlaced (st .rows) (st .processes)
       → ofNext st ≡ true → recordsInRange (st .processes) ≡ true → rows && (requests && (holders && placed)) ≡ sound st
   groups-sound rows requests holders placed er eq eh ep next records = bool-eq (rows && (requests && (holders && placed))) (sound st) forth back
     where
@@ -130,12 +131,12 @@ module _ (st : State) {t : List ℕ} (rep : Represents t st) (fit : recordsFit (
           let q : ofRequests st ≡ true = sym eq ∙ and-l requests (holders && placed) (and-r rows (requests && (holders && placed)) e) in
           let rest : holders && placed ≡ true = and-r requests (holders && placed) (and-r rows (requests && (holders && placed)) e) in
           sound-close st
-          (all-parts st rep (sym er ∙ and-l rows (requests && (holders && placed)) e) q fit next records (sym (eh (search (and-l, and-r))) ∙ and-l holders placed rest)
+          (all-parts st rep (sym er ∙ and-l rows (requests && (holders && placed)) e) q (sym eh ∙ and-l holders placed rest) fit next records
           (sym ep ∙ and-r holders placed rest))
 
       back : sound st ≡ true → rows && (requests && (holders && placed)) ≡ true
       back e =
-          rw (er ∙ sound-rows st e, eq ∙ sound-requests st e, eh (sound-open st e .loans .items-lent) ∙ sound-holders st e, ep ∙ sound-open st e .placed .processes-placed) refl
+          rw (er ∙ sound-rows st e, eq ∙ sound-requests st e, eh ∙ sound-holders st e, ep ∙ sound-open st e .placed .processes-placed) refl
 
 -- the plain clauses come first
 pub clauses-sound : (st : State) (next records tables : Bool) → next ≡ ofNext st → records ≡ recordsInRange (st .processes)

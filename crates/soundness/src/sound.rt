@@ -21,7 +21,7 @@ ghost use Rattle.soundness_rows.specs.contracts.Seen.{SourcesOlder};
 ghost use Rattle.soundness.specs.contracts.Clauses.{TestsRest};
 
 // The clauses of rows, requests, holders and processes, where the next number and the records are in range.
-// Ruled out: one of the four groups is left out; holders are asked of items that are no rows.
+// Ruled out: one of the four groups is left out; the processes of another run.
 fn tables_sound(t: &[u32], p: &[u32], n: usize, m: usize) -> bool
     requires sizes { ⌜ IsTables (now t) × IsRecords (now p) × (n ≤ ROWS) × (m ≤ REQUESTS) ⌝ }
     requires sources { ⌜ SourcesOlder (now t) n ⌝ }

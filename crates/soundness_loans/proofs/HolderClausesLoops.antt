@@ -18,7 +18,7 @@ use Rattle.rows.specs.Sound.{itemsLent, isFetched, olderFetched, awaitsFetch, s
 use Rattle.rows.specs.Layout.{requestAt, requestsTo, rowSlot}
 use Rattle.rows.specs.contracts.Represents.{Represents}
 use Rattle.soundness_loans.specs.contracts.Clauses.{itemsListable, listingCode, listingOf, codeAt, listAll, itemSlots, listedOnce, relisted, heldTo, allOfHolders}
-use Rattle.rows.proofs.Bools.{and-l, and-r, or-r, and-true, or-false, pos-some}
+use Rattle.rows.proofs.Bools.{clash, and-l, and-r, or-r, and-true, or-false, pos-some}
 use Rattle.rows.proofs.Slots.{represented-well, row-words-at, slot-number}
 use Rattle.soundness_loans.proofs.RequestClauses.{requests-read}
 use Rattle.soundness_loans.proofs.HolderClausesOlder.{fetchedAfter, older-after}
@@ -181,14 +181,42 @@ listing-next {st} {t} rep whole j l l′ older r pos lent e d p =
     listing-turn rep whole (requestsTo t (j - 1)) l l′ older r (requestAt t (j - 1)) lent e d (subst (λ (k : ℕ). Listing (st .rows) whole (requestsTo t k) l older) before p)
 
 -- all requests are listed, and the rows looked at
-pub holders-end : {st : State} {t : List ℕ} → Represents t st → (n m : ℕ) → n ≡ length (st .rows) → m ≡ length (st .requests)
+listed-end : {st : State} {t : List ℕ} → Represents t st → (n m : ℕ) → n ≡ length (st .rows) → m ≡ length (st .requests)
     → (j : ℕ) → j ≤ 0 → (l : List ℕ) (older held : Bool)
-    → Listing (st .rows) (requestsTo t m) (requestsTo t j) l older → held ≡ heldTo t l n → older && held ≡ allOfHolders st
+    → Listing (st .rows) (requestsTo t m) (requestsTo t j) l older → held ≡ heldTo t l n → older && held ≡ olderFetched (st .requests) && systemHolds (st .requests) (st .rows)
 unfolding requestsTo
-holders-end {st} {t} rep n m e d j h l older held p q =
+listed-end {st} {t} rep n m e d j h l older held p q =
     let none : j ≡ 0 = omega arith in
     let whole : requestsTo t m ≡ st .requests = ap (requestsTo t) d ∙ requests-read rep in
     let (a, b) = listing-end (st .rows) (requestsTo t m) l older (subst (λ (k : ℕ). Listing (st .rows) (requestsTo t m) (requestsTo t k) l older) none p) in
     let first : older ≡ olderFetched (st .requests) = a ∙ ap (fetchedAfter (λ x. false)) whole ∙ sym (older-after st) in
     let second : held ≡ systemHolds (st .requests) (st .rows) = q ∙ ap (heldTo t l) e ∙ sym (held-rows rep l (λ x. ap (λ (vs : List Request). listingOf vs x) (sym whole) ∙ b x)) in
     λ i. first i && second i
+
+-- ---- the items of all requests
+-- what is left decides, if all before may be listed
+pub lent-next : (F : Request → Bool) (t : List ℕ) (j : ℕ) (whole : Bool) → 0 < j → F (requestAt t (j - 1)) ≡ true → all F (requestsTo t j) ≡ whole → all F (requestsTo t (j - 1)) ≡ whole
+unfolding all requestsTo
+lent-next F t j whole h e p =
+    let before : j ≡ suc (j - 1) = omega arith in
+    subst (λ (b : Bool). b && all F (requestsTo t (j - 1)) ≡ whole) e (subst (λ (k : ℕ). all F (requestsTo t k) ≡ whole) before p)
+
+pub holders-end : {st : State} {t : List ℕ} → Represents t st → (n m : ℕ) → n ≡ length (st .rows) → m ≡ length (st .requests)
+    → (j : ℕ) → j ≤ 0 → (l : List ℕ) (right held : Bool)
+    → (right ≡ true → all (itemsListable (st .rows)) (requestsTo t j) ≡ all (itemsListable (st .rows)) (requestsTo t m))
+    → (itemsLent (st .rows) (st .requests) ≡ true → Listing (st .rows) (requestsTo t m) (requestsTo t j) l right) → held ≡ heldTo t l n → right && held ≡ allOfHolders st
+unfolding requestsTo itemsLent all
+holders-end {st} {t} rep n m e d j h l right held lent p q = pick (all (itemsListable (st .rows)) (st .requests)) refl right refl
+  where
+    whole : requestsTo t m ≡ st .requests
+    whole = ap (requestsTo t) d ∙ requests-read rep
+
+    none : j ≡ 0
+    none = omega arith
+
+    pick : (b : Bool) → all (itemsListable (st .rows)) (st .requests) ≡ b → (r : Bool) → right ≡ r
+        → right && held ≡ all (itemsListable (st .rows)) (st .requests) && (olderFetched (st .requests) && systemHolds (st .requests) (st .rows))
+    pick true y r x = listed-end rep n m e d j h l right held (p y) q ∙ ap (λ (c : Bool). c && (olderFetched (st .requests) && systemHolds (st .requests) (st .rows))) (sym y)
+    pick false y false x = rw (x, y) refl
+    pick false y true x =
+        clash (sym (ap (all (itemsListable (st .rows))) whole) ∙ sym (lent x) ∙ ap (λ (k : ℕ). all (itemsListable (st .rows)) (requestsTo t k)) none) y

@@ -17,7 +17,7 @@ use Rattle.rows.specs.Tables.{State, noRow, rowOf, numbers}
 use Rattle.rows.specs.Sound.{itemsFew, portStands, mayBeListed}
 use Rattle.rows.specs.Layout.{rowColumns, requestColumns, requestsAt, requestAt, requestsTo, rowSlot}
 use Rattle.rows.specs.contracts.Represents.{Represents}
-use Rattle.soundness_loans.specs.contracts.Clauses.{itemsRight, wordAt, standingPort}
+use Rattle.soundness_loans.specs.contracts.Clauses.{itemsListable, wordAt, standingPort}
 use Rattle.rows.proofs.Bools.{bool-eq, clash, and-l, and-r, and-true, or-false}
 use Rattle.rows.proofs.LayoutRequests.{requests-back}
 use Rattle.rows.proofs.Slots.{represented-well, represented-request, row-found, row-none, row-absent, row-words, request-read, slot-zero}
@@ -199,9 +199,13 @@ none-words a b c d h =
     let s : eqb d 0 ≡ true = search (and-l, and-r) in
     rw (eqb-true a 0 p, eqb-true b 0 q, eqb-true c 0 r, eqb-true d 0 s) refl
 
-pub none-right : (rs : List Row) (v : Request) → v .items ≡ 0 ∷ 0 ∷ 0 ∷ 0 ∷ [] → true ≡ itemsRight rs v
-unfolding nonzero filter some distinct all
-none-right rs v e = rw e refl
+pub none-twice : (v : Request) → v .items ≡ 0 ∷ 0 ∷ 0 ∷ 0 ∷ [] → true ≡ distinct (nonzero (v .items))
+unfolding nonzero filter some distinct
+none-twice v e = rw e refl
+
+pub none-lent : (rs : List Row) (v : Request) → v .items ≡ 0 ∷ 0 ∷ 0 ∷ 0 ∷ [] → true ≡ itemsListable rs v
+unfolding nonzero filter some all
+none-lent rs v e = rw e refl
 
 -- ---- the port
 pub stands : {st : State} {t : List ℕ} → Represents t st → (v : Request) (port q kind : ℕ) → port ≡ v .port → q ≡ v .number → kind ≡ rowOf (st .rows) port .kind

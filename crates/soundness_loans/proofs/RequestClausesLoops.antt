@@ -15,10 +15,10 @@ use Rattle.rows.specs.declared.Request.{Request}
 use Rattle.rows.specs.Lists.{any, all, member, distinct, nonzero}
 use Rattle.rows.specs.Codes.{clientEnd, isClient}
 use Rattle.rows.specs.Tables.{State, noRow, rowOf, isListed}
-use Rattle.rows.specs.Sound.{numbersApart, fetchedInRange, portStands, portsStand, requestersListed, itemsApart, itemsLent, onePerPort}
+use Rattle.rows.specs.Sound.{numbersApart, fetchedInRange, portStands, portsStand, requestersListed, itemsApart, onePerPort}
 use Rattle.rows.specs.Layout.{requestAt, requestsTo, rowSlot}
 use Rattle.rows.specs.contracts.Represents.{Represents}
-use Rattle.soundness_loans.specs.contracts.Clauses.{numberApart, itemsListable, requestRight, requestsRight, standingPort, portsRight, allOfRequests, isFree, withMark}
+use Rattle.soundness_loans.specs.contracts.Clauses.{numberApart, requestRight, requestsRight, standingPort, portsRight, allOfRequests, isFree, withMark}
 use Rattle.rows.proofs.Bools.{clash, and-l, and-r, and-false, eqb-sym}
 use Rattle.rows.proofs.Slots.{row-absent}
 use Rattle.soundness_loans.proofs.RequestClauses.{slot-test, all-both}
@@ -135,13 +135,11 @@ ports-next rep u j marks marks′ right r s e h free mark p = rw (add-one j, fre
 each-right : (st : State) → requestsRight st
     ≡ numbersApart (st .rows) (st .requests)
     && (fetchedInRange (st .requests)
-    && (requestersListed (st .processes) (st .requests) && (itemsApart (st .requests) && itemsLent (st .rows) (st .requests))))
-unfolding requestRight numbersApart fetchedInRange requestersListed itemsApart itemsLent
+    && (requestersListed (st .processes) (st .requests) && itemsApart (st .requests)))
+unfolding requestRight numbersApart fetchedInRange requestersListed itemsApart
 each-right st =
-    all-both apart (λ v. fetched v && (asked v && (once v && lent v))) vs
-    ∙ ap (λ (b : Bool). all apart vs && b)
-    (all-both fetched (λ v. asked v && (once v && lent v)) vs
-    ∙ ap (λ (b : Bool). all fetched vs && b) (all-both asked (λ v. once v && lent v) vs ∙ ap (λ (b : Bool). all asked vs && b) (all-both once lent vs)))
+    all-both apart (λ v. fetched v && (asked v && once v)) vs
+    ∙ ap (λ (b : Bool). all apart vs && b) (all-both fetched (λ v. asked v && once v) vs ∙ ap (λ (b : Bool). all fetched vs && b) (all-both asked once vs))
   where
     vs : List Request
     vs = st .requests
@@ -158,20 +156,16 @@ each-right st =
     once : Request → Bool
     once v = distinct (nonzero (v .items))
 
-    lent : Request → Bool
-    lent v = itemsListable (st .rows) v
-
 pub requests-joined : (st : State) → requestsRight st && portsRight (st .rows) (st .requests) ≡ allOfRequests st
 unfolding portsRight portsStand onePerPort
 requests-joined st =
     ap (λ (b : Bool). b && portsRight (st .rows) (st .requests)) (each-right st)
     ∙ join (numbersApart (st .rows) (st .requests)) (fetchedInRange (st .requests)) (portsStand (st .rows) (st .requests))
-    (requestersListed (st .processes) (st .requests)) (itemsApart (st .requests)) (itemsLent (st .rows) (st .requests)) (onePerPort (st .requests))
+    (requestersListed (st .processes) (st .requests)) (itemsApart (st .requests)) (onePerPort (st .requests))
   where
-    join : (a b c d e f g : Bool) → (a && (b && (d && (e && f)))) && (c && g) ≡ a && (b && (c && (d && (e && (f && g)))))
-    join false b c d e f g = refl
-    join true false c d e f g = refl
-    join true true true false e f g = refl
-    join true true true true false f g = refl
-    join true true true true true f g = refl
-    join true true false d e f g = and-false (d && (e && f))
+    join : (a b c d e g : Bool) → (a && (b && (d && e))) && (c && g) ≡ a && (b && (c && (d && (e && g))))
+    join false b c d e g = refl
+    join true false c d e g = refl
+    join true true true false e g = refl
+    join true true true true e g = refl
+    join true true false d e g = and-false (d && e)

@@ -1,5 +1,6 @@
 // The clauses of soundness of holders, each named as in rows/specs/Sound.antt: the listing of rows by requests, from
 // the newest request to the oldest. Slots of rows are given plus 1, 0 for none.
+use crate::request_clauses::items_lent;
 use crate::request_clauses::lists_none;
 use crate::request_clauses::slot_among;
 use rows::codes::THE_SYSTEM;
@@ -14,10 +15,12 @@ ghost use lib.Dec.{eqb};
 ghost use Rattle.rows.specs.Lists.{some};
 ghost use Rattle.rows.specs.Codes.{isSystem};
 ghost use Rattle.rows.specs.Sound.{same};
+ghost use Rattle.rows.specs.Layout.{requestAt};
 ghost use Rattle.rows.specs.contracts.Sizes.{ROWS, REQUESTS, IsTables};
-ghost use Rattle.soundness_loans.specs.contracts.Clauses.{OfRequest, SlotsWithin, TestsHolders, listingCode};
+ghost use Rattle.rows.specs.contracts.OfState.{TestsTables};
+ghost use Rattle.soundness_loans.specs.contracts.Clauses.{OfRequest, SlotsWithin, allOfHolders, listingCode};
 ghost use Rattle.soundness_loans.specs.contracts.Clauses.{codeAt, listAt, listAll, anyListed, itemSlots};
-ghost use Rattle.soundness_loans.specs.contracts.Clauses.{listedOnce, relisted, heldTo};
+ghost use Rattle.soundness_loans.specs.contracts.Clauses.{onceIn, markedIn, listedRight, relisted, heldTo};
 
 // The slots of the items of the request in slot j. Ruled out: three of the four; a slot past the rows in use.
 fn item_slots(t: &[u32], n: usize, j: usize) -> [usize; 4]
@@ -91,11 +94,27 @@ fn code_of(fetched: bool) -> u8
     2
 }
 
-// Lists the items of the request in slot j, and says whether it is fetched or no newer request lists one of them.
+// Lists the slots of the items of the request in slot j, and says whether it is fetched or no newer request lists one.
 // Ruled out: its own items count as listed by a newer one; an item is left out.
-fn listed_once(t: &[u32], n: usize, listing: &mut [u8; ROWS], j: usize) -> bool
+fn listed_once(t: &[u32], listing: &mut [u8; ROWS], slots: [usize; 4], j: usize) -> bool
+    requires { ⌜ IsTables (now t) × (j < REQUESTS) × SlotsWithin ROWS slots ⌝ }
+    ensures once { λ r. ⌜ r ≡ onceIn (now (listing .entry)) slots (requestAt (now (t .entry)) j) ⌝ }
+    ensures all { λ _. ⌜ now (listing .exit) ≡ markedIn (now (listing .entry)) slots (requestAt (now (t .entry)) j) ⌝ }
+{
+    let word = t[Q_FETCHED + j];
+    let fetched = word == 1;
+    let newer = any_listed(listing, slots);
+    let code = code_of(fetched);
+    mark_listing(listing, slots, code);
+    fetched | !newer
+}
+
+// The items of the request in slot j: each may be listed, and the request is fetched or no newer one lists them; then
+// they are listed. Each item is looked up once.
+// Ruled out: a request with one item passes untested; one of the two alone decides.
+fn list_request(t: &[u32], n: usize, listing: &mut [u8; ROWS], j: usize) -> bool
     requires { ⌜ IsTables (now t) × (n ≤ ROWS) × (j < REQUESTS) ⌝ }
-    ensures once { λ r. ⌜ OfRequest (now (t .entry)) n j r (listedOnce (now (listing .entry))) ⌝ }
+    ensures right { λ r. ⌜ OfRequest (now (t .entry)) n j r (listedRight (now (listing .entry))) ⌝ }
     ensures marked { λ _. ⌜ OfRequest (now (t .entry)) n j (now (listing .exit)) (relisted (now (listing .entry))) ⌝ }
 {
     let none = lists_none(t, j);
@@ -103,12 +122,9 @@ fn listed_once(t: &[u32], n: usize, listing: &mut [u8; ROWS], j: usize) -> bool
         return true;
     }
     let slots = item_slots(t, n, j);
-    let word = t[Q_FETCHED + j];
-    let fetched = word == 1;
-    let newer = any_listed(listing, slots);
-    let code = code_of(fetched);
-    mark_listing(listing, slots, code);
-    fetched | !newer
+    let lent = items_lent(t, slots, j);
+    let once = listed_once(t, listing, slots, j);
+    lent & once
 }
 
 // Whether a row's place is the system exactly if its listing says so.
@@ -135,19 +151,19 @@ fn rows_held(t: &[u32], n: usize, listing: &[u8; ROWS]) -> bool
     right
 }
 
-// The clauses of who holds what is lent, for tables whose items are rows.
-// Ruled out: an older request that is not fetched and lists an item too; a row with the system that no request lists.
+// The clauses of items and of who holds what is lent.
+// Ruled out: an item that is a copy for another request; an older request that is not fetched and lists an item too.
 pub fn holders_sound(t: &[u32], n: usize, m: usize) -> bool
     requires { ⌜ IsTables (now t) × (n ≤ ROWS) × (m ≤ REQUESTS) ⌝ }
-    ensures { λ r. ⌜ TestsHolders (now (t .entry)) n m r ⌝ }
+    ensures { λ r. ⌜ TestsTables (now (t .entry)) n m r allOfHolders ⌝ }
 {
     let mut listing = [0u8; ROWS];
-    let mut older = true;
+    let mut right = true;
     let mut j = m;
     while 0 < j {
         j -= 1;
-        older = listed_once(t, n, &mut listing, j) & older;
+        right = list_request(t, n, &mut listing, j) & right;
     }
     let held = rows_held(t, n, &listing);
-    older & held
+    right & held
 }

@@ -26,7 +26,8 @@ ghost use Rattle.rows.specs.Layout.{requestAt, recordsIn, rowSlot};
 ghost use Rattle.rows.specs.contracts.Sizes.{ROWS, REQUESTS, REQUEST, IsTables, IsRecords};
 ghost use Rattle.rows.specs.contracts.OfState.{OfRows, TestsTables, Tests};
 ghost use Rattle.soundness_loans.specs.contracts.Clauses.{OfRequest, TestsItem, wordAt, numberApart};
-ghost use Rattle.soundness_loans.specs.contracts.Clauses.{ListsNone, itemsListable, itemsRight, requestRight, standingPort};
+ghost use Rattle.soundness_loans.specs.contracts.Clauses.{ListsNone, OfItems, SlotsWithin};
+ghost use Rattle.soundness_loans.specs.contracts.Clauses.{itemsListable, requestRight, standingPort};
 ghost use Rattle.soundness_loans.specs.contracts.Clauses.{requestsRight, portsRight, allOfRequests, isFree};
 ghost use Rattle.soundness_loans.specs.contracts.Clauses.{withMark};
 
@@ -108,32 +109,32 @@ fn items_apart(t: &[u32], j: usize) -> bool
     first & (second & third)
 }
 
-// An item that is there may be listed by a request numbered q.
+// An item that is there, whose slot plus 1 is s, may be listed by a request numbered q.
 // Ruled out: a copy that bears another request; an end newer than the request.
-fn may_be_listed(t: &[u32], n: usize, q: u32, e: u32) -> bool
-    requires { ⌜ IsTables (now t) × (n ≤ ROWS) ⌝ }
-    ensures { λ r. ⌜ TestsItem (now (t .entry)) n q e r ⌝ }
+fn may_be_listed(t: &[u32], q: u32, e: u32, s: usize) -> bool
+    requires { ⌜ IsTables (now t) × (s ≤ ROWS) ⌝ }
+    ensures { λ r. ⌜ TestsItem (now (t .entry)) q e s r ⌝ }
 {
     if e == 0 {
         return true;
     }
-    let s = slot_among(t, n, e);
     let kind = word_at(t, KIND, s);
     let bears = word_at(t, REQUEST, s);
     let end = is_end(kind);
     (end & (e < q)) | ((0 < bears) & (bears == q))
 }
 
-// Each item may be listed. Ruled out: the fourth item is not tested; no for an item that is not there.
-fn items_lent(t: &[u32], n: usize, j: usize) -> bool
-    requires { ⌜ IsTables (now t) × (n ≤ ROWS) × (j < REQUESTS) ⌝ }
-    ensures { λ r. ⌜ OfRequest (now (t .entry)) n j r itemsListable ⌝ }
+// Each item may be listed, where the slots of all four are known.
+// Ruled out: the fourth item is not tested; no for an item that is not there.
+pub fn items_lent(t: &[u32], slots: [usize; 4], j: usize) -> bool
+    requires { ⌜ IsTables (now t) × (j < REQUESTS) × SlotsWithin ROWS slots ⌝ }
+    ensures { λ r. ⌜ OfItems (now (t .entry)) j slots r itemsListable ⌝ }
 {
     let q = t[Q_NUMBER + j];
-    let first = may_be_listed(t, n, q, t[Q_ITEMS + j]);
-    let second = may_be_listed(t, n, q, t[Q_ITEMS + REQUESTS + j]);
-    let third = may_be_listed(t, n, q, t[Q_ITEMS + 2 * REQUESTS + j]);
-    let fourth = may_be_listed(t, n, q, t[Q_ITEMS + 3 * REQUESTS + j]);
+    let first = may_be_listed(t, q, t[Q_ITEMS + j], slots[0]);
+    let second = may_be_listed(t, q, t[Q_ITEMS + REQUESTS + j], slots[1]);
+    let third = may_be_listed(t, q, t[Q_ITEMS + 2 * REQUESTS + j], slots[2]);
+    let fourth = may_be_listed(t, q, t[Q_ITEMS + 3 * REQUESTS + j], slots[3]);
     first & (second & (third & fourth))
 }
 
@@ -150,21 +151,19 @@ pub fn lists_none(t: &[u32], j: usize) -> bool
     (a == 0) & ((b == 0) & ((c == 0) & (d == 0)))
 }
 
-// The clauses of its items. Ruled out: one of the two alone decides; a request with one item passes untested.
-fn items_right(t: &[u32], n: usize, j: usize) -> bool
-    requires { ⌜ IsTables (now t) × (n ≤ ROWS) × (j < REQUESTS) ⌝ }
-    ensures { λ r. ⌜ OfRequest (now (t .entry)) n j r itemsRight ⌝ }
+// No item stands twice, and nothing is tested of none. Ruled out: a request with one item passes untested.
+fn items_once(t: &[u32], j: usize) -> bool
+    requires { ⌜ IsTables (now t) × (j < REQUESTS) ⌝ }
+    ensures { λ r. ⌜ r ≡ distinct (nonzero (requestAt (now (t .entry)) j .items)) ⌝ }
 {
     let none = lists_none(t, j);
     if none {
         return true;
     }
-    let once = items_apart(t, j);
-    let lent = items_lent(t, n, j);
-    once & lent
+    items_apart(t, j)
 }
 
-// The clauses but for the port. Ruled out: one of the four alone decides; the tests of another request.
+// The clauses but for port and items. Ruled out: one of the four alone decides; the tests of another request.
 fn request_right(t: &[u32], p: &[u32], n: usize, j: usize) -> bool
     requires { ⌜ IsTables (now t) × IsRecords (now p) × (n ≤ ROWS) × (j < REQUESTS) ⌝ }
     ensures { λ r. ⌜ OfRequest (now (t .entry)) n j r (requestRight (recordsIn (now (p .entry)))) ⌝ }
@@ -172,8 +171,8 @@ fn request_right(t: &[u32], p: &[u32], n: usize, j: usize) -> bool
     let apart = number_apart(t, n, j);
     let fetched = fetched_in_range(t, j);
     let asked = requester_listed(t, p, j);
-    let items = items_right(t, n, j);
-    apart & (fetched & (asked & items))
+    let once = items_once(t, j);
+    apart & (fetched & (asked & once))
 }
 
 // A request is newer than both ends of its port. Ruled out: newer than the client end alone; a sum that wraps to 0.
@@ -247,8 +246,8 @@ fn ports_right(t: &[u32], n: usize, m: usize) -> bool
     right
 }
 
-// The clauses of requests.
-// Ruled out: a request on a port that another is open on; an item that is a copy for another request.
+// The clauses of requests, but for what their items are.
+// Ruled out: a request on a port that another is open on; an item that stands twice.
 pub fn requests_sound(t: &[u32], p: &[u32], n: usize, m: usize) -> bool
     requires { ⌜ IsTables (now t) × IsRecords (now p) × (n ≤ ROWS) × (m ≤ REQUESTS) ⌝ }
     ensures { λ r. ⌜ Tests (now (t .entry)) (now (p .entry)) n m r allOfRequests ⌝ }

@@ -22,9 +22,9 @@ use Rattle.soundness_rows.specs.contracts.AtSlot.{AtSlot, PortsNamed}
 use Rattle.soundness_rows.specs.contracts.Clauses.{ownRight, shapeRight, depthNext, bySources, fieldsAndSources, loanRight, besideOlder, newestPaired, rowSound, allOfRows}
 use Rattle.soundness_rows.specs.contracts.Packed.{packed, Packs, PacksRows, Faithful}
 use Rattle.soundness_rows.specs.contracts.Seen.{Same, SaysOfPacked, slotRow}
-use Rattle.rows.proofs.Bools.{or-false, and-true, and-false}
+use Rattle.rows.proofs.Bools.{and-true, and-false}
 use Rattle.rows.proofs.KeySlots.{each-cut}
-use Rattle.rows.proofs.Slots.{represented-well, slot-zero, request-absent, request-words, raw-request, request-read}
+use Rattle.rows.proofs.Slots.{represented-well, slot-zero, request-absent, request-words, raw-request}
 use Rattle.soundness_rows.proofs.PackedRows.{packs-own, ports-own, packed-same}
 use Rattle.soundness_rows.proofs.RowClauses.{shape-split}
 use Rattle.soundness_rows.proofs.RowPairs.{paired-words, neighbours-paired}
@@ -37,14 +37,6 @@ no-ends [] e = refl
 no-ends (y ∷ rs) e = absurd (omega arith)
 
 -- ---- the request that a row bears
--- the four items one by one
-pub lists-words : (t : List ℕ) (j e : ℕ)
-    → ltb 0 e && (eqb e (getD t (10752 + j) 0) || (eqb e (getD t (10880 + j) 0) || (eqb e (getD t (11008 + j) 0) || eqb e (getD t (11136 + j) 0)))) ≡ lists e (requestAt t j)
-unfolding lists member some
-lists-words t j e =
-    ap (λ (b : Bool). ltb 0 e && (eqb e (getD t (10752 + j) 0) || (eqb e (getD t (10880 + j) 0) || (eqb e (getD t (11008 + j) 0) || b)))) (sym (or-false (eqb e (getD t (11136 + j) 0))))
-    ∙ ap (lists e) (request-read t j)
-
 pub port-none : (vs : List Request) (q : ℕ) → requestSlot vs q ≡ 0 → 0 ≡ requestOf vs q .port
 unfolding noRequest
 port-none vs q d = rw (request-absent vs q d) refl

@@ -1,5 +1,5 @@
-// The clauses of soundness of one row, each named as in rows/specs/Sound.antt, without branches, so that a loop over rows
-// tests several at once. The row comes as its slot's words: x; s and v are the packed words of its sources (packed.rt).
+// The clauses of soundness of one row, each named as in rows/specs/Sound.antt, without branches, so that a loop over
+// rows tests several at once. The row comes as its slot's words: x; s and v are the packed words of its sources.
 use crate::packed::depth_in;
 use crate::packed::kind_in;
 use crate::packed::node_in;

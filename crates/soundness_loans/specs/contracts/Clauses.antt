@@ -39,20 +39,16 @@ ListsNone t j = requestAt t j .items ≡ 0 ∷ 0 ∷ 0 ∷ 0 ∷ []
 abbrev pub itemsListable : List Row → Request → Bool
 itemsListable rs v = all (λ e. mayBeListed v (rowOf rs e)) (nonzero (v .items))
 
--- none of them stands twice either
-abbrev pub itemsRight : List Row → Request → Bool
-itemsRight rs v = distinct (nonzero (v .items)) && itemsListable rs v
-
--- r says that e is no item, or one that a request numbered q may list
+-- r says that e, whose slot plus 1 is s, is no item, or one that a request numbered q may list
 abbrev pub TestsItem : List ℕ → ℕ → ℕ → ℕ → Bool → Type 0
-TestsItem t n q e r =
-    (st : State) (v : Request) → Represents t st → n ≡ length (st .rows) → v .number ≡ q
+TestsItem t q e s r =
+    (st : State) (v : Request) → Represents t st → s ≡ rowSlot (st .rows) e → v .number ≡ q
     → r ≡ (not (some e) || mayBeListed v (rowOf (st .rows) e))
 
--- what is asked of each request by itself, but for its port
+-- what is asked of each request by itself, but for its port and what its items are
 unfoldable pub requestRight : List Process → List Row → Request → Bool
 requestRight ps rs v =
-    numberApart rs v && (leb (v .fetched) 1 && (isListed ps (v .asker) && itemsRight rs v))
+    numberApart rs v && (leb (v .fetched) 1 && (isListed ps (v .asker) && distinct (nonzero (v .items))))
 
 -- the slot plus 1 of the client end of its port, if that stands
 unfoldable pub standingPort : List Row → Request → ℕ
@@ -67,14 +63,14 @@ requestsRight st = all (requestRight (st .processes) (st .rows)) (st .requests)
 unfoldable pub portsRight : List Row → List Request → Bool
 portsRight rs vs = all (portStands rs) vs && distinct (map (λ v. v .port) vs)
 
--- the seven clauses of requests
+-- six clauses of requests
 abbrev pub allOfRequests : State → Bool
 allOfRequests st =
     numbersApart (st .rows) (st .requests)
     && (fetchedInRange (st .requests)
     && (portsStand (st .rows) (st .requests)
     && (requestersListed (st .processes) (st .requests)
-    && (itemsApart (st .requests) && (itemsLent (st .rows) (st .requests) && onePerPort (st .requests))))))
+    && (itemsApart (st .requests) && onePerPort (st .requests)))))
 
 -- ---- marks: a slot is free once
 -- a slot plus 1 has no mark
@@ -125,13 +121,27 @@ anyListed listing slots = any (λ s. some (codeAt listing s)) slots
 abbrev pub itemSlots : List Row → Request → List ℕ
 itemSlots rs v = map (rowSlot rs) (v .items)
 
--- the request is fetched, or none of its items is listed
-abbrev pub listedOnce : List ℕ → List Row → Request → Bool
-listedOnce listing rs v = isFetched v || not (anyListed listing (itemSlots rs v))
+-- r is F of the rows and of the request in slot j, where `slots` are those of its items
+abbrev pub OfItems : List ℕ → ℕ → List ℕ → Bool → (List Row → Request → Bool) → Type 0
+OfItems t j slots r F = (st : State) → Represents t st → slots ≡ itemSlots (st .rows) (requestAt t j) → r ≡ F (st .rows) (requestAt t j)
 
--- the listing with its items listed too
+-- the request is fetched, or none of its items, at those slots, is listed; the listing with them listed too
+abbrev pub onceIn : List ℕ → List ℕ → Request → Bool
+onceIn listing slots v = isFetched v || not (anyListed listing slots)
+
+abbrev pub markedIn : List ℕ → List ℕ → Request → List ℕ
+markedIn listing slots v = listAll (listingCode (isFetched v)) slots listing
+
+-- the same by the rows
+abbrev pub listedOnce : List ℕ → List Row → Request → Bool
+listedOnce listing rs v = onceIn listing (itemSlots rs v) v
+
 abbrev pub relisted : List ℕ → List Row → Request → List ℕ
-relisted listing rs v = listAll (listingCode (isFetched v)) (itemSlots rs v) listing
+relisted listing rs v = markedIn listing (itemSlots rs v) v
+
+-- its items may be listed, and it is fetched or none of them is listed
+abbrev pub listedRight : List ℕ → List Row → Request → Bool
+listedRight listing rs v = itemsListable rs v && listedOnce listing rs v
 
 -- ---- who holds
 -- where the column of rows' places starts
@@ -143,11 +153,6 @@ unfoldable pub heldTo : List ℕ → List ℕ → ℕ → Bool
 heldTo t listing zero = true
 heldTo t listing (suc i) = same (isSystem (getD t (PLACE + i) 0)) (eqb (getD listing i 0) 2) && heldTo t listing i
 
--- the two clauses of holders
+-- the clause of what items are, and the two clauses of holders
 abbrev pub allOfHolders : State → Bool
-allOfHolders st = olderFetched (st .requests) && systemHolds (st .requests) (st .rows)
-
--- r is what they say of every state that t represents whose items may be listed, n rows and m requests standing
-abbrev pub TestsHolders : List ℕ → ℕ → ℕ → Bool → Type 0
-TestsHolders t n m r =
-    (st : State) → Represents t st → n ≡ length (st .rows) → m ≡ length (st .requests) → itemsLent (st .rows) (st .requests) ≡ true → r ≡ allOfHolders st
+allOfHolders st = itemsLent (st .rows) (st .requests) && (olderFetched (st .requests) && systemHolds (st .requests) (st .rows))

@@ -1,15 +1,15 @@
--- `request_clauses::items_lent` meets its contract: the four items, one by one.
+-- `request_clauses::items_lent` meets its contract: the four items, one after the other.
 use borrow.Author.Needs.{needs}
 use Prim.Native.Nat.{ℕ, _+_}
 use mathlib.Core.Bool.{Bool}
-use mathlib.Core.List.{List}
-use mathlib.Core.Path.{ap, sym, _∙_}
+use mathlib.Core.List.{List, [], _∷_, map}
+use mathlib.Core.Path.{_≡_, sym, ap, _∙_}
 use denote.Ref.{now}
 use lib.ListN.{getD}
-use Rattle.rows.specs.Layout.{requestAt}
-use Rattle.rows.specs.Sound.{mayBeListed}
-use Rattle.rows.specs.Tables.{rowOf}
 use Rattle.rows.specs.Lists.{all, nonzero}
+use Rattle.rows.specs.Tables.{rowOf}
+use Rattle.rows.specs.Sound.{mayBeListed}
+use Rattle.rows.specs.Layout.{requestAt, rowSlot}
 use Rattle.soundness_loans.proofs.RequestClauses.{number-word, items-words, items-all}
 use Rattle.soundness_loans.proofs.request_clauses.items_lent.Statement.{statement}
 use Rattle.soundness_loans.proofs.request_clauses.items_lent.Tie as tie
@@ -32,8 +32,11 @@ mul-may-be-listed c = search needs
 shared-slice-read-may-be-listed : tie.Need-shared-slice-read-may-be-listed
 shared-slice-read-may-be-listed c = search needs
 
+array-read-may-be-listed : tie.Need-array-read-may-be-listed
+array-read-may-be-listed c = search needs
+
 may-be-listed-requires : tie.Need-may-be-listed-requires
-may-be-listed-requires c κs = search needs
+may-be-listed-requires c κs = (c .before .before .before .pre .0, c .before .before .before .pre .2 0)
 
 add-may-be-listed-2 : tie.Need-add-may-be-listed-2
 add-may-be-listed-2 c = search needs
@@ -47,8 +50,11 @@ mul-may-be-listed-2 c = search needs
 shared-slice-read-may-be-listed-2 : tie.Need-shared-slice-read-may-be-listed-2
 shared-slice-read-may-be-listed-2 c = search needs
 
+array-read-may-be-listed-2 : tie.Need-array-read-may-be-listed-2
+array-read-may-be-listed-2 c = search needs
+
 may-be-listed-requires-2 : tie.Need-may-be-listed-requires-2
-may-be-listed-requires-2 c κs = search needs
+may-be-listed-requires-2 c κs = (c .before .before .before .before .before .pre .0, c .before .before .before .before .before .pre .2 1)
 
 mul-may-be-listed-3 : tie.Need-mul-may-be-listed-3
 mul-may-be-listed-3 c = search needs
@@ -65,8 +71,11 @@ mul-may-be-listed-4 c = search needs
 shared-slice-read-may-be-listed-3 : tie.Need-shared-slice-read-may-be-listed-3
 shared-slice-read-may-be-listed-3 c = search needs
 
+array-read-may-be-listed-3 : tie.Need-array-read-may-be-listed-3
+array-read-may-be-listed-3 c = search needs
+
 may-be-listed-requires-3 : tie.Need-may-be-listed-requires-3
-may-be-listed-requires-3 c κs = search needs
+may-be-listed-requires-3 c κs = (c .before .before .before .before .before .before .before .pre .0, c .before .before .before .before .before .before .before .pre .2 2)
 
 mul-may-be-listed-5 : tie.Need-mul-may-be-listed-5
 mul-may-be-listed-5 c = search needs
@@ -83,24 +92,25 @@ mul-may-be-listed-6 c = search needs
 shared-slice-read-may-be-listed-4 : tie.Need-shared-slice-read-may-be-listed-4
 shared-slice-read-may-be-listed-4 c = search needs
 
+array-read-may-be-listed-4 : tie.Need-array-read-may-be-listed-4
+array-read-may-be-listed-4 c = search needs
+
 may-be-listed-requires-4 : tie.Need-may-be-listed-requires-4
-may-be-listed-requires-4 c κs = search needs
+may-be-listed-requires-4 c κs = (c .before .before .before .before .before .before .before .before .before .pre .0, c .before .before .before .before .before .before .before .before .before .pre .2 3)
 
 returns : tie.Need-returns
-returns c = λ st rep e.
-    let at-three = c .before .before in
-    let at-two = at-three .before .before in
-    let at-one = at-two .before .before in
-    let a = at-one .before .before .before .before .args in
+returns c =
+    λ st rep es.
+    let a = c .before .before .before .before .before .before .before .before .before .before .args in
     let t = now (a .t) in
     let j = a .j in
     let v = requestAt t j in
     let P : ℕ → Bool = λ x. mayBeListed v (rowOf (st .rows) x) in
     let q = sym (number-word t j) in
-    let first = at-one .may-be-listed .ensures st v rep e q in
-    let second = at-two .may-be-listed2 .ensures st v rep e q in
-    let third = at-three .may-be-listed3 .ensures st v rep e q in
-    rw (first, second, third, c .may-be-listed4 .ensures st v rep e q)
+    let slots = es ∙ ap (map (rowSlot (st .rows))) (sym (items-words t j)) in
+    let slot : (k : ℕ) → getD (a .t2) k 0 ≡ getD (map (rowSlot (st .rows)) (getD t (10752 + j) 0 ∷ getD t (10880 + j) 0 ∷ getD t (11008 + j) 0 ∷ getD t (11136 + j) 0 ∷ [])) k 0
+    = λ k. ap (λ (l : List ℕ). getD l k 0) slots in
+    rw (c .before .before .before .before .before .before .may-be-listed .ensures st v rep (slot 0) q, c .before .before .before .before .may-be-listed2 .ensures st v rep (slot 1) q, c .before .before .may-be-listed3 .ensures st v rep (slot 2) q, c .may-be-listed4 .ensures st v rep (slot 3) q)
     (items-all P (getD t (10752 + j) 0) (getD t (10880 + j) 0) (getD t (11008 + j) 0) (getD t (11136 + j) 0)
     ∙ ap (λ (l : List ℕ). all P (nonzero l)) (items-words t j))
 
@@ -114,22 +124,26 @@ items-lent-spec =
     add-may-be-listed
     mul-may-be-listed
     shared-slice-read-may-be-listed
+    array-read-may-be-listed
     may-be-listed-requires
     add-may-be-listed-2
     add-may-be-listed-3
     mul-may-be-listed-2
     shared-slice-read-may-be-listed-2
+    array-read-may-be-listed-2
     may-be-listed-requires-2
     mul-may-be-listed-3
     add-may-be-listed-4
     add-may-be-listed-5
     mul-may-be-listed-4
     shared-slice-read-may-be-listed-3
+    array-read-may-be-listed-3
     may-be-listed-requires-3
     mul-may-be-listed-5
     add-may-be-listed-6
     add-may-be-listed-7
     mul-may-be-listed-6
     shared-slice-read-may-be-listed-4
+    array-read-may-be-listed-4
     may-be-listed-requires-4
     returns)

@@ -14,15 +14,14 @@ fetched-in-range-requires c κs = search needs
 requester-listed-requires : tie.Need-requester-listed-requires
 requester-listed-requires c κs = search needs
 
-items-right-requires : tie.Need-items-right-requires
-items-right-requires c κs = search needs
+items-once-requires : tie.Need-items-once-requires
+items-once-requires c κs = search needs
 
 returns : tie.Need-returns
 unfolding requestRight
 returns c =
     λ st rep e i.
-    c .before .before .before .number-apart .ensures st rep e i
-    && (c .before .before .fetched-in-range .ensures i && (c .before .requester-listed .ensures i && c .items-right .ensures st rep e i))
+    c .before .before .before .number-apart .ensures st rep e i && (c .before .before .fetched-in-range .ensures i && (c .before .requester-listed .ensures i && c .items-once .ensures i))
 
 pub request-right-spec : {M : Type 1} → statement M
 request-right-spec =
@@ -31,5 +30,5 @@ request-right-spec =
     number-apart-requires
     fetched-in-range-requires
     requester-listed-requires
-    items-right-requires
+    items-once-requires
     returns)
