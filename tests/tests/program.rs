@@ -72,7 +72,10 @@ fn conformance_sessions_are_answered() {
 fn parts_of_any_size_are_the_same() {
     for (name, input, answers) in conformance().iter().filter(|s| s.1.len() < 20_000) {
         for size in [1, 7, 255, 256, 257] {
-            assert!(printed(input, size) == *answers, "{name} in parts of {size}");
+            assert!(
+                printed(input, size) == *answers,
+                "{name} in parts of {size}"
+            );
         }
     }
 }
@@ -101,7 +104,10 @@ fn a_session_is_driven_line_by_line() {
         from.read_line(&mut answer).expect("an answer");
         answer
     };
-    assert_eq!(ask(b"(node 1 (op 1 0 7))\n(process 1 1)\n(open)\n"), "(ok 0)\n");
+    assert_eq!(
+        ask(b"(node 1 (op 1 0 7))\n(process 1 1)\n(open)\n"),
+        "(ok 0)\n"
+    );
     assert_eq!(ask(b"(1 hold 1)\n"), "(ok 2)\n");
     assert_eq!(ask(&[&[b'x'; 100_000][..], b"\n"].concat()), "(no 2)\n");
     assert_eq!(ask(b"(1 hold 1)\n"), "(ok 3)\n");
