@@ -7,3 +7,4 @@ pub mod Prints
 pub mod Buffers
 pub mod Moves
 pub mod Parts
+pub mod Runs

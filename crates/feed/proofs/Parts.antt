@@ -1,6 +1,7 @@
 -- Laws of a part that is fed byte by byte into a buffer, and of sessions that parts have led to.
 use Prim.Native.Nat.{ℕ, suc, _+_, _-_, _≤_, _<_}
 use native.Mathlib.Omega.{arith}
+use mathlib.Core.Bool.{true}
 use mathlib.Core.List.{List, [], _∷_, _++_, append-assoc, append-nil}
 use mathlib.Core.Path.{_≡_, refl, sym, ap, subst, _∙_}
 use native.Mathlib.Decide.{decLt}
@@ -9,7 +10,7 @@ use lib.Seq.{length-take-le, take-all, take-suc, take-at, drop-at, drop-drop, ge
 use lib.Dec.{eqb}
 use borrow.Author.Tests.{eq-eqb}
 use Rattle.rows.specs.Layout.{rightLengths, tablesLength, processesLength}
-use Rattle.rows.specs.contracts.Sizes.{sizes-meant}
+use Rattle.rows.specs.contracts.Sizes.{IsTables, IsRecords, sizes-meant}
 use Rattle.rows.proofs.Bools.{and-i}
 use Rattle.text.specs.contracts.Sizes.{REPLY}
 use Rattle.feed.specs.declared.Stage.the-variants.{Opening}
@@ -56,22 +57,19 @@ reached-fed s bs r =
     }
 
 -- a session begins
+pub lengths-right : (t p : List ℕ) → IsTables t → IsRecords p → rightLengths t p ≡ true
+unfolding rightLengths
+lengths-right t p tables processes =
+    and-i (eqb (length t) tablesLength) (eqb (length p) processesLength)
+    (eq-eqb (length t) tablesLength (tables ∙ sizes-meant .tables)) (eq-eqb (length p) processesLength (processes ∙ sizes-meant .records))
+
 pub begin-ready : (k : Kept) → k ≡ record { stage = Opening; text = 0; line = 0 } → Begins k
-unfolding sessionIn partsFed silent begun rightLengths
+unfolding sessionIn partsFed silent begun
 begin-ready k e b t p long tables processes =
-    rw e
-    (record {
-      long = long;
-      stands = omega arith;
-      reached = record {
-        tables = t;
-        processes = p;
-        fits = and-i (eqb (length t) tablesLength) (eqb (length p) processesLength)
-            (eq-eqb (length t) tablesLength (tables ∙ sizes-meant .tables)) (eq-eqb (length p) processesLength (processes ∙ sizes-meant .records));
-        parts = [];
-        is = refl;
-      };
-    })
+    rw e (
+      refl,
+      record { long = long; stands = omega arith; reached = record { tables = t; processes = p; fits = lengths-right t p tables processes; parts = []; is = refl } },
+    )
 
 -- its buffer has room for a whole line
 pub reached-room : (k : Kept) (b t p : List ℕ) → length b ≡ KEPT → Stands k b → Reached (sessionIn k b t p) → HasRoom k b

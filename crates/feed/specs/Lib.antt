@@ -2,5 +2,6 @@
 pub mod Feeding
 pub mod Prints
 pub mod contracts
+pub mod Runs
 pub mod Computes
 pub mod tests

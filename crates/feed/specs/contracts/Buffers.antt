@@ -110,6 +110,6 @@ ReadsOn at part next = (at ≤ next) × (next ≤ length part) × (at < length p
 abbrev pub Feeds : List ℕ → ℕ → Kept → List ℕ → List ℕ → List ℕ → List ℕ → Fed → List ℕ → List ℕ → List ℕ → List ℕ → Type 0
 Feeds part at k b t p out r a u v after = Takes (fed (sessionIn k b t p) (bytesOf part at (r .next))) (r .kept) a u v out after (r .printed)
 
--- a session begins, in any buffer and runs of the right size
+-- a session begins, whatever stands in the buffer and the runs, which have the right size
 abbrev pub Begins : Kept → Type 0
-Begins r = (b t p : List ℕ) → length b ≡ KEPT → IsTables t → IsRecords p → Ready r b t p
+Begins r = (b t p : List ℕ) → length b ≡ KEPT → IsTables t → IsRecords p → (sessionIn r b t p ≡ begun t p) × Ready r b t p

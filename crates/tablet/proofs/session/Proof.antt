@@ -23,7 +23,7 @@ begin-requires c κs = search needs
 loop-holds : tie.Need-loop-holds Inv-loop μ-loop
 loop-holds c =
     let s = c .before .before .before .before .before .before in
-    (λ e. c .begin .ensures (s .args .kept .now) (s .args .tables .now) (s .args .processes .now) (s .pre .1 .0) (s .pre .0 .0) (s .pre .0 .1), search needs, search needs, search needs, search needs, search needs)
+    (λ e. c .begin .ensures (s .args .kept .now) (s .args .tables .now) (s .args .processes .now) (s .pre .1 .0) (s .pre .0 .0) (s .pre .0 .1) .1, search needs, search needs, search needs, search needs, search needs)
 
 read-once-requires : tie.Need-read-once-requires Inv-loop μ-loop
 read-once-requires c κs =
