@@ -1,4 +1,7 @@
 //! The program `tablet` through pipes, byte for byte: the conformance sessions, random sessions, parts of any size, line by line.
+//! 100 MB of calls in one session, with the memory watched:
+//!
+//!     cargo test --release --offline --manifest-path tests/Cargo.toml --test program -- --ignored
 
 use model::random::damage::damage;
 use model::random::{session, Rng, PROFILES};
@@ -146,4 +149,49 @@ fn an_output_that_is_full_ends_it() {
     let output = program.wait_with_output().expect("the program ends");
     assert_eq!(output.stderr, b"tablet: the output cannot be written\n");
     drop(to);
+}
+
+/// A reader that leaves ends it.
+#[test]
+fn an_output_that_is_closed_ends_it() {
+    let mut program = started();
+    drop(program.stdout.take());
+    let mut to = program.stdin.take().expect("a pipe");
+    to.write_all(b"(node 1)\n(open)\n").expect("it reads");
+    program.wait().expect("it ends while its input is open");
+    drop(to);
+}
+
+/// The kilobytes that a process has in memory, from its status.
+fn resident(process: u32) -> usize {
+    let status = fs::read_to_string(format!("/proc/{process}/status")).expect("it runs");
+    let line = status.lines().find(|line| line.starts_with("VmRSS:"));
+    let words = line.expect("a line of memory").split_whitespace();
+    let number = words.map(str::parse).nth(1).expect("a word");
+    number.expect("a number")
+}
+
+#[test]
+#[ignore = "100 MB of calls"]
+fn memory_does_not_grow() {
+    let mut program = started();
+    let mut to = program.stdin.take().expect("a pipe");
+    let mut from = program.stdout.take().expect("a pipe");
+    let reader = thread::spawn(move || std::io::copy(&mut from, &mut std::io::sink()));
+    to.write_all(b"(node 1 (op 1 0 7))\n(process 1 1)\n(open)\n")
+        .expect("it reads");
+    let calls = "(1 go 0)\n(comes 1 1)\n(1 hold 1)\n(2 ask 9 (8 7))\nx\n".repeat(20_000);
+    let mut most = Vec::new();
+    for _ in 0..100_000_000 / calls.len() {
+        to.write_all(calls.as_bytes()).expect("it reads on");
+        most.push(resident(program.id()));
+    }
+    drop(to);
+    assert!(program.wait().expect("it ends").success());
+    reader.join().expect("it is read").expect("to its end");
+    let (first, last) = (most[most.len() / 10], most[most.len() - 1]);
+    assert!(
+        last <= first + 64,
+        "{first} KB after a tenth, {last} KB at the end"
+    );
 }

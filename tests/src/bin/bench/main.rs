@@ -16,6 +16,7 @@ mod measure;
 mod on_runs;
 mod operations;
 mod parts;
+mod program;
 mod report;
 mod stack;
 mod tables;
@@ -55,8 +56,13 @@ fn main() {
     println!("\ninstructions are counted by callgrind: some minutes\n");
     let counts = count::all().unwrap_or_default();
     let results = report::results(&timed.lines, &counts);
+    let sessions = if untimed {
+        String::new()
+    } else {
+        program::table()
+    };
     let text = format!(
-        "{}\n\n{}{}### Verdicts\n\n```\n{}```\n",
+        "{}\n\n{}{}{sessions}### Verdicts\n\n```\n{}```\n",
         machine(),
         report::tables(&results),
         parts::table(&results),
