@@ -5,20 +5,21 @@ use mathlib.Core.List.{List}
 use mathlib.Core.Path.{_≡_, ap, sym, subst, _∙_}
 use native.Mathlib.Decide.{decLt}
 use native.Mathlib.Omega.{arith}
-use lib.ListN.{length, getD, take, drop, List·getD-eq-default}
-use lib.Seq.{getD-take, length-take-le}
+use lib.ListN.{length, getD, take, drop, length-drop, List·getD-eq-default}
+use lib.Seq.{getD-take, getD-drop, length-take-le}
 use Rattle.rows.specs.declared.Found.{Found}
 use Rattle.rows.specs.declared.Found.the-variants.{At, Nothing}
+use Rattle.rows.specs.Limits.{rowSlots, requestSlots}
 use Rattle.rows.specs.Lists.{rises, slotWith, laid}
 use Rattle.rows.specs.Tables.{State}
 use Rattle.rows.specs.contracts.Represents.{Represents}
 use Rattle.rows.specs.contracts.Slots.{foundSlot, requestSlot, openSlot}
-use Rattle.rows.specs.Layout.{rowSlot, rowWord}
-use Rattle.rows.specs.contracts.Searches.{Ascending, LastAt, LastAtIfAscending, LastUpToIfFront}
+use Rattle.rows.specs.Layout.{rowColumns, requestsAt, rowSlot, rowWord, requestWord, rowsIn, requestsIn}
+use Rattle.rows.specs.contracts.Searches.{Ascending, LastAt, LastAtIfAscending, LeadingIfFront, LastUpToIfFront}
 use Rattle.rows.proofs.Keyed.{rises-range}
 use Rattle.rows.proofs.LayoutColumns.{length-laid}
-use Rattle.rows.proofs.Searches.{Keys, last-slot, keys-rise, keys-member, keys-part, Numbers, numbers-front, half-hit, last-none}
-use Rattle.rows.proofs.Slots.{represented-well, represented-length, represented-row, row-words-at, request-words-at}
+use Rattle.rows.proofs.Searches.{Keys, last-slot, keys-rise, keys-member, keys-part, Numbers, numbers-used, numbers-front, half-hit, last-none}
+use Rattle.rows.proofs.Slots.{represented-well, represented-length, represented-rows, represented-requests, represented-row, represented-request, row-words-at, request-words-at}
 
 module _ {st : State} {t : List ℕ} (rep : Represents t st) where
   -- ---- the columns of keys
@@ -44,24 +45,46 @@ module _ {st : State} {t : List ℕ} (rep : Represents t st) where
   abbrev numbers-in : List ℕ
   numbers-in = take 1024 (drop 0 t)
 
-  unused-zero : (i : ℕ) → length (st .rows) ≤ i → getD numbers-in i 0 ≡ 0
-  unused-zero i h =
-      elim (decLt i 1024) [
-        | yes lt ↦
-            getD-take 1024 (drop 0 t) i 0 lt
-            ∙ (let first : 0 * 1024 + i ≡ i = omega arith in ap (λ (j : ℕ). getD t j 0) (sym first))
-            ∙ represented-row rep 0 i (omega arith) lt
-            ∙ List·getD-eq-default (laid (rowWord 0) (st .rows)) 0 (omega (arith, length-laid (rowWord 0) (st .rows)))
-        | no ge ↦ List·getD-eq-default numbers-in 0 (omega (arith, length-take-le 1024 (drop 0 t) (omega (arith, represented-length rep))))
+  -- the words of a column after those laid in it are 0
+  column-unused : (a k : ℕ) (l : List ℕ) → a + k ≤ 11265 → ((i : ℕ) → i < k → getD t (a + i) 0 ≡ getD l i 0)
+      → (i : ℕ) → length l ≤ i → getD (take k (drop a t)) i 0 ≡ 0
+  column-unused a k l fits same i h =
+      elim (decLt i k) [
+        | yes lt ↦ getD-take k (drop a t) i 0 lt ∙ getD-drop a t i 0 ∙ same i lt ∙ List·getD-eq-default l 0 h
+        | no ge ↦
+            List·getD-eq-default (take k (drop a t)) 0 (omega (arith, length-take-le k (drop a t) (omega (arith, represented-length rep, length-drop a t))))
       ]
+
+  -- numbers that rise, the keys of the elements
+  keyed-numbers : {A : Type 0} (key : A → ℕ) (l : List ℕ) (xs : List A) → Keys key l xs → rises key xs ≡ true
+      → ((i : ℕ) → length xs ≤ i → getD l i 0 ≡ 0) → Numbers l (length xs)
+  keyed-numbers key l xs ks up zero =
+      record {
+        rise = keys-rise key l xs ks up;
+        used = λ i h. rises-range key xs up (getD l i 0) (keys-member key l xs ks i h) .0;
+        unused = zero;
+      }
 
   row-numbers : Numbers numbers-in (length (st .rows))
   row-numbers =
-      record {
-        rise = keys-rise (λ r. r .number) numbers-in (st .rows) row-keys (represented-well rep .rows-rise);
-        used = λ i h. rises-range (λ r. r .number) (st .rows) (represented-well rep .rows-rise) (getD numbers-in i 0) (keys-member (λ r. r .number) numbers-in (st .rows) row-keys i h) .0;
-        unused = unused-zero;
-      }
+      keyed-numbers (λ r. r .number) numbers-in (st .rows) row-keys (represented-well rep .rows-rise)
+      (λ i h. column-unused 0 1024 (laid (rowWord 0) (st .rows)) (omega arith)
+      (λ j g. represented-row rep 0 j (omega arith) g) i (omega (arith, length-laid (rowWord 0) (st .rows))))
+
+  request-numbers : Numbers (take 128 (drop 10240 t)) (length (st .requests))
+  request-numbers =
+      keyed-numbers (λ v. v .number) (take 128 (drop 10240 t)) (st .requests) request-keys (represented-well rep .requests-rise)
+      (λ i h. column-unused 10240 128 (laid (requestWord 0) (st .requests)) (omega arith)
+      (λ j g. (let first : 10240 + j ≡ 10240 + (0 * 128 + j) = omega arith in ap (λ (n : ℕ). getD t n 0) first) ∙ represented-request rep 0 j (omega arith) g) i (omega (arith, length-laid (requestWord 0) (st .requests))))
+
+  -- ---- how many there are
+  pub rows-counted : (r : ℕ) → LeadingIfFront numbers-in r → r ≡ length (st .rows)
+  unfolding rowsIn rowSlots
+  rows-counted r f = f (numbers-used numbers-in (length (st .rows)) row-numbers) ∙ represented-rows rep
+
+  pub requests-counted : (r : ℕ) → LeadingIfFront (take 128 (drop 10240 t)) r → r ≡ length (st .requests)
+  unfolding requestsIn requestSlots requestsAt rowColumns rowSlots
+  requests-counted r f = f (numbers-used (take 128 (drop 10240 t)) (length (st .requests)) request-numbers) ∙ represented-requests rep
 
   -- what the last number up to n tells of the row numbered n
   module _ (k n last : ℕ) (counted : k ≡ length (st .rows)) (found : LastUpToIfFront numbers-in n last) where

@@ -1,14 +1,14 @@
 -- Process records in their words, one after the other: what loops over them keep.
 use Prim.Native.Nat.{ℕ, zero, suc, _+_, _*_, _-_, _%_, _^_, _<_, _≤_}
-use mathlib.Core.Bool.{false, _&&_}
+use mathlib.Core.Bool.{Bool, true, false, _&&_}
 use mathlib.Core.List.{List, [], _∷_}
 use mathlib.Core.Path.{_≡_, refl, ap, sym, _∙_}
 use native.Mathlib.Decide.{decLt}
 use native.Mathlib.Nat.{not-suc-le-zero, le-of-suc-le-suc}
 use native.Mathlib.Omega.{arith}
 use borrow.Author.Count.{below-more}
-use borrow.Author.Tests.{lt-ltb, le-ltb}
-use lib.Dec.{ltb}
+use borrow.Author.Tests.{lt-ltb, le-ltb, eqb-true, eqb-false}
+use lib.Dec.{eqb, ltb}
 use lib.ListN.{length, getD, set, length-set, List·getD-eq-default}
 use lib.Seq.{getD-set-same, getD-set-other, ext-getD}
 use Rattle.rows.specs.declared.Process.{Process}
@@ -89,6 +89,21 @@ pub through-write : (ps : List Process) (p : List ℕ) (i : ℕ) → 3 * i + 2 <
 through-write ps p i h t =
     let x = getD ps i noProcess in
     below-more (λ k. getD ps k noProcess ≡ recordAt (written p i x) k) i (λ k lt. t k lt ∙ sym (elsewhere p i x k (λ e. omega arith))) (sym (here p i x h))
+
+-- one record of the words is written
+pub records-written : (p : List ℕ) (i : ℕ) (x : Process) → length p ≡ 192 → i < 64 → recordsIn (written p i x) ≡ set (recordsIn p) i x
+records-written p i x e h = sym (through-all 64 (set (recordsIn p) i x) (written p i x) (simp length-set (length-in 64 p e)) (simp length-set e) each)
+  where
+    each : Through (set (recordsIn p) i x) (written p i x) 64
+    each k lt =
+        pick (eqb k i) refl
+      where
+        pick : (b : Bool) → eqb k i ≡ b → getD (set (recordsIn p) i x) k noProcess ≡ recordAt (written p i x) k
+        pick true q =
+            rw (eqb-true k i q) (getD-set-same (recordsIn p) i x noProcess (omega (arith, length-in 64 p e)) ∙ sym (here p i x (omega arith)))
+        pick false q =
+            let ne : k ≡ i → ⊥ = eqb-false k i q in
+            getD-set-other (recordsIn p) i k x noProcess ne ∙ record-at 64 p e k lt ∙ sym (elsewhere p i x k ne)
 
 -- ---- whether a process is listed
 listed-none : (ps : List Process) (n : ℕ) → n ≡ 0 → false ≡ isListed ps n

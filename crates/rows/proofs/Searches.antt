@@ -17,7 +17,7 @@ use Rattle.rows.specs.declared.Found.the-variants.{At, Nothing}
 use Rattle.rows.specs.Lists.{rises, member, some, slotWith}
 use Rattle.rows.specs.Layout.{leading}
 use Rattle.rows.specs.contracts.Slots.{foundSlot}
-use Rattle.rows.specs.contracts.Searches.{Ascending, LastAt, isUpTo, stepTo, UpToInFront, LastUpTo}
+use Rattle.rows.specs.contracts.Searches.{Ascending, LastAt, UsedInFront, isUpTo, stepTo, UpToInFront, LastUpTo}
 use Rattle.rows.proofs.Bools.{clash, bool-eq, and-l, and-r, and-i, some-pos, pos-some, member-here, member-there}
 use Rattle.rows.proofs.Keyed.{rises-rest, rises-older}
 
@@ -177,6 +177,36 @@ leading-le (w ∷ l) = pick (leading-le l) (some w)
     pick : leading l ≤ length l → (b : Bool) → cond b (suc (leading l)) 0 ≤ suc (length l)
     pick h true = suc-le-suc h
     pick h false = zero-le
+
+-- by halves: what is before lo is in use, and what is from hi on is 0
+pub record Halved (l : List ℕ) (lo hi : ℕ) : Type 0 where
+  pub used : (j : ℕ) → j < lo → 0 < getD l j 0
+  pub unused : (j : ℕ) → hi ≤ j → getD l j 0 ≡ 0
+
+module _ (l : List ℕ) where
+  pub halved-start : Halved l 0 (length l)
+  halved-start = record { used = λ j h. absurd (omega arith); unused = λ j h. List·getD-eq-default l 0 h }
+
+  pub halved-down : UsedInFront l → (lo hi mid : ℕ) → getD l mid 0 ≡ 0 → Halved l lo hi → Halved l lo mid
+  halved-down front lo hi mid z h = record { used = h .used; unused = after }
+    where
+      after : (j : ℕ) → mid ≤ j → getD l j 0 ≡ 0
+      after j g =
+          ⊎-elim (λ (e : mid ≡ j). rw (← e) z)
+          (λ (lt : mid < j). ⊎-elim (λ (p : 0 < getD l j 0). let q : 0 < getD l mid 0 = front mid j lt p in absurd (omega arith)) (λ p. omega arith) (lt-or-ge 0 (getD l j 0)))
+          (eq-or-lt-of-le g)
+
+  pub halved-up : UsedInFront l → (lo hi mid : ℕ) → (getD l mid 0 ≡ 0 → ⊥) → Halved l lo hi → Halved l (mid + 1) hi
+  halved-up front lo hi mid nz h =
+      record { used = below-more (λ j. 0 < getD l j 0) mid (λ j lt. front j mid lt (omega arith)) (omega arith); unused = h .unused }
+
+  pub halved-end : (lo hi : ℕ) → hi ≤ lo → Halved l lo hi → lo ≡ leading l
+  halved-end lo hi g h =
+      sym (leading-is l lo (λ j lt z. let p : 0 < getD l j 0 = h .used j lt in absurd (omega arith)) (h .unused lo g))
+
+-- numbers in use stand in front
+pub numbers-used : (l : List ℕ) (k : ℕ) → Numbers l k → UsedInFront l
+numbers-used l k p i j lt h = p .used i (let b : j < k = in-use l 0 k p j h in omega arith)
 
 -- ---- what is found is the slot of the element with that key
 module _ {A : Type 0} (key : A → ℕ) where

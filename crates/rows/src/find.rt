@@ -11,8 +11,9 @@ ghost use Prim.Native.Nat.{_+_, _<_, _≤_};
 ghost use lib.ListN.{length};
 ghost use Rattle.rows.specs.Layout.{leading, rowsIn, requestsIn};
 ghost use Rattle.rows.specs.contracts.Slots.{Within};
-ghost use Rattle.rows.specs.contracts.Searches.{LastAt, LastAtIfAscending, NoneZero};
+ghost use Rattle.rows.specs.contracts.Searches.{LastAt, LastAtIfAscending, NoneZero, LeadingIfFront};
 ghost use Rattle.rows.specs.contracts.Searches.{isUpTo, stepTo, LastUpToIfFront};
+ghost use Rattle.rows.specs.contracts.Finds.{CountsRows, CountsRequests};
 ghost use Rattle.rows.specs.contracts.Finds.{FindsRowAmong, FindsRow, FindsRequest, FindsOpen};
 ghost use Rattle.rows.specs.contracts.Sizes.{ROWS, REQUESTS, IsTables};
 
@@ -121,6 +122,45 @@ pub fn requests_in(t: &[u32]) -> usize
     ensures within { λ r. ⌜ r ≤ REQUESTS ⌝ }
 {
     leading_in(&t[Q_NUMBER..Q_PORT])
+}
+
+// How many words stand before the first 0, where those in use stand in front: by halves.
+// Ruled out: a count one short where all are in use; one more where none is.
+fn front_in(column: &[u32]) -> usize
+    ensures within { λ r. ⌜ r ≤ length (now (column .entry)) ⌝ }
+    ensures counted { λ r. ⌜ LeadingIfFront (now (column .entry)) r ⌝ }
+{
+    let mut lo = 0;
+    let mut hi = column.len();
+    while lo < hi {
+        let mid = lo + (hi - lo) / 2;
+        if column[mid] == 0 {
+            hi = mid;
+        } else {
+            lo = mid + 1;
+        }
+    }
+    lo
+}
+
+// How many rows stand, in words that represent a state.
+// Ruled out: the requests; more than 1,024.
+pub fn count_rows(t: &[u32]) -> usize
+    requires { ⌜ IsTables (now t) ⌝ }
+    ensures counted { λ r. ⌜ CountsRows (now (t .entry)) r ⌝ }
+    ensures within { λ r. ⌜ r ≤ ROWS ⌝ }
+{
+    front_in(&t[NUMBER..KIND])
+}
+
+// How many requests are open, in words that represent a state.
+// Ruled out: the rows; more than 128.
+pub fn count_requests(t: &[u32]) -> usize
+    requires { ⌜ IsTables (now t) ⌝ }
+    ensures counted { λ r. ⌜ CountsRequests (now (t .entry)) r ⌝ }
+    ensures within { λ r. ⌜ r ≤ REQUESTS ⌝ }
+{
+    front_in(&t[Q_NUMBER..Q_PORT])
 }
 
 // ---- the slot of a row

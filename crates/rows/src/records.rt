@@ -4,9 +4,11 @@ use crate::codes::LAST_PROCESS;
 use crate::layout::PROCESSES;
 use crate::layout::RECORD_WORDS;
 ghost use mathlib.Core.Path.{_≡_};
-ghost use Rattle.rows.specs.Tables.{isListed};
+ghost use Prim.Native.Nat.{_<_};
+ghost use lib.ListN.{getD, set};
+ghost use Rattle.rows.specs.Tables.{isListed, noProcess};
 ghost use Rattle.rows.specs.Layout.{recordsIn, recordsOf};
-ghost use Rattle.rows.specs.contracts.Sizes.{IsRecords};
+ghost use Rattle.rows.specs.contracts.Sizes.{PROCESSES, IsRecords};
 
 // The records of all processes: that of process p is element p - 1.
 pub type Records = [Process; PROCESSES];
@@ -49,6 +51,31 @@ pub fn store(ps: Records, p: &mut [u32])
         p[at + 2] = x.through;
         i += 1;
     }
+}
+
+// The record of process i + 1. Ruled out: the record before it or after it; two fields swapped.
+pub fn record_at(p: &[u32], i: usize) -> Process
+    requires { ⌜ IsRecords (now p) × (i < PROCESSES) ⌝ }
+    ensures { λ r. ⌜ r ≡ getD (recordsIn (now (p .entry))) i noProcess ⌝ }
+{
+    let at = RECORD_WORDS * i;
+    Process {
+        prime: p[at],
+        active: p[at + 1],
+        through: p[at + 2],
+    }
+}
+
+// Writes the record of process i + 1. Ruled out: the record of another process changes; two fields swapped.
+pub fn set_record(p: &mut [u32], i: usize, x: Process)
+    requires { ⌜ IsRecords (now p) × (i < PROCESSES) ⌝ }
+    ensures written { λ _. ⌜ recordsIn (now (p .exit)) ≡ set (recordsIn (now (p .entry))) i x ⌝ }
+    ensures long { λ _. ⌜ IsRecords (now (p .exit)) ⌝ }
+{
+    let at = RECORD_WORDS * i;
+    p[at] = x.prime;
+    p[at + 1] = x.active;
+    p[at + 2] = x.through;
 }
 
 // Whether n is a listed process, for any n, without a branch, so that loops over many rows run over several at once

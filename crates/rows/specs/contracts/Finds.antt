@@ -9,6 +9,13 @@ use Rattle.rows.specs.Layout.{rowSlot}
 use Rattle.rows.specs.contracts.Represents.{Represents}
 use Rattle.rows.specs.contracts.Slots.{foundSlot, requestSlot, openSlot}
 
+-- r is the number of rows; of open requests
+abbrev pub CountsRows : List ℕ → ℕ → Type 0
+CountsRows t r = (st : State) → Represents t st → r ≡ length (st .rows)
+
+abbrev pub CountsRequests : List ℕ → ℕ → Type 0
+CountsRequests t r = (st : State) → Represents t st → r ≡ length (st .requests)
+
 -- r is the slot of the row numbered n, where the rows are count in number
 abbrev pub FindsRowAmong : List ℕ → ℕ → ℕ → Found → Type 0
 FindsRowAmong t count n r = (st : State) → Represents t st → count ≡ length (st .rows) → r ≡ foundSlot (rowSlot (st .rows) n)

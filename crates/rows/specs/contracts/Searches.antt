@@ -6,6 +6,7 @@ use mathlib.Core.Path.{_≡_}
 use lib.Dec.{leb}
 use lib.ListN.{getD}
 use Rattle.rows.specs.Lists.{if_then_else_, some}
+use Rattle.rows.specs.Layout.{leading}
 use Rattle.rows.specs.declared.Found.{Found}
 use Rattle.rows.specs.declared.Found.the-variants.{At, Nothing}
 
@@ -26,6 +27,14 @@ LastAtIfAscending l k n r = Ascending k l → LastAt l k n r
 -- none of the words from one position up to another is 0
 abbrev pub NoneZero : List ℕ → ℕ → ℕ → Type 0
 NoneZero l from to = (i : ℕ) → from ≤ i → i < to → getD l i 0 ≡ 0 → ⊥
+
+-- the words in use stand in front of all others
+abbrev pub UsedInFront : List ℕ → Type 0
+UsedInFront l = (i j : ℕ) → i < j → 0 < getD l j 0 → 0 < getD l i 0
+
+-- then r is how many there are
+abbrev pub LeadingIfFront : List ℕ → ℕ → Type 0
+LeadingIfFront l r = UsedInFront l → r ≡ leading l
 
 -- x is a number in use, and at most n
 unfoldable pub isUpTo : ℕ → ℕ → Bool
