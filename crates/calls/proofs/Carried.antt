@@ -5,12 +5,13 @@ use mathlib.Core.List.{List}
 use mathlib.Core.Path.{_≡_, refl, ap, sym, subst, _∙_}
 use native.Mathlib.Omega.{arith}
 use lib.Dec.{eqb}
-use Rattle.rows.specs.declared.Process.{Process}
 use Rattle.rows.specs.Tables.{State}
+use Rattle.rows.specs.Layout.{recordsOf}
 use Rattle.rows.specs.contracts.Represents.{Represents}
-use Rattle.rows.specs.contracts.Sizes.{IsTables}
+use Rattle.rows.proofs.LayoutRequests.{records-words}
+use Rattle.rows.specs.contracts.Sizes.{IsTables, IsRecords}
 use Rattle.calls.specs.declared.Answer.the-variants.{Refused}
-use Rattle.calls.specs.declared.Performed.{Performed}
+use Rattle.calls.specs.declared.Answer.{Answer}
 use Rattle.calls.specs.declared.Call.{Call}
 use Rattle.calls.specs.declared.Call.the-variants.{Go, Hold, Register, Drop, Port, Close, Ask, Fetch, Reply, Refuse, Revoke, Comes}
 use Rattle.calls.specs.Rules.{lowest, refused, judge}
@@ -44,16 +45,19 @@ refused-after st c k h = pick (eqb (lowest (refusals st c)) 0) h
 same-words : (t u : List ℕ) (st : State) → Represents t st → Represents u st → u ≡ t
 same-words t u st a b = b .words ∙ sym (a .words)
 
-module _ (t after : List ℕ) (ps : List Process) (r : Performed) where
-  -- a call that does what its definition says writes no word and no record where it is refused
-  pub refused-writes-nothing : (c : Call) → Performs t ps c after r → StaysIfRefused t ps c after r
+module _ (t after : List ℕ) (ps left : List ℕ) (r : Answer) (long : IsRecords ps) (kept : IsTables after × IsRecords left) where
+  -- a call that does what its definition says writes no word where it is refused
+  pub refused-writes-nothing : (c : Call) → Performs t ps c after left r → StaysIfRefused t ps c after left r
   refused-writes-nothing c h st k sd rep same listed says =
       let a = h st sd rep same listed in
-      let stays = refused-after st c k (sym (a .answer) ∙ says) in
-      (same-words t after st rep (subst (λ (s : State). Represents after s) stays (a .words)), a .records ∙ ap (λ (s : State). s .processes) stays ∙ same)
+      let stays = refused-after st c k (sym (a .answer) ∙ says) in (
+        same-words t after st rep (subst (λ (s : State). Represents after s) stays (a .words)),
+        sym (records-words 64 left (kept .1)) ∙ ap recordsOf (a .records ∙ ap (λ (s : State). s .processes) stays ∙ same) ∙ records-words 64 ps long,
+      )
 
   -- by the function of the call that c is
-  pub carried : (c d : Call) → c ≡ d → Performs t ps d after r → IsTables after → Performs t ps c after r × (StaysIfRefused t ps c after r × IsTables after)
-  carried c d e h long =
-      let own = subst (λ (x : Call). Performs t ps x after r) (sym e) h in
-      (own, (refused-writes-nothing c own, long))
+  pub carried : (c d : Call) → c ≡ d → Performs t ps d after left r
+      → Performs t ps c after left r × (StaysIfRefused t ps c after left r × (IsTables after × IsRecords left))
+  carried c d e h =
+      let own = subst (λ (x : Call). Performs t ps x after left r) (sym e) h in
+      (own, (refused-writes-nothing c own, kept))

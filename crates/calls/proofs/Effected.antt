@@ -31,11 +31,11 @@ unfolding laidWell wordsOf rowsRise requestsRise rowsFit requestsFit itemsFew
 records-apart st ps rep = record { well = rep .well; words = rep .words }
 
 module _ {t : List ℕ} (st : State) (p e : ℕ) (r : List Process) (rep : Represents t st) where
-  pub went-home : e ≡ 0 → r ≡ goHome st p .processes → Agrees t (record { answer = Done; records = r }) (effect st (Go p e))
+  pub went-home : e ≡ 0 → r ≡ goHome st p .processes → Agrees t r Done (effect st (Go p e))
   unfolding effect done goHome withRecord
   went-home z same = rw (eq-eqb e 0 z) (record { answer = refl; words = records-apart st _ rep; records = same })
 
-  pub went-through : (e ≡ 0 → ⊥) → r ≡ goThrough st p e .processes → Agrees t (record { answer = Done; records = r }) (effect st (Go p e))
+  pub went-through : (e ≡ 0 → ⊥) → r ≡ goThrough st p e .processes → Agrees t r Done (effect st (Go p e))
   unfolding effect done goThrough withRecord
   went-through z same = rw (ne-eqb e 0 z) (record { answer = refl; words = records-apart st _ rep; records = same })
 
@@ -84,28 +84,28 @@ manager-few st sd e i at k =
 
 -- ---- calls that close
 module _ {after : List ℕ} (st : State) (p e : ℕ) (r : List Process) where
-  pub closed-port : Represents after (closePort e st) × (r ≡ closePort e st .processes) → Agrees after (record { answer = Done; records = r }) (effect st (Close p e))
+  pub closed-port : Represents after (closePort e st) × (r ≡ closePort e st .processes) → Agrees after r Done (effect st (Close p e))
   unfolding effect done
   closed-port h = record { answer = refl; words = h .0; records = h .1 }
 
-  pub dropped-row : Represents after (dropRow e st) × (r ≡ dropRow e st .processes) → Agrees after (record { answer = Done; records = r }) (effect st (Drop p e))
+  pub dropped-row : Represents after (dropRow e st) × (r ≡ dropRow e st .processes) → Agrees after r Done (effect st (Drop p e))
   unfolding effect done
   dropped-row h = record { answer = refl; words = h .0; records = h .1 }
 
-  pub revoked : Represents after (closeRequest e st) × (r ≡ closeRequest e st .processes) → Agrees after (record { answer = Done; records = r }) (effect st (Revoke p e))
+  pub revoked : Represents after (closeRequest e st) × (r ≡ closeRequest e st .processes) → Agrees after r Done (effect st (Revoke p e))
   unfolding effect done
   revoked h = record { answer = refl; words = h .0; records = h .1 }
 
   -- the request that the server sees at its end e
   pub refused-request : (q : ℕ) → q ≡ askedOf st e .number → Represents after (closeRequest q st) × (r ≡ closeRequest q st .processes)
-      → Agrees after (record { answer = Done; records = r }) (effect st (Refuse p e))
+      → Agrees after r Done (effect st (Refuse p e))
   unfolding effect done
   refused-request q same h =
       let h′ = subst (λ (n : ℕ). Represents after (closeRequest n st) × (r ≡ closeRequest n st .processes)) same h in
       record { answer = refl; words = h′ .0; records = h′ .1 }
 
   pub replied-request : (q : ℕ) → q ≡ askedOf st e .number → Represents after (closeRequest q st) × (r ≡ closeRequest q st .processes)
-      → Agrees after (record { answer = Done; records = r }) (effect st (Reply p e))
+      → Agrees after r Done (effect st (Reply p e))
   unfolding effect done
   replied-request q same h =
       let h′ = subst (λ (n : ℕ). Represents after (closeRequest n st) × (r ≡ closeRequest n st .processes)) same h in
@@ -121,7 +121,7 @@ pub fetch-records : (st : State) (p e : ℕ) → effect st (Fetch p e) .after .p
 unfolding effect handedOver
 fetch-records st p e = refl
 
-pub told-comes : {t : List ℕ} (st : State) (e q : ℕ) (b : Bool) (ps : List Process) → Represents t st → st .processes ≡ ps → b ≡ comesFrom (st .rows) q e
-    → Agrees t (record { answer = Told b; records = ps }) (effect st (Comes e q))
+pub told-comes : {t : List ℕ} (st : State) (e q : ℕ) (b : Bool) {ps : List Process} → Represents t st → st .processes ≡ ps → b ≡ comesFrom (st .rows) q e
+    → Agrees t ps (Told b) (effect st (Comes e q))
 unfolding effect
-told-comes st e q b ps rep same h = record { answer = ap Told h; words = rep; records = sym same }
+told-comes st e q b rep same h = record { answer = ap Told h; words = rep; records = sym same }

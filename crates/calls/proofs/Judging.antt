@@ -17,7 +17,6 @@ use Rattle.rows.specs.contracts.Slots.{foundSlot}
 use Rattle.rows.proofs.Slots.{found-nothing, row-absent}
 use Rattle.calls.specs.declared.Answer.{Answer}
 use Rattle.calls.specs.declared.Answer.the-variants.{Refused}
-use Rattle.calls.specs.declared.Performed.{Performed}
 use Rattle.calls.specs.declared.Call.{Call}
 use Rattle.calls.specs.Rules.{Out, Test, lowest, refused, judge}
 use Rattle.calls.specs.Calls.{refusals, effect, perform}
@@ -60,11 +59,11 @@ module _ {t : List ℕ} (st : State) (c : Call) (rep : Represents t st) where
   unfolding refused
   refused-answers k e ne = subst (λ (o : Out). Answers t (Refused k) o) (refused-as k e ne) (record { answer = refl; words = rep })
 
-  pub refused-agrees : (ps : List Process) → st .processes ≡ ps → (k : ℕ) → k ≡ lowest (refusals st c) → (k ≡ 0 → ⊥)
-      → Agrees t (record { answer = Refused k; records = ps }) (perform st c)
+  pub refused-agrees : {ps : List Process} → st .processes ≡ ps → (k : ℕ) → k ≡ lowest (refusals st c) → (k ≡ 0 → ⊥)
+      → Agrees t ps (Refused k) (perform st c)
   unfolding refused
-  refused-agrees ps same k e ne =
-      subst (λ (o : Out). Agrees t (record { answer = Refused k; records = ps }) o) (refused-as k e ne) (record { answer = refl; words = rep; records = sym same })
+  refused-agrees {ps} same k e ne =
+      subst (λ (o : Out). Agrees t ps (Refused k) o) (refused-as k e ne) (record { answer = refl; words = rep; records = sym same })
 
 module _ (st : State) (c : Call) (none : 0 ≡ lowest (refusals st c)) where
   effect-as : effect st c ≡ perform st c
@@ -74,14 +73,14 @@ module _ (st : State) (c : Call) (none : 0 ≡ lowest (refusals st c)) where
   pub accepted-answers : {after : List ℕ} (r : Answer) → Answers after r (effect st c) → Answers after r (perform st c)
   accepted-answers {after} r a = subst (λ (o : Out). Answers after r o) effect-as a
 
-  pub accepted-agrees : {after : List ℕ} (r : Performed) → Agrees after r (effect st c) → Agrees after r (perform st c)
-  accepted-agrees {after} r a = subst (λ (o : Out). Agrees after r o) effect-as a
+  pub accepted-agrees : {after : List ℕ} {left : List Process} {r : Answer} → Agrees after left r (effect st c) → Agrees after left r (perform st c)
+  accepted-agrees {after} {left} {r} a = subst (λ (o : Out). Agrees after left r o) effect-as a
 
 -- ---- a call whose effect leaves the records
-pub records-stay : {after : List ℕ} (st : State) (c : Call) (ps : List Process) → st .processes ≡ ps → effect st c .after .processes ≡ st .processes → (r : Answer)
-    → Answers after r (perform st c) → Agrees after (record { answer = r; records = ps }) (perform st c)
+pub records-stay : {after : List ℕ} (st : State) (c : Call) {ps : List Process} → st .processes ≡ ps → effect st c .after .processes ≡ st .processes → (r : Answer)
+    → Answers after r (perform st c) → Agrees after ps r (perform st c)
 unfolding perform judge refused
-records-stay st c ps same keeps r a =
+records-stay st c same keeps r a =
     record { answer = a .answer; words = a .words; records = sym same ∙ sym (pick (eqb (lowest (refusals st c)) 0)) }
   where
     pick : (b : Bool) → cond b (effect st c) (refused st (lowest (refusals st c))) .after .processes ≡ st .processes

@@ -6,7 +6,6 @@ use crate::ItemRows;
 use crate::Items;
 use crate::Looked;
 use crate::NewRequest;
-use crate::Performed;
 use crate::lend::add_request;
 use crate::lookups;
 use crate::tests;
@@ -20,11 +19,10 @@ use rows::layout::KIND;
 use rows::layout::OBJECT;
 use rows::layout::RIGHTS;
 use rows::read;
-use rows::records::Records;
 ghost use Prim.Native.Nat.{_≤_, _<_};
 ghost use Rattle.rows.specs.contracts.Sizes.{ROWS, REQUESTS, IsTables};
 ghost use Rattle.calls.specs.declared.Call.{Call};
-ghost use Rattle.calls.specs.contracts.Performs.{Performs};
+ghost use Rattle.calls.specs.contracts.Performs.{PerformsApart};
 ghost use Rattle.calls.specs.contracts.Effects.{IsProcess};
 ghost use Rattle.calls.specs.contracts.Asks.{LookedFits, LooksUp, ItemFits, ItemsFit, LacksRight, AnyLacks};
 ghost use Rattle.calls.specs.contracts.Asks.{ItemBusy, AnyItemBusy, CopyDeep, AnyDeep, RefusesAsk};
@@ -168,7 +166,7 @@ fn ask_held(t: &mut [u32], n: usize, w: NewRequest, items: ItemRows) -> Answer
     ensures answers { λ r. ⌜ AsksHeld (now (t .entry)) n w items (now (t .exit)) r ⌝ }
     ensures long { λ _. ⌜ IsTables (now (t .exit)) ⌝ }
 {
-    let m = find::requests_in(t);
+    let m = find::count_requests(t);
     let k = ask_refusal(t, n, m, w, items);
     if k != 0 {
         return Answer::Refused(k);
@@ -206,17 +204,14 @@ fn ask_items(t: &mut [u32], n: usize, w: NewRequest, items: Items) -> Answer
 
 // ask: 7 for a row that the caller does not hold; then the items' refusals.
 // Ruled out: an item is lent where a later one is refused; copies that take their numbers before the request.
-pub fn ask(t: &mut [u32], ps: Records, p: u32, c: u32, items: Items) -> Performed
+pub fn ask(t: &mut [u32], p: u32, c: u32, items: Items) -> Answer
     requires { ⌜ IsTables (now t) × IsProcess p ⌝ }
-    ensures performs { λ r. ⌜ Performs (now (t .entry)) ps (Call.Ask p c items) (now (t .exit)) r ⌝ }
+    ensures performs { λ r. ⌜ PerformsApart (now (t .entry)) (Call.Ask p c items) (now (t .exit)) r ⌝ }
     ensures long { λ _. ⌜ IsTables (now (t .exit)) ⌝ }
 {
-    let n = find::rows_in(t);
+    let n = find::count_rows(t);
     let Found::At(i) = lookups::held_by(t, n, p, c) else {
-        return Performed {
-            answer: Answer::Refused(7),
-            records: ps,
-        };
+        return Answer::Refused(7);
     };
     let request = NewRequest {
         number: read::next_of(t),
@@ -224,9 +219,5 @@ pub fn ask(t: &mut [u32], ps: Records, p: u32, c: u32, items: Items) -> Performe
         slot: i,
         asker: p,
     };
-    let answer = ask_items(t, n, request, items);
-    Performed {
-        answer: answer,
-        records: ps,
-    }
+    ask_items(t, n, request, items)
 }

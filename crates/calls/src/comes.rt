@@ -1,38 +1,27 @@
 // comes: does a row come from an open request?
 use crate::Answer;
-use crate::Performed;
 use crate::lookups;
 use questions::question;
 use rows::Found;
 use rows::find;
-use rows::records::Records;
 ghost use Rattle.rows.specs.contracts.Sizes.{IsTables};
 ghost use Rattle.calls.specs.declared.Call.{Call};
-ghost use Rattle.calls.specs.contracts.Performs.{Performs};
+ghost use Rattle.calls.specs.contracts.Performs.{PerformsApart};
 
 // comes: 7 where there is no such row or no such open request.
 // Ruled out: no for a row that is made from a lent copy; an answer for a request that is closed.
-pub fn comes(t: &[u32], ps: Records, e: u32, q: u32) -> Performed
+pub fn comes(t: &[u32], e: u32, q: u32) -> Answer
     requires { ⌜ IsTables (now t) ⌝ }
-    ensures { λ r. ⌜ Performs (now (t .entry)) ps (Call.Comes e q) (now (t .entry)) r ⌝ }
+    ensures { λ r. ⌜ PerformsApart (now (t .entry)) (Call.Comes e q) (now (t .entry)) r ⌝ }
 {
-    let n = find::rows_in(t);
+    let n = find::count_rows(t);
     let Found::At(i) = find::row_among(t, n, e) else {
-        return Performed {
-            answer: Answer::Refused(7),
-            records: ps,
-        };
+        return Answer::Refused(7);
     };
-    let m = find::requests_in(t);
+    let m = find::count_requests(t);
     let Found::At(_) = lookups::request_among(t, m, q) else {
-        return Performed {
-            answer: Answer::Refused(7),
-            records: ps,
-        };
+        return Answer::Refused(7);
     };
     let told = question::comes(t, i, q);
-    Performed {
-        answer: Answer::Told(told),
-        records: ps,
-    }
+    Answer::Told(told)
 }

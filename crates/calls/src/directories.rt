@@ -1,7 +1,6 @@
 // Calls on directories: go, hold, register, drop.
 use crate::Answer;
 use crate::NewCopy;
-use crate::Performed;
 use crate::lookups;
 use crate::new_rows::append_copy;
 use crate::tests;
@@ -21,9 +20,10 @@ use rows::layout::RIGHTS;
 use rows::layout::SOURCE;
 use rows::layout::VIA;
 use rows::read;
-use rows::records::Records;
+use rows::records::record_at;
+use rows::records::set_record;
 ghost use Prim.Native.Nat.{_≤_, _<_};
-ghost use Rattle.rows.specs.contracts.Sizes.{ROWS, IsTables};
+ghost use Rattle.rows.specs.contracts.Sizes.{ROWS, IsTables, IsRecords};
 ghost use Rattle.calls.specs.declared.Call.{Call};
 ghost use Rattle.calls.specs.contracts.Performs.{Performs, HasRoom, RefusesHold, HoldsRow, RefusesRegister};
 ghost use Rattle.calls.specs.contracts.Performs.{RegistersRow, IsSourceOfSome, RefusesDrop};
@@ -32,36 +32,36 @@ ghost use Rattle.calls.specs.contracts.Effects.{RegisteredBy};
 
 // The record of p in its prime node.
 // Ruled out: the record of another process changes; the row gone through stays.
-pub fn go_home(ps: Records, p: u32) -> Records
-    requires { ⌜ IsProcess p ⌝ }
-    ensures { λ r. ⌜ GoesHome ps p r ⌝ }
+pub fn go_home(ps: &mut [u32], p: u32)
+    requires { ⌜ IsRecords (now ps) × IsProcess p ⌝ }
+    ensures home { λ _. ⌜ GoesHome (now (ps .entry)) p (now (ps .exit)) ⌝ }
+    ensures long { λ _. ⌜ IsRecords (now (ps .exit)) ⌝ }
 {
-    let mut to = ps;
     let i = (p - 1) as usize;
-    let x = to[i];
-    to[i] = Process {
+    let x = record_at(ps, i);
+    let home = Process {
         prime: x.prime,
         active: x.prime,
         through: 0,
     };
-    to
+    set_record(ps, i, home);
 }
 
 // The record of p in the node of the row e, which stands in slot i.
 // Ruled out: the prime node changes; the slot of the row, not its number, is kept.
-pub fn go_through(t: &[u32], i: usize, ps: Records, p: u32, e: u32) -> Records
-    requires { ⌜ IsTables (now t) × (i < ROWS) × IsProcess p ⌝ }
-    ensures { λ r. ⌜ GoesThrough (now (t .entry)) i ps p e r ⌝ }
+pub fn go_through(t: &[u32], i: usize, ps: &mut [u32], p: u32, e: u32)
+    requires { ⌜ IsTables (now t) × (i < ROWS) × IsRecords (now ps) × IsProcess p ⌝ }
+    ensures there { λ _. ⌜ GoesThrough (now (t .entry)) i (now (ps .entry)) p e (now (ps .exit)) ⌝ }
+    ensures long { λ _. ⌜ IsRecords (now (ps .exit)) ⌝ }
 {
-    let mut to = ps;
     let k = (p - 1) as usize;
-    let x = to[k];
-    to[k] = Process {
+    let x = record_at(ps, k);
+    let there = Process {
         prime: x.prime,
         active: t[OBJECT + i],
         through: e,
     };
-    to
+    set_record(ps, k, there);
 }
 
 // A copy of the row in slot i, in the c-list of p, from that row and the row that p went through.
@@ -106,35 +106,25 @@ pub fn add_registered(t: &mut [u32], n: usize, i: usize, node: u32, source: u32,
 
 // go: 7 for a row that the caller does not hold, 8 for one that is no subdirectory.
 // Ruled out: another process moves; the caller moves where it is refused.
-pub fn go(t: &[u32], ps: Records, p: u32, e: u32) -> Performed
-    requires { ⌜ IsTables (now t) × IsProcess p ⌝ }
-    ensures { λ r. ⌜ Performs (now (t .entry)) ps (Call.Go p e) (now (t .entry)) r ⌝ }
+pub fn go(t: &[u32], ps: &mut [u32], p: u32, e: u32) -> Answer
+    requires { ⌜ IsTables (now t) × IsRecords (now ps) × IsProcess p ⌝ }
+    ensures performs { λ r. ⌜ Performs (now (t .entry)) (now (ps .entry)) (Call.Go p e) (now (t .entry))
+        (now (ps .exit)) r ⌝ }
+    ensures long { λ _. ⌜ IsRecords (now (ps .exit)) ⌝ }
 {
     if e == 0 {
-        let home = go_home(ps, p);
-        return Performed {
-            answer: Answer::Done,
-            records: home,
-        };
+        go_home(ps, p);
+        return Answer::Done;
     }
-    let n = find::rows_in(t);
+    let n = find::count_rows(t);
     let Found::At(i) = lookups::held_by(t, n, p, e) else {
-        return Performed {
-            answer: Answer::Refused(7),
-            records: ps,
-        };
+        return Answer::Refused(7);
     };
     if t[KIND + i] != A_SUBDIRECTORY {
-        return Performed {
-            answer: Answer::Refused(8),
-            records: ps,
-        };
+        return Answer::Refused(8);
     }
-    let there = go_through(t, i, ps, p, e);
-    Performed {
-        answer: Answer::Done,
-        records: there,
-    }
+    go_through(t, i, ps, p, e);
+    Answer::Done
 }
 
 // What refuses to hold the row in slot i, of the active node: 9 and on, 0 for nothing.
@@ -171,25 +161,19 @@ fn hold_row(t: &mut [u32], n: usize, i: usize, via: u32, p: u32) -> Answer
 
 // hold: 7 for a row that is not in the active node; then the row's own refusals.
 // Ruled out: a row of the prime node where another is active; a row that the caller holds.
-pub fn hold(t: &mut [u32], ps: Records, p: u32, s: u32) -> Performed
-    requires { ⌜ IsTables (now t) × IsProcess p ⌝ }
-    ensures performs { λ r. ⌜ Performs (now (t .entry)) ps (Call.Hold p s) (now (t .exit)) r ⌝ }
+pub fn hold(t: &mut [u32], ps: &[u32], p: u32, s: u32) -> Answer
+    requires { ⌜ IsTables (now t) × IsRecords (now ps) × IsProcess p ⌝ }
+    ensures performs { λ r. ⌜ Performs (now (t .entry)) (now (ps .entry)) (Call.Hold p s) (now (t .exit))
+        (now (ps .entry)) r ⌝ }
     ensures long { λ _. ⌜ IsTables (now (t .exit)) ⌝ }
 {
-    let x = ps[(p - 1) as usize];
-    let n = find::rows_in(t);
+    let x = record_at(ps, (p - 1) as usize);
+    let n = find::count_rows(t);
     let Found::At(i) = lookups::row_in(t, n, x.active, s) else {
-        return Performed {
-            answer: Answer::Refused(7),
-            records: ps,
-        };
+        return Answer::Refused(7);
     };
     let via = lookups::row_word(t, n, x.through);
-    let answer = hold_row(t, n, i, via, p);
-    Performed {
-        answer: answer,
-        records: ps,
-    }
+    hold_row(t, n, i, via, p)
 }
 
 // What refuses to register the row in slot i, which the caller holds: 8 and on, 0 for nothing.
@@ -230,24 +214,18 @@ fn register_row(t: &mut [u32], n: usize, i: usize, node: u32) -> Answer
 
 // register: 7 for a row that the caller does not hold; then the row's own refusals.
 // Ruled out: a copy in the prime node where another is active; a row of another process.
-pub fn register(t: &mut [u32], ps: Records, p: u32, e: u32) -> Performed
-    requires { ⌜ IsTables (now t) × IsProcess p ⌝ }
-    ensures performs { λ r. ⌜ Performs (now (t .entry)) ps (Call.Register p e) (now (t .exit)) r ⌝ }
+pub fn register(t: &mut [u32], ps: &[u32], p: u32, e: u32) -> Answer
+    requires { ⌜ IsTables (now t) × IsRecords (now ps) × IsProcess p ⌝ }
+    ensures performs { λ r. ⌜ Performs (now (t .entry)) (now (ps .entry)) (Call.Register p e) (now (t .exit))
+        (now (ps .entry)) r ⌝ }
     ensures long { λ _. ⌜ IsTables (now (t .exit)) ⌝ }
 {
-    let x = ps[(p - 1) as usize];
-    let n = find::rows_in(t);
+    let x = record_at(ps, (p - 1) as usize);
+    let n = find::count_rows(t);
     let Found::At(i) = lookups::held_by(t, n, p, e) else {
-        return Performed {
-            answer: Answer::Refused(7),
-            records: ps,
-        };
+        return Answer::Refused(7);
     };
-    let answer = register_row(t, n, i, x.active);
-    Performed {
-        answer: answer,
-        records: ps,
-    }
+    register_row(t, n, i, x.active)
 }
 
 // Whether a row has the row in slot i for a source.
@@ -282,29 +260,21 @@ fn drop_refusal(t: &[u32], n: usize, i: usize, through: u32, e: u32) -> u32
 
 // drop: 7 for a row that the caller does not hold; then the row's own refusals.
 // Ruled out: a row goes that another comes from; the caller stays in the node of a row that went.
-pub fn drop(t: &mut [u32], ps: Records, p: u32, e: u32) -> Performed
-    requires { ⌜ IsTables (now t) × IsProcess p ⌝ }
-    ensures performs { λ r. ⌜ Performs (now (t .entry)) ps (Call.Drop p e) (now (t .exit)) r ⌝ }
-    ensures long { λ _. ⌜ IsTables (now (t .exit)) ⌝ }
+pub fn drop(t: &mut [u32], ps: &mut [u32], p: u32, e: u32) -> Answer
+    requires { ⌜ IsTables (now t) × IsRecords (now ps) × IsProcess p ⌝ }
+    ensures performs { λ r. ⌜ Performs (now (t .entry)) (now (ps .entry)) (Call.Drop p e) (now (t .exit))
+        (now (ps .exit)) r ⌝ }
+    ensures long { λ _. ⌜ IsTables (now (t .exit)) × IsRecords (now (ps .exit)) ⌝ }
 {
-    let x = ps[(p - 1) as usize];
-    let n = find::rows_in(t);
+    let x = record_at(ps, (p - 1) as usize);
+    let n = find::count_rows(t);
     let Found::At(i) = lookups::held_by(t, n, p, e) else {
-        return Performed {
-            answer: Answer::Refused(7),
-            records: ps,
-        };
+        return Answer::Refused(7);
     };
     let k = drop_refusal(t, n, i, x.through, e);
     if k != 0 {
-        return Performed {
-            answer: Answer::Refused(k),
-            records: ps,
-        };
+        return Answer::Refused(k);
     }
-    let left = drop_row(t, ps, e);
-    Performed {
-        answer: Answer::Done,
-        records: left,
-    }
+    drop_row(t, ps, e);
+    Answer::Done
 }

@@ -1,6 +1,5 @@
 // fetch: what a request still lists goes to the caller.
 use crate::Answer;
-use crate::Performed;
 use crate::lookups;
 use changes::change;
 use rows::Found;
@@ -11,13 +10,12 @@ use rows::find;
 use rows::layout::ITEMS;
 use rows::layout::KIND;
 use rows::read;
-use rows::records::Records;
 ghost use mathlib.Core.List.{[], _∷_};
 ghost use Prim.Native.Nat.{_≤_, _<_};
 ghost use Rattle.rows.specs.contracts.Sizes.{ROWS, REQUESTS, IsTables};
 ghost use Rattle.calls.specs.declared.Call.{Call};
 ghost use Rattle.calls.specs.contracts.Effects.{IsProcess};
-ghost use Rattle.calls.specs.contracts.Performs.{Performs, FetchesRequest, FetchesEnd};
+ghost use Rattle.calls.specs.contracts.Performs.{PerformsApart, FetchesRequest, FetchesEnd};
 ghost use Rattle.calls.specs.contracts.Loans.{ItemsPlaced, HandedOver};
 
 // The row of one item goes to the place; item 0 is none.
@@ -87,7 +85,7 @@ fn fetch_end(t: &mut [u32], n: usize, i: usize, p: u32) -> Answer
     if t[KIND + i] != A_SERVER_END {
         return Answer::Refused(8);
     }
-    let m = find::requests_in(t);
+    let m = find::count_requests(t);
     let Found::At(j) = lookups::asked_at(t, m, i) else {
         return Answer::Refused(11);
     };
@@ -96,21 +94,14 @@ fn fetch_end(t: &mut [u32], n: usize, i: usize, p: u32) -> Answer
 
 // fetch: 7 for a row that the caller does not hold; then the refusals at the end.
 // Ruled out: the request of another port; the items in another order.
-pub fn fetch(t: &mut [u32], ps: Records, p: u32, e: u32) -> Performed
+pub fn fetch(t: &mut [u32], p: u32, e: u32) -> Answer
     requires { ⌜ IsTables (now t) × IsProcess p ⌝ }
-    ensures performs { λ r. ⌜ Performs (now (t .entry)) ps (Call.Fetch p e) (now (t .exit)) r ⌝ }
+    ensures performs { λ r. ⌜ PerformsApart (now (t .entry)) (Call.Fetch p e) (now (t .exit)) r ⌝ }
     ensures long { λ _. ⌜ IsTables (now (t .exit)) ⌝ }
 {
-    let n = find::rows_in(t);
+    let n = find::count_rows(t);
     let Found::At(i) = lookups::held_by(t, n, p, e) else {
-        return Performed {
-            answer: Answer::Refused(7),
-            records: ps,
-        };
+        return Answer::Refused(7);
     };
-    let answer = fetch_end(t, n, i, p);
-    Performed {
-        answer: answer,
-        records: ps,
-    }
+    fetch_end(t, n, i, p)
 }

@@ -40,14 +40,6 @@ pub enum Answer {
 }
 
 // ---- functions
-use rows::records::Records;
-
-// What a call leaves: its answer, and the process records.
-pub struct Performed {
-    pub answer: Answer,
-    pub records: Records,
-}
-
 // What a new copy has of its own; kind, object and operation are its row's.
 // Sources as words: a slot plus 1, 0 for none.
 pub struct NewCopy {

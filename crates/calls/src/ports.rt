@@ -1,7 +1,6 @@
 // Calls on ports: port, close.
 use crate::Answer;
 use crate::NewPort;
-use crate::Performed;
 use crate::lookups;
 use crate::new_rows::append_ends;
 use crate::tests;
@@ -16,11 +15,10 @@ use rows::find;
 use rows::layout::KIND;
 use rows::layout::OBJECT;
 use rows::read;
-use rows::records::Records;
 ghost use Prim.Native.Nat.{_≤_, _<_, _+_};
-ghost use Rattle.rows.specs.contracts.Sizes.{ROWS, IsTables};
+ghost use Rattle.rows.specs.contracts.Sizes.{ROWS, IsTables, IsRecords};
 ghost use Rattle.calls.specs.declared.Call.{Call};
-ghost use Rattle.calls.specs.contracts.Performs.{Performs, HasRoom, RefusesPort, MakesPort, RefusesClose};
+ghost use Rattle.calls.specs.contracts.Performs.{Performs, PerformsApart, HasRoom, RefusesPort, MakesPort, RefusesClose};
 ghost use Rattle.calls.specs.contracts.Effects.{LAST-NUMBER, IsProcess, PortMade};
 
 // A port from the operation row in slot i: the client end to p, the server end to the row's manager.
@@ -72,23 +70,16 @@ fn port_row(t: &mut [u32], n: usize, i: usize, p: u32) -> Answer
 
 // port: 7 for a row that the caller does not hold; then the row's own refusals.
 // Ruled out: a port from a subdirectory; the server end's number as the answer.
-pub fn port(t: &mut [u32], ps: Records, p: u32, e: u32) -> Performed
+pub fn port(t: &mut [u32], p: u32, e: u32) -> Answer
     requires { ⌜ IsTables (now t) × IsProcess p ⌝ }
-    ensures performs { λ r. ⌜ Performs (now (t .entry)) ps (Call.Port p e) (now (t .exit)) r ⌝ }
+    ensures performs { λ r. ⌜ PerformsApart (now (t .entry)) (Call.Port p e) (now (t .exit)) r ⌝ }
     ensures long { λ _. ⌜ IsTables (now (t .exit)) ⌝ }
 {
-    let n = find::rows_in(t);
+    let n = find::count_rows(t);
     let Found::At(i) = lookups::held_by(t, n, p, e) else {
-        return Performed {
-            answer: Answer::Refused(7),
-            records: ps,
-        };
+        return Answer::Refused(7);
     };
-    let answer = port_row(t, n, i, p);
-    Performed {
-        answer: answer,
-        records: ps,
-    }
+    port_row(t, n, i, p)
 }
 
 // What refuses to close the port of the row c in slot i, which the caller holds: 8, 12, 0 for nothing.
@@ -107,28 +98,20 @@ fn close_refusal(t: &[u32], i: usize, c: u32) -> u32
 
 // close: 7 for a row that the caller does not hold; then the row's own refusals.
 // Ruled out: a server end closes the port; a client end on loan does.
-pub fn close(t: &mut [u32], ps: Records, p: u32, c: u32) -> Performed
-    requires { ⌜ IsTables (now t) × IsProcess p ⌝ }
-    ensures performs { λ r. ⌜ Performs (now (t .entry)) ps (Call.Close p c) (now (t .exit)) r ⌝ }
-    ensures long { λ _. ⌜ IsTables (now (t .exit)) ⌝ }
+pub fn close(t: &mut [u32], ps: &mut [u32], p: u32, c: u32) -> Answer
+    requires { ⌜ IsTables (now t) × IsRecords (now ps) × IsProcess p ⌝ }
+    ensures performs { λ r. ⌜ Performs (now (t .entry)) (now (ps .entry)) (Call.Close p c) (now (t .exit))
+        (now (ps .exit)) r ⌝ }
+    ensures long { λ _. ⌜ IsTables (now (t .exit)) × IsRecords (now (ps .exit)) ⌝ }
 {
-    let n = find::rows_in(t);
+    let n = find::count_rows(t);
     let Found::At(i) = lookups::held_by(t, n, p, c) else {
-        return Performed {
-            answer: Answer::Refused(7),
-            records: ps,
-        };
+        return Answer::Refused(7);
     };
     let k = close_refusal(t, i, c);
     if k != 0 {
-        return Performed {
-            answer: Answer::Refused(k),
-            records: ps,
-        };
+        return Answer::Refused(k);
     }
-    let left = close_port(t, ps, c);
-    Performed {
-        answer: Answer::Done,
-        records: left,
-    }
+    close_port(t, ps, c);
+    Answer::Done
 }

@@ -1,6 +1,5 @@
 // reply: the server gives the lent ends back and closes the request.
 use crate::Answer;
-use crate::Performed;
 use crate::lookups;
 use closing::close::close_request;
 use rows::Found;
@@ -11,12 +10,11 @@ use rows::find;
 use rows::layout::KIND;
 use rows::layout::Q_NUMBER;
 use rows::read;
-use rows::records::Records;
 ghost use mathlib.Core.Path.{_≡_};
 ghost use Prim.Native.Nat.{_≤_, _<_};
 ghost use Rattle.rows.specs.Layout.{requestAt};
 ghost use Rattle.rows.specs.contracts.Slots.{Within};
-ghost use Rattle.rows.specs.contracts.Sizes.{ROWS, REQUESTS, IsTables};
+ghost use Rattle.rows.specs.contracts.Sizes.{ROWS, REQUESTS, IsTables, IsRecords};
 ghost use Rattle.calls.specs.declared.Call.{Call};
 ghost use Rattle.calls.specs.contracts.Performs.{Performs};
 ghost use Rattle.calls.specs.contracts.Effects.{IsProcess};
@@ -137,52 +135,38 @@ fn reply_refusal(t: &[u32], n: usize, m: usize, j: usize, p: u32) -> u32
 
 // reply at the end in slot i, which p holds: 8 for one that is no server end, 11 with no request;
 // then the request's refusals.
-fn reply_end(t: &mut [u32], n: usize, ps: Records, i: usize, p: u32) -> Performed
-    requires { ⌜ IsTables (now t) × (n ≤ ROWS) × (i < ROWS) ⌝ }
-    ensures performs { λ r. ⌜ RepliesEnd (now (t .entry)) n ps i p (now (t .exit)) r ⌝ }
-    ensures long { λ _. ⌜ IsTables (now (t .exit)) ⌝ }
+fn reply_end(t: &mut [u32], n: usize, ps: &mut [u32], i: usize, p: u32) -> Answer
+    requires { ⌜ IsTables (now t) × IsRecords (now ps) × (n ≤ ROWS) × (i < ROWS) ⌝ }
+    ensures performs { λ r. ⌜ RepliesEnd (now (t .entry)) n (now (ps .entry)) i p (now (t .exit)) (now (ps .exit)) r ⌝ }
+    ensures long { λ _. ⌜ IsTables (now (t .exit)) × IsRecords (now (ps .exit)) ⌝ }
 {
     if t[KIND + i] != A_SERVER_END {
-        return Performed {
-            answer: Answer::Refused(8),
-            records: ps,
-        };
+        return Answer::Refused(8);
     }
-    let m = find::requests_in(t);
+    let m = find::count_requests(t);
     let Found::At(j) = lookups::asked_at(t, m, i) else {
-        return Performed {
-            answer: Answer::Refused(11),
-            records: ps,
-        };
+        return Answer::Refused(11);
     };
     let k = reply_refusal(t, n, m, j, p);
     if k != 0 {
-        return Performed {
-            answer: Answer::Refused(k),
-            records: ps,
-        };
+        return Answer::Refused(k);
     }
     let q = t[Q_NUMBER + j];
-    let left = close_request(t, ps, q);
-    Performed {
-        answer: Answer::Done,
-        records: left,
-    }
+    close_request(t, ps, q);
+    Answer::Done
 }
 
 // reply: 7 for a row that the caller does not hold; then the refusals at the end.
 // Ruled out: a lent end that another process has goes back; a request that is not fetched is answered.
-pub fn reply(t: &mut [u32], ps: Records, p: u32, e: u32) -> Performed
-    requires { ⌜ IsTables (now t) × IsProcess p ⌝ }
-    ensures performs { λ r. ⌜ Performs (now (t .entry)) ps (Call.Reply p e) (now (t .exit)) r ⌝ }
-    ensures long { λ _. ⌜ IsTables (now (t .exit)) ⌝ }
+pub fn reply(t: &mut [u32], ps: &mut [u32], p: u32, e: u32) -> Answer
+    requires { ⌜ IsTables (now t) × IsRecords (now ps) × IsProcess p ⌝ }
+    ensures performs { λ r. ⌜ Performs (now (t .entry)) (now (ps .entry)) (Call.Reply p e) (now (t .exit))
+        (now (ps .exit)) r ⌝ }
+    ensures long { λ _. ⌜ IsTables (now (t .exit)) × IsRecords (now (ps .exit)) ⌝ }
 {
-    let n = find::rows_in(t);
+    let n = find::count_rows(t);
     let Found::At(i) = lookups::held_by(t, n, p, e) else {
-        return Performed {
-            answer: Answer::Refused(7),
-            records: ps,
-        };
+        return Answer::Refused(7);
     };
     reply_end(t, n, ps, i, p)
 }

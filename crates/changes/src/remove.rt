@@ -2,7 +2,7 @@
 use crate::renumbering::renumber;
 use crate::runs::compact_columns;
 use crate::runs::next_marked;
-use rows::find::requests_in;
+use rows::find::count_requests;
 use rows::layout::NEXT;
 use rows::layout::NUMBER;
 use rows::layout::Q_NUMBER;
@@ -41,7 +41,7 @@ pub fn remove_requests(t: &mut [u32], marks: &RequestMarks)
     requires { ⌜ IsTables (now t) ⌝ }
     ensures { λ _. ⌜ RemovesRequests (now (t .entry)) (now (t .exit)) (now (marks .entry)) ⌝ }
 {
-    let m = requests_in(t);
+    let m = count_requests(t);
     let first = next_marked(marks, 0, m);
     compact_columns(
         &mut t[Q_NUMBER..NEXT],

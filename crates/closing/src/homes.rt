@@ -2,10 +2,11 @@
 use crate::marks::is_marked;
 use rows::Process;
 use rows::layout::RowMarks;
+use rows::records;
 use rows::records::Records;
 ghost use Prim.Native.Nat.{_≤_};
-ghost use Rattle.rows.specs.contracts.Sizes.{ROWS, IsTables};
-ghost use Rattle.closing.specs.contracts.Takes.{Homes, HomesEach, HomesAll};
+ghost use Rattle.rows.specs.contracts.Sizes.{ROWS, IsTables, IsRecords};
+ghost use Rattle.closing.specs.contracts.Takes.{Homes, HomesEach, HomesAll, HomesWords};
 
 // One record.
 fn home(t: &[u32], n: usize, x: Process, removed: &RowMarks) -> Process
@@ -39,10 +40,22 @@ fn home_each(ps: &mut [Process], t: &[u32], n: usize, removed: &RowMarks)
 
 // All records.
 // Ruled out: a process stays in a node that it reached through a removed row; one in its prime node moves.
-pub fn home_all(t: &[u32], n: usize, mut ps: Records, removed: &RowMarks) -> Records
+fn home_all(t: &[u32], n: usize, mut ps: Records, removed: &RowMarks) -> Records
     requires { ⌜ IsTables (now t) × (n ≤ ROWS) ⌝ }
     ensures { λ r. ⌜ HomesAll (now (t .entry)) n ps (now (removed .entry)) r ⌝ }
 {
     home_each(&mut ps, t, n, removed);
     ps
+}
+
+// All records, in their words.
+// Ruled out: the records are left as they were; those of another run are stored.
+pub fn home_records(t: &[u32], n: usize, ps: &mut [u32], removed: &RowMarks)
+    requires { ⌜ IsTables (now t) × (n ≤ ROWS) × IsRecords (now ps) ⌝ }
+    ensures homed { λ _. ⌜ HomesWords (now (t .entry)) n (now (ps .entry)) (now (removed .entry)) (now (ps .exit)) ⌝ }
+    ensures long { λ _. ⌜ IsRecords (now (ps .exit)) ⌝ }
+{
+    let before = records::load(ps);
+    let after = home_all(t, n, before, removed);
+    records::store(after, ps);
 }

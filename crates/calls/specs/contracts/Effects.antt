@@ -4,12 +4,11 @@ use mathlib.Core.Bool.{true}
 use mathlib.Core.List.{List, _∷_}
 use mathlib.Core.Path.{_≡_}
 use Rattle.rows.specs.declared.Row.{Row}
-use Rattle.rows.specs.declared.Process.{Process}
 use Rattle.rows.specs.Lists.{topOf}
 use Rattle.rows.specs.Tables.{State, rowOf, processAt, isListed}
 use Rattle.rows.specs.Setters.{withRows}
 use Rattle.rows.specs.Sound.{sound}
-use Rattle.rows.specs.Layout.{rowSlot}
+use Rattle.rows.specs.Layout.{rowSlot, recordsIn}
 use Rattle.rows.specs.contracts.Represents.{Represents}
 use Rattle.rows.specs.contracts.Slots.{numberOfSlot}
 use Rattle.rows.specs.contracts.Sizes.{PROCESSES}
@@ -34,13 +33,15 @@ abbrev pub LAST-NEXT : ℕ
 LAST-NEXT = 1000001
 
 -- ---- go
-abbrev pub GoesHome : List Process → ℕ → List Process → Type 0
-GoesHome ps p r = (st : State) → st .processes ≡ ps → r ≡ goHome st p .processes
+-- the records ps become the records left
+abbrev pub GoesHome : List ℕ → ℕ → List ℕ → Type 0
+GoesHome ps p left = (st : State) → st .processes ≡ recordsIn ps → recordsIn left ≡ goHome st p .processes
 
 -- through the row e, which stands in slot i
-abbrev pub GoesThrough : List ℕ → ℕ → List Process → ℕ → ℕ → List Process → Type 0
-GoesThrough t i ps p e r =
-    (st : State) → Represents t st → StandsAt st e i → st .processes ≡ ps → r ≡ goThrough st p e .processes
+abbrev pub GoesThrough : List ℕ → ℕ → List ℕ → ℕ → ℕ → List ℕ → Type 0
+GoesThrough t i ps p e left =
+    (st : State) → Represents t st → StandsAt st e i → st .processes ≡ recordsIn ps
+    → recordsIn left ≡ goThrough st p e .processes
 
 -- ---- a new row
 -- the number is above those of all rows

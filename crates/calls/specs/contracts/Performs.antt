@@ -11,13 +11,12 @@ use Rattle.rows.specs.Lists.{any, member, some}
 use Rattle.rows.specs.Codes.{isSubdirectory, isServer, inClist, inNode}
 use Rattle.rows.specs.Tables.{State, rowOf, processAt, isListed, sources, isLent}
 use Rattle.rows.specs.Sound.{sound}
-use Rattle.rows.specs.Layout.{rowSlot}
+use Rattle.rows.specs.Layout.{rowSlot, recordsIn}
 use Rattle.rows.specs.contracts.Represents.{Represents}
 use Rattle.rows.specs.contracts.Slots.{foundSlot, openSlot}
 use Rattle.rows.specs.contracts.Sizes.{ROWS, PROCESSES}
 use Rattle.calls.specs.declared.Answer.{Answer}
 use Rattle.calls.specs.declared.Answer.the-variants.{Refused}
-use Rattle.calls.specs.declared.Performed.{Performed}
 use Rattle.calls.specs.declared.Call.{Call}
 use Rattle.calls.specs.declared.Call.the-variants.{Go, Hold, Register, Drop, Port, Close, Ask, Fetch, Reply, Refuse, Revoke, Comes}
 use Rattle.calls.specs.Rules.{Out, _when_, lowest, tooDeep, rowsFull, numbersSpent}
@@ -31,27 +30,31 @@ pub record Answers (after : List ℕ) (r : Answer) (o : Out) : Type 0 where
   pub answer : r ≡ o .answer
   pub words : Represents after (o .after)
 
--- the records too
-pub record Agrees (after : List ℕ) (r : Performed) (o : Out) : Type 0 where
-  pub answer : r .answer ≡ o .answer
+-- the records too, which are left
+pub record Agrees (after : List ℕ) (left : List Process) (r : Answer) (o : Out) : Type 0 where
+  pub answer : r ≡ o .answer
   pub words : Represents after (o .after)
-  pub records : r .records ≡ o .after .processes
+  pub records : left ≡ o .after .processes
 
 -- the caller is listed; comes has none
 abbrev pub CallerListed : State → Call → Type 0
 CallerListed st c = some (callerOf c) ≡ true → isListed (st .processes) (callerOf c) ≡ true
 
--- for every sound state that the words represent with the records, the call does what its definition says
-abbrev pub Performs : List ℕ → List Process → Call → List ℕ → Performed → Type 0
-Performs t ps c after r =
-    (st : State) → sound st ≡ true → Represents t st → st .processes ≡ ps → CallerListed st c
-    → Agrees after r (perform st c)
+-- for every sound state that the words t represent with the records ps, the call does what its definition says
+abbrev pub Performs : List ℕ → List ℕ → Call → List ℕ → List ℕ → Answer → Type 0
+Performs t ps c after left r =
+    (st : State) → sound st ≡ true → Represents t st → st .processes ≡ recordsIn ps → CallerListed st c
+    → Agrees after (recordsIn left) r (perform st c)
 
--- where it is refused, no word and no record changes
-abbrev pub StaysIfRefused : List ℕ → List Process → Call → List ℕ → Performed → Type 0
-StaysIfRefused t ps c after r =
-    (st : State) (k : ℕ) → sound st ≡ true → Represents t st → st .processes ≡ ps → CallerListed st c
-    → r .answer ≡ Refused k → (after ≡ t) × (r .records ≡ ps)
+-- whatever the records are, they stay
+abbrev pub PerformsApart : List ℕ → Call → List ℕ → Answer → Type 0
+PerformsApart t c after r = (ps : List ℕ) → Performs t ps c after ps r
+
+-- where it is refused, no word changes, of the tables and of the records
+abbrev pub StaysIfRefused : List ℕ → List ℕ → Call → List ℕ → List ℕ → Answer → Type 0
+StaysIfRefused t ps c after left r =
+    (st : State) (k : ℕ) → sound st ≡ true → Represents t st → st .processes ≡ recordsIn ps → CallerListed st c
+    → r ≡ Refused k → (after ≡ t) × (left ≡ ps)
 
 -- what reading a line gives of a call: its caller is a process's number; comes has none
 unfoldable pub CallerInRange : Call → Type 0
@@ -164,10 +167,10 @@ FetchesEnd t n i p after r =
     (st : State) (e : ℕ) → sound st ≡ true → HasRows t n st → HeldAt st p e i → p ≤ PROCESSES
     → Answers after r (perform st (Fetch p e))
 
-abbrev pub RefusesEnd : List ℕ → List Process → ℕ → List ℕ → Performed → Type 0
-RefusesEnd t ps i after r =
-    (st : State) (p e : ℕ) → sound st ≡ true → Represents t st → st .processes ≡ ps → HeldAt st p e i
-    → Agrees after r (perform st (Refuse p e))
+abbrev pub RefusesEnd : List ℕ → List ℕ → ℕ → List ℕ → List ℕ → Answer → Type 0
+RefusesEnd t ps i after left r =
+    (st : State) (p e : ℕ) → sound st ≡ true → Represents t st → st .processes ≡ recordsIn ps → HeldAt st p e i
+    → Agrees after (recordsIn left) r (perform st (Refuse p e))
 
 -- ---- drop
 -- r says whether a row has the row in slot i for a source

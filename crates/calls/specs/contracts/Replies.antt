@@ -6,7 +6,6 @@ use mathlib.Core.Path.{_≡_}
 use lib.Dec.{ltb}
 use lib.ListN.{length}
 use Rattle.rows.specs.declared.Request.{Request}
-use Rattle.rows.specs.declared.Process.{Process}
 use Rattle.rows.specs.declared.Found.{Found}
 use Rattle.rows.specs.declared.Found.the-variants.{Nothing}
 use Rattle.rows.specs.Lists.{if_then_else_, any, member, some}
@@ -17,7 +16,7 @@ use Rattle.rows.specs.contracts.Represents.{Represents}
 use Rattle.rows.specs.Layout.{rowSlot}
 use Rattle.rows.specs.contracts.Slots.{foundSlot}
 use Rattle.rows.specs.contracts.Sizes.{PROCESSES}
-use Rattle.calls.specs.declared.Performed.{Performed}
+use Rattle.calls.specs.declared.Answer.{Answer}
 use Rattle.calls.specs.declared.Call.the-variants.{Reply}
 use Rattle.calls.specs.Rules.{lowest, hasOpen}
 use Rattle.calls.specs.Calls.{lentEnds, isAway, refusalsReply, perform}
@@ -71,7 +70,7 @@ abbrev pub RefusesReply : List ℕ → ℕ → ℕ → ℕ → ℕ → ℕ → T
 RefusesReply t n m j p r =
     (st : State) (e : ℕ) → HasBoth t n m st → Serves st p e j → p ≤ PROCESSES → r ≡ lowest (refusalsReply st p e)
 
-abbrev pub RepliesEnd : List ℕ → ℕ → List Process → ℕ → ℕ → List ℕ → Performed → Type 0
-RepliesEnd t n ps i p after r =
-    (st : State) (e : ℕ) → sound st ≡ true → Represents t st → n ≡ length (st .rows) → st .processes ≡ ps
-    → HeldAt st p e i → p ≤ PROCESSES → Agrees after r (perform st (Reply p e))
+abbrev pub RepliesEnd : List ℕ → ℕ → List ℕ → ℕ → ℕ → List ℕ → List ℕ → Answer → Type 0
+RepliesEnd t n ps i p after left r =
+    (st : State) (e : ℕ) → sound st ≡ true → Represents t st → n ≡ length (st .rows) → st .processes ≡ recordsIn ps
+    → HeldAt st p e i → p ≤ PROCESSES → Agrees after (recordsIn left) r (perform st (Reply p e))

@@ -8,6 +8,7 @@ use Rattle.rows.specs.Lists.{some}
 use lib.ListN.{length, getD}
 use Rattle.rows.specs.Tables.{State, noProcess}
 use Rattle.rows.specs.Sound.{sound}
+use Rattle.rows.specs.Layout.{recordsIn}
 use Rattle.rows.specs.contracts.Represents.{Represents}
 use Rattle.changes.specs.contracts.Marks.{closedUnder}
 use Rattle.closing.specs.declared.Seed.{Seed}
@@ -15,10 +16,11 @@ use Rattle.closing.specs.Closing.{closes, homed, settled}
 use Rattle.closing.specs.contracts.Seeds.{closesOf}
 use Rattle.closing.specs.contracts.Marks.{RowCount, Stands, RowsMarked}
 
--- every sound state that the words and records hold becomes its change by f, in words and records
-abbrev pub Takes : (State → State) → List ℕ → List Process → List ℕ → List Process → Type 0
-Takes f t ps u qs =
-    (st : State) → sound st ≡ true → Represents t st → st .processes ≡ ps → Represents u (f st) × (qs ≡ f st .processes)
+-- every sound state that the words t and the records p hold becomes its change by f, in the words u and the records v
+abbrev pub Takes : (State → State) → List ℕ → List ℕ → List ℕ → List ℕ → Type 0
+Takes f t p u v =
+    (st : State) → sound st ≡ true → Represents t st → st .processes ≡ recordsIn p
+    → Represents u (f st) × (recordsIn v ≡ f st .processes)
 
 -- if the rows g are marked, and the row through which x stands in its node is there, r is x gone home
 abbrev pub Homes : List ℕ → ℕ → Process → List Bool → Process → Type 0
@@ -36,6 +38,10 @@ abbrev pub HomesAll : List ℕ → ℕ → List Process → List Bool → List P
 HomesAll t n ps removed r =
     (st : State) (g : List ℕ) → sound st ≡ true → Represents t st → RowCount n st → RowsMarked removed g st → st .processes ≡ ps
     → r ≡ map (homed g) ps
+
+-- the same of the records in their words
+abbrev pub HomesWords : List ℕ → ℕ → List ℕ → List Bool → List ℕ → Type 0
+HomesWords t n p removed v = HomesAll t n (recordsIn p) removed (recordsIn v)
 
 -- if the rows g are marked, and with a row all that comes from it, the words u are those of the state without them and what closes with them
 abbrev pub TakesOut : Seed → ℕ → List Bool → List ℕ → List ℕ → Type 0

@@ -4,7 +4,7 @@ use native.Mathlib.Omega.{arith}
 use mathlib.Core.Path.{sym, _∙_}
 use Rattle.rows.specs.Codes.{inClist}
 use Rattle.rows.proofs.Bools.{or-l}
-use Rattle.rows.proofs.Slots.{at-below, represented-rows, represented-next}
+use Rattle.rows.proofs.Slots.{at-below, represented-next}
 use Rattle.calls.specs.Rules.{notHeld}
 use Rattle.calls.specs.Loans.{itemsOf}
 use Rattle.calls.specs.Calls.{refusals}
@@ -17,8 +17,8 @@ use Rattle.calls.proofs.Effected.{ask-records}
 use Rattle.calls.proofs.ask.ask.Statement.{statement}
 use Rattle.calls.proofs.ask.ask.Tie as tie
 
-rows-in-requires : tie.Need-rows-in-requires
-rows-in-requires c κs = search needs
+count-rows-requires : tie.Need-count-rows-requires
+count-rows-requires c κs = search needs
 
 held-by-requires : tie.Need-held-by-requires
 held-by-requires c κs = search needs
@@ -36,11 +36,11 @@ returns : tie.Need-returns
 unfolding refusals
 returns c =
     let found = c .before .before .held-by in
-    let count = c .before .before .before .before .rows-in in
+    let count = c .before .before .before .before .count-rows in
     let s = c .before .before .before .before .before .before .before in
     let a = s .args in (
       (λ st sd rep same listed.
-          let away = not-in-clist st (a .p) (a .c) (found .result) (found .ensures .1 st (rep, count .ensures .0 ∙ represented-rows rep) (s .pre .1 .1)) (c .enum-told .given .1) in
+          let away = not-in-clist st (a .p) (a .c) (found .result) (found .ensures .1 st (rep, count .ensures .0 st rep) (s .pre .1 .1)) (c .enum-told .given .1) in
           refused-agrees st (Ask (a .p) (a .c) (a .items)) rep (a .ps) same 7
           (ask-seven st (a .p) (a .c) (itemsOf (a .items)) (or-l (notHeld st (a .p) (a .c)) _ (not-held st (a .p) (a .c) away))) (λ z. absurd (omega arith))),
       s .pre .0,
@@ -53,7 +53,7 @@ ask-items-requires : tie.Need-ask-items-requires
 ask-items-requires c κs =
     let i = c .before .before .before .before .i .given in
     let found = c .before .before .before .before .before .before .held-by in
-    let count = c .before .before .before .before .before .before .before .before .rows-in in
+    let count = c .before .before .before .before .before .before .before .before .count-rows in
     let s = c .before .before .before .before .before .before .before .before .before .before .before in
     (s .pre .0, count .ensures .1, at-below (count .result) (found .result) (i .0 .0) (found .ensures .0) (i .1))
 
@@ -66,11 +66,11 @@ returns-2 c =
     let next = c .before .before .before .before .next-of in
     let i = c .before .before .before .before .before .before .before .i .given in
     let found = c .before .before .before .before .before .before .before .before .before .held-by in
-    let count = c .before .before .before .before .before .before .before .before .before .before .before .rows-in in
+    let count = c .before .before .before .before .before .before .before .before .before .before .before .count-rows in
     let s = c .before .before .before .before .before .before .before .before .before .before .before .before .before .before in
     let a = s .args in (
       (λ st sd rep same listed.
-          let counted = count .ensures .0 ∙ represented-rows rep in
+          let counted = count .ensures .0 st rep in
           let here = found-in st (inClist (a .p)) (a .c) (found .result) (i .0 .0) (found .ensures .1 st (rep, counted) (s .pre .1 .1)) (i .1) in
           records-stay st (Ask (a .p) (a .c) (a .items)) (a .ps) same (ask-records st (a .p) (a .c) (a .items)) (done .result)
           (done .ensures .0 st sd (rep, counted) (here, sym (next .ensures ∙ represented-next rep)) (s .pre .1 .1))),
@@ -81,7 +81,7 @@ pub ask-spec : {M : Type 1} → statement M
 ask-spec =
     tie.close
     (tie.spec
-    rows-in-requires
+    count-rows-requires
     held-by-requires
     enum-known-i
     enum-told

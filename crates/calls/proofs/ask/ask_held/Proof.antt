@@ -2,7 +2,6 @@
 use borrow.Author.Needs.{needs}
 use mathlib.Core.Path.{sym, _∙_}
 use denote.Ref.{now}
-use Rattle.rows.proofs.Slots.{represented-requests}
 use Rattle.calls.specs.Calls.{refusals}
 use Rattle.calls.specs.declared.Call.the-variants.{Ask}
 use Rattle.calls.specs.contracts.Asks.{itemsIn}
@@ -12,8 +11,8 @@ use Rattle.calls.proofs.Effected.{made-request}
 use Rattle.calls.proofs.ask.ask_held.Statement.{statement}
 use Rattle.calls.proofs.ask.ask_held.Tie as tie
 
-requests-in-requires : tie.Need-requests-in-requires
-requests-in-requires c κs = search needs
+count-requests-requires : tie.Need-count-requests-requires
+count-requests-requires c κs = search needs
 
 ask-refusal-requires : tie.Need-ask-refusal-requires
 ask-refusal-requires c κs = search needs
@@ -25,12 +24,12 @@ returns : tie.Need-returns
 unfolding refusals
 returns c =
     let no = c .before .ask-refusal in
-    let count = c .before .before .before .requests-in in
+    let count = c .before .before .before .count-requests in
     let s = c .before .before .before .before .before .before in
     let w = s .args .w in
     let xs = s .args .items in (
       (λ st sd h over held.
-          let both : HasBoth (now (s .args .t)) (s .args .n) (count .result) st = (h .0, h .1, count .ensures .0 ∙ represented-requests (h .0)) in
+          let both : HasBoth (now (s .args .t)) (s .args .n) (count .result) st = (h .0, h .1, count .ensures .0 st (h .0)) in
           refused-answers st (Ask (w .asker) (w .port) (itemsIn xs)) (h .0) (no .result) (no .ensures .0 st sd both over held) (c .if1 .taken)),
       s .pre .0,
     )
@@ -49,12 +48,12 @@ unfolding refusals
 returns-2 c =
     let added = c .before .before .add-request in
     let no = c .before .before .before .before .before .ask-refusal in
-    let count = c .before .before .before .before .before .before .before .requests-in in
+    let count = c .before .before .before .before .before .before .before .count-requests in
     let s = c .before .before .before .before .before .before .before .before .before .before in
     let w = s .args .w in
     let xs = s .args .items in (
       (λ st sd h over held.
-          let both : HasBoth (now (s .args .t)) (s .args .n) (count .result) st = (h .0, h .1, count .ensures .0 ∙ represented-requests (h .0)) in
+          let both : HasBoth (now (s .args .t)) (s .args .n) (count .result) st = (h .0, h .1, count .ensures .0 st (h .0)) in
           let none = sym (c .before .before .before .before .if1 .left) ∙ no .ensures .0 st sd both over held in
           accepted-answers st (Ask (w .asker) (w .port) (itemsIn xs)) none _
           (made-request st (w .asker) (w .port) (itemsIn xs) (w .number) (sym (over .1)) (added .ensures .0 st sd both over held))),
@@ -65,7 +64,7 @@ pub ask-held-spec : {M : Type 1} → statement M
 ask-held-spec =
     tie.close
     (tie.spec
-    requests-in-requires
+    count-requests-requires
     ask-refusal-requires
     same-length
     returns

@@ -4,7 +4,7 @@ use native.Mathlib.Omega.{arith}
 use mathlib.Core.Path.{_∙_}
 use Rattle.rows.specs.Layout.{rowSlot}
 use Rattle.rows.specs.contracts.Slots.{requestSlot}
-use Rattle.rows.proofs.Slots.{at-below, found-at, found-nothing, represented-rows, represented-requests}
+use Rattle.rows.proofs.Slots.{at-below, found-at, found-nothing}
 use Rattle.calls.specs.declared.Call.the-variants.{Comes}
 use Rattle.calls.specs.Calls.{refusals}
 use Rattle.calls.proofs.Judging.{refused-agrees, accepted-agrees}
@@ -13,8 +13,8 @@ use Rattle.calls.proofs.Effected.{told-comes}
 use Rattle.calls.proofs.comes.comes.Statement.{statement}
 use Rattle.calls.proofs.comes.comes.Tie as tie
 
-rows-in-requires : tie.Need-rows-in-requires
-rows-in-requires c κs = search needs
+count-rows-requires : tie.Need-count-rows-requires
+count-rows-requires c κs = search needs
 
 row-among-requires : tie.Need-row-among-requires
 row-among-requires c κs = search needs
@@ -29,15 +29,15 @@ returns : tie.Need-returns
 unfolding refusals
 returns c =
     let found = c .before .before .row-among in
-    let count = c .before .before .before .rows-in in
+    let count = c .before .before .before .count-rows in
     let c4 = c .before .before .before .before in
     let a = c4 .before .args in
     λ st sd rep same listed.
-    let none = found-nothing (rowSlot (st .rows) (a .e)) (found .ensures .1 st rep (count .ensures .0 ∙ represented-rows rep)) (c .enum-told .given .1) in
+    let none = found-nothing (rowSlot (st .rows) (a .e)) (found .ensures .1 st rep (count .ensures .0 st rep)) (c .enum-told .given .1) in
     refused-agrees st (Comes (a .e) (a .q)) rep (a .ps) same 7 (comes-no-row st (a .e) (a .q) none) (λ z. absurd (omega arith))
 
-requests-in-requires : tie.Need-requests-in-requires
-requests-in-requires c κs = search needs
+count-requests-requires : tie.Need-count-requests-requires
+count-requests-requires c κs = search needs
 
 request-among-requires : tie.Need-request-among-requires
 request-among-requires c κs = search needs
@@ -52,12 +52,12 @@ returns-2 : tie.Need-returns-2
 unfolding refusals
 returns-2 c =
     let found = c .before .before .request-among in
-    let count = c .before .before .before .requests-in in
+    let count = c .before .before .before .count-requests in
     let c4 = c .before .before .before .before in
     let c8 = c4 .before .before .before .before in
     let a = c8 .before .before .args in
     λ st sd rep same listed.
-    let none = found-nothing (requestSlot (st .requests) (a .q)) (found .ensures .1 st (rep, count .ensures .0 ∙ represented-requests rep)) (c .enum-told3 .given .1) in
+    let none = found-nothing (requestSlot (st .requests) (a .q)) (found .ensures .1 st (rep, count .ensures .0 st rep)) (c .enum-told3 .given .1) in
     refused-agrees st (Comes (a .e) (a .q)) rep (a .ps) same 7 (comes-no-request st (a .e) (a .q) none) (λ z. absurd (omega arith))
 
 comes-requires : tie.Need-comes-requires
@@ -66,7 +66,7 @@ comes-requires c κs =
     let c8 = c4 .before .before .before .before in
     let i = c4 .before .i .given in
     let found = c4 .before .before .before .row-among in
-    let count = c4 .before .before .before .before .rows-in in
+    let count = c4 .before .before .before .before .count-rows in
     let s = c8 .before .before in
     (s .pre, omega (arith, count .ensures .1, at-below (count .result) (found .result) (i .0 .0) (found .ensures .0) (i .1)))
 
@@ -75,16 +75,16 @@ unfolding refusals
 returns-3 c =
     let j = c .before .enum-told2 .given in
     let request = c .before .before .before .request-among in
-    let requests = c .before .before .before .before .requests-in in
+    let requests = c .before .before .before .before .count-requests in
     let c4 = c .before .before .before .before in
     let c8 = c4 .before .before .before .before in
     let i = c4 .before .before .i .given in
     let row = c4 .before .before .before .before .row-among in
-    let rows = c8 .before .rows-in in
+    let rows = c8 .before .count-rows in
     let a = c8 .before .before .before .args in
     λ st sd rep same listed.
-    let at = found-at (rowSlot (st .rows) (a .e)) (i .0 .0) (row .ensures .1 st rep (rows .ensures .0 ∙ represented-rows rep)) (i .1) in
-    let there = found-at (requestSlot (st .requests) (a .q)) (j .0 .0) (request .ensures .1 st (rep, requests .ensures .0 ∙ represented-requests rep)) (j .1) in
+    let at = found-at (rowSlot (st .rows) (a .e)) (i .0 .0) (row .ensures .1 st rep (rows .ensures .0 st rep)) (i .1) in
+    let there = found-at (requestSlot (st .requests) (a .q)) (j .0 .0) (request .ensures .1 st (rep, requests .ensures .0 st rep)) (j .1) in
     let (number, known) = request-some rep (a .q) (j .0 .0) there in
     accepted-agrees st (Comes (a .e) (a .q)) (comes-both st (a .e) (a .q) (row-some rep (a .e) (i .0 .0) at .0) number) _
     (told-comes st (a .e) (a .q) (c .comes .result) (a .ps) rep same (c .comes .ensures st (a .e) sd rep at known))
@@ -93,12 +93,12 @@ pub comes-spec : {M : Type 1} → statement M
 comes-spec =
     tie.close
     (tie.spec
-    rows-in-requires
+    count-rows-requires
     row-among-requires
     enum-known-i
     enum-told
     returns
-    requests-in-requires
+    count-requests-requires
     request-among-requires
     enum-told-2
     enum-told-3

@@ -3,7 +3,7 @@ use borrow.Author.Needs.{needs}
 use native.Mathlib.Omega.{arith}
 use mathlib.Core.Path.{sym, _∙_}
 use Rattle.rows.specs.Codes.{inClist}
-use Rattle.rows.proofs.Slots.{at-below, represented-rows, row-words}
+use Rattle.rows.proofs.Slots.{at-below, row-words}
 use Rattle.calls.specs.declared.Call.the-variants.{Go}
 use Rattle.calls.specs.Calls.{refusals}
 use Rattle.calls.proofs.LookedUp.{found-in}
@@ -25,8 +25,8 @@ returns c =
     accepted-agrees st (Go (a .p) (a .e)) (go-home-allowed st (a .p) (a .e) (c .before .if1 .taken)) _
     (went-home st (a .p) (a .e) _ rep (c .before .if1 .taken) (c .go-home .ensures st same))
 
-rows-in-requires : tie.Need-rows-in-requires
-rows-in-requires c κs = search needs
+count-rows-requires : tie.Need-count-rows-requires
+count-rows-requires c κs = search needs
 
 held-by-requires : tie.Need-held-by-requires
 held-by-requires c κs = search needs
@@ -41,12 +41,12 @@ returns-2 : tie.Need-returns-2
 unfolding refusals
 returns-2 c =
     let found = c .before .before .held-by in
-    let count = c .before .before .before .rows-in in
+    let count = c .before .before .before .count-rows in
     let b = c .before .before .before .before in
     let s = b .before .before in
     let a = s .args in
     λ st sd rep same listed.
-    let away = not-in-clist st (a .p) (a .e) (found .result) (found .ensures .1 st (rep, count .ensures .0 ∙ represented-rows rep) (s .pre .1 .1)) (c .enum-told .given .1) in
+    let away = not-in-clist st (a .p) (a .e) (found .result) (found .ensures .1 st (rep, count .ensures .0 st rep) (s .pre .1 .1)) (c .enum-told .given .1) in
     refused-agrees st (Go (a .p) (a .e)) rep (a .ps) same 7 (go-seven st (a .p) (a .e) (b .if1 .left) (not-held st (a .p) (a .e) away)) (λ z. absurd (omega arith))
 
 add-if2 : tie.Need-add-if2
@@ -58,8 +58,8 @@ add-if2 c =
     record {
       fits = omega (
         arith,
-        c .before .before .before .before .rows-in .ensures .1,
-        at-below (c .before .before .before .before .rows-in .result) (found .result) (i .0 .0) (found .ensures .0) (i .1),
+        c .before .before .before .before .count-rows .ensures .1,
+        at-below (c .before .before .before .before .count-rows .result) (found .result) (i .0 .0) (found .ensures .0) (i .1),
       );
     }
 
@@ -72,8 +72,8 @@ mul-if2 c =
     record {
       fits = omega (
         arith,
-        c .before .before .before .before .rows-in .ensures .1,
-        at-below (c .before .before .before .before .rows-in .result) (found .result) (i .0 .0) (found .ensures .0) (i .1),
+        c .before .before .before .before .count-rows .ensures .1,
+        at-below (c .before .before .before .before .count-rows .result) (found .result) (i .0 .0) (found .ensures .0) (i .1),
       );
     }
 
@@ -82,7 +82,7 @@ shared-slice-read-if2 c =
     let i = c .before .before .i .given in
     let b = c .before .before .before .before in
     let found = b .held-by in
-    let count = b .before .rows-in in
+    let count = b .before .count-rows in
     let s = b .before .before .before .before in
     omega (arith, s .pre .0, count .ensures .1, at-below (count .result) (found .result) (i .0 .0) (found .ensures .0) (i .1))
 
@@ -93,12 +93,12 @@ returns-3 c =
     let c4 = c .before .before .before .before in
     let b = c4 .before in
     let found = b .held-by in
-    let count = b .before .rows-in in
+    let count = b .before .count-rows in
     let u = b .before .before in
     let s = u .before .before in
     let a = s .args in
     λ st sd rep same listed.
-    let (at, here) = found-in st (inClist (a .p)) (a .e) (found .result) (i .0 .0) (found .ensures .1 st (rep, count .ensures .0 ∙ represented-rows rep) (s .pre .1 .1)) (i .1) in
+    let (at, here) = found-in st (inClist (a .p)) (a .e) (found .result) (i .0 .0) (found .ensures .1 st (rep, count .ensures .0 st rep) (s .pre .1 .1)) (i .1) in
     refused-agrees st (Go (a .p) (a .e)) rep (a .ps) same 8
     (go-eight st (a .p) (a .e) (u .if1 .left) (held st (a .p) (a .e) here) (λ k. c .if2 .taken (row-words rep (a .e) (i .0 .0) at .kind ∙ k))) (λ z. absurd (omega arith))
 
@@ -108,7 +108,7 @@ go-through-requires c κs =
     let c4 = c .before .before .before .before in
     let b = c4 .before in
     let found = b .held-by in
-    let count = b .before .rows-in in
+    let count = b .before .count-rows in
     let s = b .before .before .before .before in
     (s .pre .0, omega (arith, count .ensures .1, at-below (count .result) (found .result) (i .0 .0) (found .ensures .0) (i .1)), s .pre .1)
 
@@ -119,12 +119,12 @@ returns-4 c =
     let c4 = c .before .before .before .before in
     let b = c4 .before .before in
     let found = b .held-by in
-    let count = b .before .rows-in in
+    let count = b .before .count-rows in
     let u = b .before .before in
     let s = u .before .before in
     let a = s .args in
     λ st sd rep same listed.
-    let (at, here) = found-in st (inClist (a .p)) (a .e) (found .result) (i .0 .0) (found .ensures .1 st (rep, count .ensures .0 ∙ represented-rows rep) (s .pre .1 .1)) (i .1) in
+    let (at, here) = found-in st (inClist (a .p)) (a .e) (found .result) (i .0 .0) (found .ensures .1 st (rep, count .ensures .0 st rep) (s .pre .1 .1)) (i .1) in
     accepted-agrees st (Go (a .p) (a .e))
     (go-allowed st (a .p) (a .e) (u .if1 .left) (held st (a .p) (a .e) here) (sym (row-words rep (a .e) (i .0 .0) at .kind) ∙ c .before .if2 .left)) _
     (went-through st (a .p) (a .e) _ rep (u .if1 .left) (c .go-through .ensures st rep at same))
@@ -135,7 +135,7 @@ go-spec =
     (tie.spec
     go-home-requires
     returns
-    rows-in-requires
+    count-rows-requires
     held-by-requires
     enum-known-i
     enum-told

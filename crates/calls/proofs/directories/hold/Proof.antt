@@ -3,7 +3,7 @@ use borrow.Author.Needs.{needs}
 use native.Mathlib.Omega.{arith}
 use mathlib.Core.Path.{ap, sym, _∙_}
 use Rattle.rows.proofs.Bools.{pos-some}
-use Rattle.rows.proofs.Slots.{at-below, represented-rows}
+use Rattle.rows.proofs.Slots.{at-below}
 use Rattle.calls.specs.Calls.{refusals, callerOf}
 use Rattle.calls.proofs.LookedUp.{found-in}
 use Rattle.rows.specs.declared.Process.{Process}
@@ -32,8 +32,8 @@ mul-x c = search needs
 array-copy-out-x : tie.Need-array-copy-out-x
 array-copy-out-x c = search needs
 
-rows-in-requires : tie.Need-rows-in-requires
-rows-in-requires c κs = search needs
+count-rows-requires : tie.Need-count-rows-requires
+count-rows-requires c κs = search needs
 
 row-in-requires : tie.Need-row-in-requires
 row-in-requires c κs = search needs
@@ -57,7 +57,7 @@ returns c =
       (λ st sd rep same listed.
           let x = at-process st (a .t2) same (a .p) (s .pre .1 .0) in
           let node = node-some _ (ap (λ (y : Process). isNode (y .active)) x ∙ active-node st (sound-open st sd .placed) (a .p) (listed (pos-some (a .p) (s .pre .1 .0)))) in
-          let away = not-in st _ (a .s) node (found .result) (found .ensures .1 st (rep, b .rows-in .ensures .0 ∙ represented-rows rep)) (c .enum-told .given .1) in
+          let away = not-in st _ (a .s) node (found .result) (found .ensures .1 st (rep, b .count-rows .ensures .0 st rep)) (c .enum-told .given .1) in
           refused-agrees st (Hold (a .p) (a .s)) rep (a .t2) same 7 (hold-seven st (a .p) (a .s) (in-active st (a .p) (a .s) _ (ap (λ (y : Process). y .active) x) _ away))
           (λ z. absurd (omega arith))),
       s .pre .0,
@@ -72,7 +72,7 @@ hold-row-requires c κs =
     let c4 = c .before .before .before .before in
     let b = c4 .before .before in
     let found = b .row-in in
-    let count = b .before .before .rows-in in
+    let count = b .before .before .count-rows in
     let b4 = b .before .before .before .before in
     let s = b4 .before .before in
     (s .pre .0, count .ensures .1, at-below (count .result) (found .result) (i .0 .0) (found .ensures .0) (i .1), c .before .row-word .ensures .0)
@@ -90,12 +90,12 @@ returns-2 c =
     let u4 = u .before .before .before .before in
     let b = u4 .before in
     let found = b .row-in in
-    let count = b .before .before .rows-in in
+    let count = b .before .before .count-rows in
     let b4 = b .before .before .before .before in
     let s = b4 .before .before in
     let a = s .args in (
       (λ st sd rep same listed.
-          let counted = count .ensures .0 ∙ represented-rows rep in
+          let counted = count .ensures .0 st rep in
           let x = at-process st (a .t2) same (a .p) (s .pre .1 .0) in
           let (at, here) = found-in st _ (a .s) (found .result) (i .0 .0) (found .ensures .1 st (rep, counted)) (i .1) in
           let active = in-active st (a .p) (a .s) _ (ap (λ (y : Process). y .active) x) _ here in
@@ -113,7 +113,7 @@ hold-spec =
     cast-x
     mul-x
     array-copy-out-x
-    rows-in-requires
+    count-rows-requires
     row-in-requires
     enum-known-i
     enum-told

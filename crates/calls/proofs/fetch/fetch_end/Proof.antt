@@ -7,7 +7,7 @@ use lib.Dec.{eqb}
 use Rattle.rows.specs.Codes.{isServer}
 use Rattle.rows.specs.Tables.{rowOf}
 use Rattle.rows.specs.contracts.Slots.{openSlot}
-use Rattle.rows.proofs.Slots.{at-below, found-at, found-nothing, represented-requests, row-words}
+use Rattle.rows.proofs.Slots.{at-below, found-at, found-nothing, row-words}
 use Rattle.calls.specs.Rules.{askedOf}
 use Rattle.calls.specs.declared.Call.the-variants.{Fetch}
 use Rattle.calls.specs.Calls.{refusals}
@@ -39,8 +39,8 @@ returns c =
       s .pre .0,
     )
 
-requests-in-requires : tie.Need-requests-in-requires
-requests-in-requires c κs = search needs
+count-requests-requires : tie.Need-count-requests-requires
+count-requests-requires c κs = search needs
 
 asked-at-requires : tie.Need-asked-at-requires
 asked-at-requires c κs = search needs
@@ -67,7 +67,7 @@ returns-2 c =
           let v = askedOf st e in
           let server = is-server kind (sym (row-words (h .0) e (a .i) (m .0) .kind) ∙ b .before .before .if1 .left) in
           let none = found-nothing (openSlot (st .requests) (rowOf (st .rows) e .object))
-          (found .ensures .1 st e (h .0, b .requests-in .ensures .0 ∙ represented-requests (h .0)) (m .0)) (c .enum-told .given .1) in
+          (found .ensures .1 st e (h .0, b .count-requests .ensures .0 st (h .0)) (m .0)) (c .enum-told .given .1) in
           refused-answers st (Fetch (a .p) e) (h .0) 11
           (test-fails (not (isServer kind)) 8 (ap not server) (test-holds (eqb (v .number) 0 || isFetched v) 11 _ (or-l (eqb (v .number) 0) (isFetched v) (asked-none st e none)))
           ∙ sym (fetch-rest st e (a .p) (held st (a .p) e (m .1)))) (λ z. absurd (omega arith))),
@@ -80,7 +80,7 @@ fetch-request-requires c κs =
     let found = c .before .before .before .before .asked-at in
     let c4 = c .before .before .before .before in
     let c8 = c4 .before .before .before .before in
-    let count = c4 .before .before .requests-in in
+    let count = c4 .before .before .count-requests in
     let s = c8 .before .before .before in
     (s .pre .0, s .pre .1, omega (arith, count .ensures .1, at-below (count .result) (found .result) (j .0 .0) (found .ensures .0) (j .1)))
 
@@ -94,14 +94,14 @@ returns-3 c =
     let j = c4 .before .j .given in
     let b = c4 .before .before .before in
     let found = b .asked-at in
-    let count = b .before .before .requests-in in
+    let count = b .before .before .count-requests in
     let u = b .before .before .before .before in
     let s = u .before .before .before in
     let a = s .args in (
       (λ st e sd h m few.
           let kind = rowOf (st .rows) e .kind in
           let server = is-server kind (sym (row-words (h .0) e (a .i) (m .0) .kind) ∙ u .if1 .left) in
-          let slot = found-at (openSlot (st .requests) (rowOf (st .rows) e .object)) (j .0 .0) (found .ensures .1 st e (h .0, count .ensures .0 ∙ represented-requests (h .0)) (m .0)) (j .1) in
+          let slot = found-at (openSlot (st .requests) (rowOf (st .rows) e .object)) (j .0 .0) (found .ensures .1 st e (h .0, count .ensures .0 st (h .0)) (m .0)) (j .1) in
           fetched .ensures .0 st e sd h (m .1, server, slot) few),
       fetched .ensures .1,
     )
@@ -114,7 +114,7 @@ fetch-end-spec =
     mul-if1
     slice-read-if1
     returns
-    requests-in-requires
+    count-requests-requires
     asked-at-requires
     enum-known-j
     enum-told

@@ -7,7 +7,7 @@ use lib.Dec.{eqb}
 use Rattle.rows.specs.Codes.{isServer}
 use Rattle.rows.specs.Tables.{rowOf}
 use Rattle.rows.specs.contracts.Slots.{openSlot}
-use Rattle.rows.proofs.Slots.{at-below, found-at, found-nothing, represented-requests, row-words, open-words}
+use Rattle.rows.proofs.Slots.{at-below, found-at, found-nothing, row-words, open-words}
 use Rattle.calls.specs.Rules.{askedOf}
 use Rattle.calls.specs.declared.Call.the-variants.{Refuse}
 use Rattle.calls.specs.Calls.{refusals}
@@ -38,8 +38,8 @@ returns c =
       s .pre .0,
     )
 
-requests-in-requires : tie.Need-requests-in-requires
-requests-in-requires c κs = search needs
+count-requests-requires : tie.Need-count-requests-requires
+count-requests-requires c κs = search needs
 
 asked-at-requires : tie.Need-asked-at-requires
 asked-at-requires c κs = search needs
@@ -65,7 +65,7 @@ returns-2 c =
           let kind = rowOf (st .rows) e .kind in
           let server = is-server kind (sym (row-words rep e (a .i) (m .0) .kind) ∙ b .before .before .if1 .left) in
           let none = found-nothing (openSlot (st .requests) (rowOf (st .rows) e .object))
-          (found .ensures .1 st e (rep, b .requests-in .ensures .0 ∙ represented-requests rep) (m .0)) (c .enum-told .given .1) in
+          (found .ensures .1 st e (rep, b .count-requests .ensures .0 st rep) (m .0)) (c .enum-told .given .1) in
           refused-agrees st (Refuse p e) rep (a .ps) same 11
           (test-fails (not (isServer kind)) 8 (ap not server) (test-holds (eqb (askedOf st e .number) 0) 11 _ (asked-none st e none))
           ∙ sym (refuse-rest st e p (held st p e (m .1)))) (λ z. absurd (omega arith))),
@@ -77,7 +77,7 @@ add-q c =
     let j = c .before .j .given in
     let found = c .before .before .before .asked-at in
     let c4 = c .before .before .before .before in
-    let count = c4 .before .requests-in in
+    let count = c4 .before .count-requests in
     record { fits = omega (arith, count .ensures .1, at-below (count .result) (found .result) (j .0 .0) (found .ensures .0) (j .1)) }
 
 mul-q : tie.Need-mul-q
@@ -85,7 +85,7 @@ mul-q c =
     let j = c .before .j .given in
     let found = c .before .before .before .asked-at in
     let c4 = c .before .before .before .before in
-    let count = c4 .before .requests-in in
+    let count = c4 .before .count-requests in
     record { fits = omega (arith, count .ensures .1, at-below (count .result) (found .result) (j .0 .0) (found .ensures .0) (j .1)) }
 
 slice-read-q : tie.Need-slice-read-q
@@ -94,7 +94,7 @@ slice-read-q c =
     let found = c .before .before .before .before .asked-at in
     let c4 = c .before .before .before .before in
     let c8 = c4 .before .before .before .before in
-    let count = c4 .before .before .requests-in in
+    let count = c4 .before .before .count-requests in
     let s = c8 .before .before .before in
     omega (arith, s .pre .0, count .ensures .1, at-below (count .result) (found .result) (j .0 .0) (found .ensures .0) (j .1))
 
@@ -112,7 +112,7 @@ returns-3 c =
     let j = c4 .before .before .j .given in
     let b = c4 .before .before .before .before in
     let found = b .asked-at in
-    let count = b .before .before .requests-in in
+    let count = b .before .before .count-requests in
     let u = b .before .before .before .before in
     let s = u .before .before .before in
     let a = s .args in (
@@ -120,7 +120,7 @@ returns-3 c =
           let kind = rowOf (st .rows) e .kind in
           let port = rowOf (st .rows) e .object in
           let server = is-server kind (sym (row-words rep e (a .i) (m .0) .kind) ∙ u .if1 .left) in
-          let slot = found-at (openSlot (st .requests) port) (j .0 .0) (found .ensures .1 st e (rep, count .ensures .0 ∙ represented-requests rep) (m .0)) (j .1) in
+          let slot = found-at (openSlot (st .requests) port) (j .0 .0) (found .ensures .1 st e (rep, count .ensures .0 st rep) (m .0)) (j .1) in
           let none = test-fails (not (isServer kind)) 8 (ap not server)
           (test-fails (eqb (askedOf st e .number) 0) 11 (asked-some st e rep (j .0 .0) slot) refl) ∙ sym (refuse-rest st e p (held st p e (m .1))) in
           accepted-agrees st (Refuse p e) none _
@@ -136,7 +136,7 @@ refuse-end-spec =
     mul-if1
     slice-read-if1
     returns
-    requests-in-requires
+    count-requests-requires
     asked-at-requires
     enum-known-j
     enum-told

@@ -3,7 +3,7 @@ use borrow.Author.Needs.{needs}
 use native.Mathlib.Omega.{arith}
 use mathlib.Core.Path.{sym, _∙_}
 use Rattle.rows.specs.contracts.Slots.{requestSlot}
-use Rattle.rows.proofs.Slots.{at-below, found-at, found-nothing, represented-requests, request-words}
+use Rattle.rows.proofs.Slots.{at-below, found-at, found-nothing, request-words}
 use Rattle.calls.specs.declared.Call.the-variants.{Revoke}
 use Rattle.calls.specs.Calls.{refusals}
 use Rattle.calls.proofs.Judging.{refused-agrees, accepted-agrees}
@@ -12,8 +12,8 @@ use Rattle.calls.proofs.Effected.{revoked}
 use Rattle.calls.proofs.loans.revoke.Statement.{statement}
 use Rattle.calls.proofs.loans.revoke.Tie as tie
 
-requests-in-requires : tie.Need-requests-in-requires
-requests-in-requires c κs = search needs
+count-requests-requires : tie.Need-count-requests-requires
+count-requests-requires c κs = search needs
 
 request-among-requires : tie.Need-request-among-requires
 request-among-requires c κs = search needs
@@ -35,7 +35,7 @@ returns c =
     let s = b .before .before .before in
     let a = s .args in (
       (λ st sd rep same listed.
-          let none = found-nothing (requestSlot (st .requests) (a .q)) (found .ensures .1 st (rep, b .requests-in .ensures .0 ∙ represented-requests rep)) (c .enum-told .given .1) in
+          let none = found-nothing (requestSlot (st .requests) (a .q)) (found .ensures .1 st (rep, b .count-requests .ensures .0 st rep)) (c .enum-told .given .1) in
           refused-agrees st (Revoke (a .p) (a .q)) rep (a .ps) same 7 (revoke-none st (a .p) (a .q) none) (λ z. absurd (omega arith))),
       s .pre .0,
     )
@@ -45,7 +45,7 @@ add-if1 c =
     let j = c .before .j .given in
     let found = c .before .before .before .request-among in
     let c4 = c .before .before .before .before in
-    let count = c4 .before .requests-in in
+    let count = c4 .before .count-requests in
     record { fits = omega (arith, count .ensures .1, at-below (count .result) (found .result) (j .0 .0) (found .ensures .0) (j .1)) }
 
 mul-if1 : tie.Need-mul-if1
@@ -53,7 +53,7 @@ mul-if1 c =
     let j = c .before .j .given in
     let found = c .before .before .before .request-among in
     let c4 = c .before .before .before .before in
-    let count = c4 .before .requests-in in
+    let count = c4 .before .count-requests in
     record { fits = omega (arith, count .ensures .1, at-below (count .result) (found .result) (j .0 .0) (found .ensures .0) (j .1)) }
 
 slice-read-if1 : tie.Need-slice-read-if1
@@ -62,7 +62,7 @@ slice-read-if1 c =
     let found = c .before .before .before .before .request-among in
     let c4 = c .before .before .before .before in
     let c8 = c4 .before .before .before .before in
-    let count = c4 .before .before .requests-in in
+    let count = c4 .before .before .count-requests in
     let s = c8 .before in
     omega (arith, s .pre .0, count .ensures .1, at-below (count .result) (found .result) (j .0 .0) (found .ensures .0) (j .1))
 
@@ -76,12 +76,12 @@ returns-2 c =
     let c4 = c .before .before .before .before in
     let b = c4 .before in
     let found = b .request-among in
-    let count = b .before .before .requests-in in
+    let count = b .before .before .count-requests in
     let b4 = b .before .before .before .before in
     let s = b4 .before in
     let a = s .args in (
       (λ st sd rep same listed.
-          let at = found-at (requestSlot (st .requests) (a .q)) (j .0 .0) (found .ensures .1 st (rep, count .ensures .0 ∙ represented-requests rep)) (j .1) in
+          let at = found-at (requestSlot (st .requests) (a .q)) (j .0 .0) (found .ensures .1 st (rep, count .ensures .0 st rep)) (j .1) in
           refused-agrees st (Revoke (a .p) (a .q)) rep (a .ps) same 7
           (revoke-other st (a .p) (a .q) (λ k. c .if1 .taken (request-words rep (a .q) (j .0 .0) at .asker ∙ k))) (λ z. absurd (omega arith))),
       s .pre .0,
@@ -102,12 +102,12 @@ returns-3 c =
     let u4 = u .before .before .before .before in
     let b = u4 .before in
     let found = b .request-among in
-    let count = b .before .before .requests-in in
+    let count = b .before .before .count-requests in
     let b4 = b .before .before .before .before in
     let s = b4 .before in
     let a = s .args in (
       (λ st sd rep same listed.
-          let at = found-at (requestSlot (st .requests) (a .q)) (j .0 .0) (found .ensures .1 st (rep, count .ensures .0 ∙ represented-requests rep)) (j .1) in
+          let at = found-at (requestSlot (st .requests) (a .q)) (j .0 .0) (found .ensures .1 st (rep, count .ensures .0 st rep)) (j .1) in
           let own = sym (request-words rep (a .q) (j .0 .0) at .asker) ∙ u .if1 .left in
           accepted-agrees st (Revoke (a .p) (a .q)) (revoke-own st (a .p) (a .q) (request-some rep (a .q) (j .0 .0) at .0) own) _
           (revoked st (a .p) (a .q) (closed .result) (closed .ensures .0 st sd rep same))),
@@ -118,7 +118,7 @@ pub revoke-spec : {M : Type 1} → statement M
 revoke-spec =
     tie.close
     (tie.spec
-    requests-in-requires
+    count-requests-requires
     request-among-requires
     enum-known-j
     enum-told

@@ -9,7 +9,7 @@ use Rattle.rows.specs.Tables.{rowOf}
 use Rattle.rows.specs.Sound.{isFetched}
 use Rattle.rows.specs.contracts.Slots.{openSlot}
 use Rattle.rows.proofs.Bools.{or-l}
-use Rattle.rows.proofs.Slots.{at-below, found-at, found-nothing, represented-requests, row-words, open-words}
+use Rattle.rows.proofs.Slots.{at-below, found-at, found-nothing, row-words, open-words}
 use Rattle.calls.specs.declared.Call.the-variants.{Reply}
 use Rattle.calls.specs.Rules.{askedOf}
 use Rattle.calls.specs.Calls.{refusals}
@@ -41,8 +41,8 @@ returns c =
       s .pre .0,
     )
 
-requests-in-requires : tie.Need-requests-in-requires
-requests-in-requires c κs = search needs
+count-requests-requires : tie.Need-count-requests-requires
+count-requests-requires c κs = search needs
 
 asked-at-requires : tie.Need-asked-at-requires
 asked-at-requires c κs = search needs
@@ -69,7 +69,7 @@ returns-2 c =
           let v = askedOf st e in
           let server = is-server kind (sym (row-words rep e (a .i) (m .0) .kind) ∙ b .before .before .if1 .left) in
           let none = found-nothing (openSlot (st .requests) (rowOf (st .rows) e .object))
-          (found .ensures .1 st e (rep, b .requests-in .ensures .0 ∙ represented-requests rep) (m .0)) (c .enum-told .given .1) in
+          (found .ensures .1 st e (rep, b .count-requests .ensures .0 st rep) (m .0)) (c .enum-told .given .1) in
           let eleven = test-holds (eqb (v .number) 0 || not (isFetched v)) 11 _ (or-l (eqb (v .number) 0) (not (isFetched v)) (asked-none st e none)) in
           refused-agrees st (Reply (a .p) e) rep (a .ps) same 11
           (test-fails (not (isServer kind)) 8 (ap not server) (test-fails _ 10 (none-lent st e none _) eleven) ∙ sym (reply-rest st (a .p) e (held st (a .p) e (m .1)))) (λ z. absurd (omega arith))),
@@ -82,7 +82,7 @@ reply-refusal-requires c κs =
     let found = c .before .before .before .before .asked-at in
     let c4 = c .before .before .before .before in
     let c8 = c4 .before .before .before .before in
-    let count = c4 .before .before .requests-in in
+    let count = c4 .before .before .count-requests in
     let s = c8 .before .before .before in
     (s .pre .0, s .pre .1, count .ensures .1, omega (arith, count .ensures .1, at-below (count .result) (found .result) (j .0 .0) (found .ensures .0) (j .1)))
 
@@ -97,12 +97,12 @@ returns-3 c =
     let c4 = c .before .before .before .before in
     let b = c4 .before .before in
     let found = b .asked-at in
-    let counted = b .before .before .requests-in in
+    let counted = b .before .before .count-requests in
     let u = b .before .before .before .before in
     let s = u .before .before .before in
     let a = s .args in (
       (λ st e sd rep count same m few.
-          let requests = counted .ensures .0 ∙ represented-requests rep in
+          let requests = counted .ensures .0 st rep in
           let server = is-server (rowOf (st .rows) e .kind) (sym (row-words rep e (a .i) (m .0) .kind) ∙ u .if1 .left) in
           let slot = found-at (openSlot (st .requests) (rowOf (st .rows) e .object)) (j .0 .0) (found .ensures .1 st e (rep, requests) (m .0)) (j .1) in
           refused-agrees st (Reply (a .p) e) rep (a .ps) same (no .result) (no .ensures st e (rep, count, requests) (m .1, server, slot) few) (c .if2 .taken)),
@@ -114,7 +114,7 @@ add-q c =
     let j = c .before .before .before .before .j .given in
     let c4 = c .before .before .before .before in
     let found = c4 .before .before .asked-at in
-    let count = c4 .before .before .before .before .requests-in in
+    let count = c4 .before .before .before .before .count-requests in
     record { fits = omega (arith, count .ensures .1, at-below (count .result) (found .result) (j .0 .0) (found .ensures .0) (j .1)) }
 
 mul-q : tie.Need-mul-q
@@ -122,7 +122,7 @@ mul-q c =
     let j = c .before .before .before .before .j .given in
     let c4 = c .before .before .before .before in
     let found = c4 .before .before .asked-at in
-    let count = c4 .before .before .before .before .requests-in in
+    let count = c4 .before .before .before .before .count-requests in
     record { fits = omega (arith, count .ensures .1, at-below (count .result) (found .result) (j .0 .0) (found .ensures .0) (j .1)) }
 
 slice-read-q : tie.Need-slice-read-q
@@ -132,7 +132,7 @@ slice-read-q c =
     let c12 = c8 .before .before .before .before in
     let j = c4 .before .j .given in
     let found = c4 .before .before .before .asked-at in
-    let count = c8 .before .requests-in in
+    let count = c8 .before .count-requests in
     let s = c12 .before .before in
     omega (arith, s .pre .0, count .ensures .1, at-below (count .result) (found .result) (j .0 .0) (found .ensures .0) (j .1))
 
@@ -153,13 +153,13 @@ returns-4 c =
     let w4 = w .before .before .before .before in
     let b = w4 .before .before in
     let found = b .asked-at in
-    let counted = b .before .before .requests-in in
+    let counted = b .before .before .count-requests in
     let u = b .before .before .before .before in
     let s = u .before .before .before in
     let a = s .args in (
       (λ st e sd rep count same m few.
           let port = rowOf (st .rows) e .object in
-          let requests = counted .ensures .0 ∙ represented-requests rep in
+          let requests = counted .ensures .0 st rep in
           let server = is-server (rowOf (st .rows) e .kind) (sym (row-words rep e (a .i) (m .0) .kind) ∙ u .if1 .left) in
           let slot = found-at (openSlot (st .requests) port) (j .0 .0) (found .ensures .1 st e (rep, requests) (m .0)) (j .1) in
           accepted-agrees st (Reply (a .p) e) (sym (w .if2 .left) ∙ no .ensures st e (rep, count, requests) (m .1, server, slot) few) _
@@ -175,7 +175,7 @@ reply-end-spec =
     mul-if1
     slice-read-if1
     returns
-    requests-in-requires
+    count-requests-requires
     asked-at-requires
     enum-known-j
     enum-told

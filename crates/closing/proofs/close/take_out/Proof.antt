@@ -2,7 +2,6 @@
 use borrow.Author.Needs.{needs}
 use mathlib.Core.Path.{_∙_}
 use denote.Ref.{now}
-use Rattle.rows.proofs.RepresentedWords.{represented-requests}
 use Rattle.closing.specs.Closing.{closes}
 use Rattle.closing.specs.contracts.Seeds.{closesOf}
 use Rattle.closing.proofs.ListsSettled.{closes-blind}
@@ -10,8 +9,8 @@ use Rattle.closing.proofs.CloseParts.{taken-out}
 use Rattle.closing.proofs.close.take_out.Statement.{statement}
 use Rattle.closing.proofs.close.take_out.Tie as tie
 
-requests-in-requires : tie.Need-requests-in-requires
-requests-in-requires c κs = search needs
+count-requests-requires : tie.Need-count-requests-requires
+count-requests-requires c κs = search needs
 
 mark-requests-requires : tie.Need-mark-requests-requires
 mark-requests-requires c κs = search needs
@@ -43,7 +42,7 @@ returns c =
     let requests = requests-out .remove-requests in (
       (λ st g sd rep count gone under.
           let f = closes (closesOf (a .s)) g in
-          let long = counted .requests-in .ensures .0 ∙ represented-requests rep in
+          let long = counted .count-requests .ensures .0 st rep in
           let ended = marks .ensures st g sd rep count long gone in
           taken-out (a .n) (now (a .removed)) (marks .result) (lists .last .0) (rows .last .0) (requests .last .0) (rows .ensures) (requests .ensures)
           g f (closes-blind (closesOf (a .s)) g) st count gone ended under (lists .ensures .0 st g f sd rep count long gone ended)),
@@ -54,7 +53,7 @@ pub take-out-spec : {M : Type 1} → statement M
 take-out-spec =
     tie.close
     (tie.spec
-    requests-in-requires
+    count-requests-requires
     mark-requests-requires
     settle-lists-requires
     remove-rows-requires
