@@ -49,16 +49,18 @@ process-at ps zero h = absurd (omega arith)
 process-at ps (suc i) h = ap (λ (k : ℕ). getD ps k noProcess) (omega arith)
 
 module _ (st : State) (ps : List Process) (same : st .processes ≡ ps) (p : ℕ) (h : 0 < p) where
-  pub at-process : getD ps (p - 1) noProcess ≡ processAt (st .processes) p
-  at-process = process-at ps p h ∙ ap (λ (l : List Process). processAt l p) (sym same)
+  module _ (x : Process) (read : x ≡ getD ps (p - 1) noProcess) where
+    -- the record that was read is that of the process
+    pub at-process : x ≡ processAt (st .processes) p
+    at-process = read ∙ process-at ps p h ∙ ap (λ (l : List Process). processAt l p) (sym same)
 
-  pub home-record : set ps (p - 1) (inPrimeNode (getD ps (p - 1) noProcess)) ≡ goHome st p .processes
-  unfolding goHome withRecord
-  home-record = λ j. set (sym same j) (p - 1) (inPrimeNode (at-process j))
+    pub home-record : set ps (p - 1) (inPrimeNode x) ≡ goHome st p .processes
+    unfolding goHome withRecord
+    home-record = λ j. set (sym same j) (p - 1) (inPrimeNode (at-process j))
 
-  pub through-record : (e n : ℕ) → n ≡ rowOf (st .rows) e .object → set ps (p - 1) (wentThrough e n (getD ps (p - 1) noProcess)) ≡ goThrough st p e .processes
-  unfolding goThrough withRecord
-  through-record e n k = λ j. set (sym same j) (p - 1) (wentThrough e (k j) (at-process j))
+    pub through-record : (e n : ℕ) → n ≡ rowOf (st .rows) e .object → set ps (p - 1) (wentThrough e n x) ≡ goThrough st p e .processes
+    unfolding goThrough withRecord
+    through-record e n k = λ j. set (sym same j) (p - 1) (wentThrough e (k j) (at-process j))
 
 -- ---- the active node of a process
 pub node-some : (n : ℕ) → isNode n ≡ true → n ≡ 0 → ⊥

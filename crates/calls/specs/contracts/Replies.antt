@@ -13,7 +13,7 @@ use Rattle.rows.specs.Codes.{isEnd}
 use Rattle.rows.specs.Tables.{State, rowOf, lists}
 use Rattle.rows.specs.Sound.{sound}
 use Rattle.rows.specs.contracts.Represents.{Represents}
-use Rattle.rows.specs.Layout.{rowSlot}
+use Rattle.rows.specs.Layout.{rowSlot, recordsIn}
 use Rattle.rows.specs.contracts.Slots.{foundSlot}
 use Rattle.rows.specs.contracts.Sizes.{PROCESSES}
 use Rattle.calls.specs.declared.Answer.{Answer}

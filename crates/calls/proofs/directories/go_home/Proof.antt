@@ -1,7 +1,9 @@
 -- `directories::go_home`: the record of p is replaced.
 use borrow.Author.Needs.{needs}
+use mathlib.Core.Path.{_∙_}
+use denote.Ref.{now}
+use Rattle.rows.specs.Layout.{recordsIn}
 use Rattle.calls.proofs.Added.{home-record}
-use Rattle.rows.specs.Tables.{noProcess}
 use Rattle.calls.proofs.directories.go_home.Statement.{statement}
 use Rattle.calls.proofs.directories.go_home.Tie as tie
 
@@ -11,24 +13,31 @@ sub-i c = search needs
 cast-i : tie.Need-cast-i
 cast-i c = search needs
 
-mul-x : tie.Need-mul-x
-mul-x c = search needs
+record-at-requires : tie.Need-record-at-requires
+record-at-requires c κs = search needs
 
-array-copy-out-x : tie.Need-array-copy-out-x
-array-copy-out-x c = search needs
+set-record-requires : tie.Need-set-record-requires
+set-record-requires c κs = search needs
 
-mul-to : tie.Need-mul-to
-mul-to c = search needs
-
-array-set-from-to : tie.Need-array-set-from-to
-array-set-from-to c = search needs
+same-length : tie.Need-same-length
+same-length c = search needs
 
 returns : tie.Need-returns
-unfolding noProcess
 returns c =
-    let s = c .before in
-    λ st same. home-record st (s .args .ps) same (s .args .p) (s .pre .0)
+    let written = c .before .before .set-record in
+    let x = c .before .before .before .before .record-at in
+    let a = c .before .before .before .before .before .before .before .args in (
+      (λ st same. written .ensures .0 ∙ home-record st (recordsIn (now (a .ps))) same (a .p) (c .before .before .before .before .before .before .before .pre .1 .0) (x .result) (x .ensures)),
+      written .ensures .1,
+    )
 
 pub go-home-spec : {M : Type 1} → statement M
 go-home-spec =
-    tie.close (tie.spec sub-i cast-i mul-x array-copy-out-x mul-to array-set-from-to returns)
+    tie.close
+    (tie.spec
+    sub-i
+    cast-i
+    record-at-requires
+    set-record-requires
+    same-length
+    returns)
