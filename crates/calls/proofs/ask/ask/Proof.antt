@@ -37,13 +37,12 @@ unfolding refusals
 returns c =
     let found = c .before .before .held-by in
     let count = c .before .before .before .before .count-rows in
-    let s = c .before .before .before .before .before .before .before in
-    let a = s .args in (
-      (λ st sd rep same listed.
-          let away = not-in-clist st (a .p) (a .c) (found .result) (found .ensures .1 st (rep, count .ensures .0 st rep) (s .pre .1 .1)) (c .enum-told .given .1) in
-          refused-agrees st (Ask (a .p) (a .c) (a .items)) rep (a .ps) same 7
+    let a = c .before .before .before .before .before .before .before .args in (
+      (λ ps st sd rep same listed.
+          let away = not-in-clist st (a .p) (a .c) (found .result) (found .ensures .1 st (rep, count .ensures .0 st rep) (c .before .before .before .before .before .before .before .pre .1 .1)) (c .enum-told .given .1) in
+          refused-agrees st (Ask (a .p) (a .c) (a .items)) rep same 7
           (ask-seven st (a .p) (a .c) (itemsOf (a .items)) (or-l (notHeld st (a .p) (a .c)) _ (not-held st (a .p) (a .c) away))) (λ z. absurd (omega arith))),
-      s .pre .0,
+      c .before .before .before .before .before .before .before .pre .0,
     )
 
 next-of-requires : tie.Need-next-of-requires
@@ -54,8 +53,7 @@ ask-items-requires c κs =
     let i = c .before .before .before .before .i .given in
     let found = c .before .before .before .before .before .before .held-by in
     let count = c .before .before .before .before .before .before .before .before .count-rows in
-    let s = c .before .before .before .before .before .before .before .before .before .before .before in
-    (s .pre .0, count .ensures .1, at-below (count .result) (found .result) (i .0 .0) (found .ensures .0) (i .1))
+    (c .before .before .before .before .before .before .before .before .before .before .before .pre .0, count .ensures .1, at-below (count .result) (found .result) (i .0 .0) (found .ensures .0) (i .1))
 
 same-length-2 : tie.Need-same-length-2
 same-length-2 c = search needs
@@ -67,13 +65,12 @@ returns-2 c =
     let i = c .before .before .before .before .before .before .before .i .given in
     let found = c .before .before .before .before .before .before .before .before .before .held-by in
     let count = c .before .before .before .before .before .before .before .before .before .before .before .count-rows in
-    let s = c .before .before .before .before .before .before .before .before .before .before .before .before .before .before in
-    let a = s .args in (
-      (λ st sd rep same listed.
+    let a = c .before .before .before .before .before .before .before .before .before .before .before .before .before .before .args in (
+      (λ ps st sd rep same listed.
           let counted = count .ensures .0 st rep in
-          let here = found-in st (inClist (a .p)) (a .c) (found .result) (i .0 .0) (found .ensures .1 st (rep, counted) (s .pre .1 .1)) (i .1) in
-          records-stay st (Ask (a .p) (a .c) (a .items)) (a .ps) same (ask-records st (a .p) (a .c) (a .items)) (done .result)
-          (done .ensures .0 st sd (rep, counted) (here, sym (next .ensures ∙ represented-next rep)) (s .pre .1 .1))),
+          let here = found-in st (inClist (a .p)) (a .c) (found .result) (i .0 .0) (found .ensures .1 st (rep, counted) (c .before .before .before .before .before .before .before .before .before .before .before .before .before .before .pre .1 .1)) (i .1) in
+          records-stay st (Ask (a .p) (a .c) (a .items)) same (ask-records st (a .p) (a .c) (a .items)) (done .result)
+          (done .ensures .0 st sd (rep, counted) (here, sym (next .ensures ∙ represented-next rep)) (c .before .before .before .before .before .before .before .before .before .before .before .before .before .before .pre .1 .1))),
       done .ensures .1,
     )
 

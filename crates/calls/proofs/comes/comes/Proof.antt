@@ -30,11 +30,10 @@ unfolding refusals
 returns c =
     let found = c .before .before .row-among in
     let count = c .before .before .before .count-rows in
-    let c4 = c .before .before .before .before in
-    let a = c4 .before .args in
-    λ st sd rep same listed.
+    let a = c .before .before .before .before .before .args in
+    λ ps st sd rep same listed.
     let none = found-nothing (rowSlot (st .rows) (a .e)) (found .ensures .1 st rep (count .ensures .0 st rep)) (c .enum-told .given .1) in
-    refused-agrees st (Comes (a .e) (a .q)) rep (a .ps) same 7 (comes-no-row st (a .e) (a .q) none) (λ z. absurd (omega arith))
+    refused-agrees st (Comes (a .e) (a .q)) rep same 7 (comes-no-row st (a .e) (a .q) none) (λ z. absurd (omega arith))
 
 count-requests-requires : tie.Need-count-requests-requires
 count-requests-requires c κs = search needs
@@ -53,22 +52,17 @@ unfolding refusals
 returns-2 c =
     let found = c .before .before .request-among in
     let count = c .before .before .before .count-requests in
-    let c4 = c .before .before .before .before in
-    let c8 = c4 .before .before .before .before in
-    let a = c8 .before .before .args in
-    λ st sd rep same listed.
+    let a = c .before .before .before .before .before .before .before .before .before .before .args in
+    λ ps st sd rep same listed.
     let none = found-nothing (requestSlot (st .requests) (a .q)) (found .ensures .1 st (rep, count .ensures .0 st rep)) (c .enum-told3 .given .1) in
-    refused-agrees st (Comes (a .e) (a .q)) rep (a .ps) same 7 (comes-no-request st (a .e) (a .q) none) (λ z. absurd (omega arith))
+    refused-agrees st (Comes (a .e) (a .q)) rep same 7 (comes-no-request st (a .e) (a .q) none) (λ z. absurd (omega arith))
 
 comes-requires : tie.Need-comes-requires
 comes-requires c κs =
-    let c4 = c .before .before .before .before in
-    let c8 = c4 .before .before .before .before in
-    let i = c4 .before .i .given in
-    let found = c4 .before .before .before .row-among in
-    let count = c4 .before .before .before .before .count-rows in
-    let s = c8 .before .before in
-    (s .pre, omega (arith, count .ensures .1, at-below (count .result) (found .result) (i .0 .0) (found .ensures .0) (i .1)))
+    let i = c .before .before .before .before .before .i .given in
+    let found = c .before .before .before .before .before .before .before .row-among in
+    let count = c .before .before .before .before .before .before .before .before .count-rows in
+    (c .before .before .before .before .before .before .before .before .before .before .pre, omega (arith, count .ensures .1, at-below (count .result) (found .result) (i .0 .0) (found .ensures .0) (i .1)))
 
 returns-3 : tie.Need-returns-3
 unfolding refusals
@@ -76,18 +70,16 @@ returns-3 c =
     let j = c .before .enum-told2 .given in
     let request = c .before .before .before .request-among in
     let requests = c .before .before .before .before .count-requests in
-    let c4 = c .before .before .before .before in
-    let c8 = c4 .before .before .before .before in
-    let i = c4 .before .before .i .given in
-    let row = c4 .before .before .before .before .row-among in
-    let rows = c8 .before .count-rows in
-    let a = c8 .before .before .before .args in
-    λ st sd rep same listed.
+    let i = c .before .before .before .before .before .before .i .given in
+    let row = c .before .before .before .before .before .before .before .before .row-among in
+    let rows = c .before .before .before .before .before .before .before .before .before .count-rows in
+    let a = c .before .before .before .before .before .before .before .before .before .before .before .args in
+    λ ps st sd rep same listed.
     let at = found-at (rowSlot (st .rows) (a .e)) (i .0 .0) (row .ensures .1 st rep (rows .ensures .0 st rep)) (i .1) in
     let there = found-at (requestSlot (st .requests) (a .q)) (j .0 .0) (request .ensures .1 st (rep, requests .ensures .0 st rep)) (j .1) in
     let (number, known) = request-some rep (a .q) (j .0 .0) there in
-    accepted-agrees st (Comes (a .e) (a .q)) (comes-both st (a .e) (a .q) (row-some rep (a .e) (i .0 .0) at .0) number) _
-    (told-comes st (a .e) (a .q) (c .comes .result) (a .ps) rep same (c .comes .ensures st (a .e) sd rep at known))
+    accepted-agrees st (Comes (a .e) (a .q)) (comes-both st (a .e) (a .q) (row-some rep (a .e) (i .0 .0) at .0) number)
+    (told-comes st (a .e) (a .q) (c .comes .result) rep same (c .comes .ensures st (a .e) sd rep at known))
 
 pub comes-spec : {M : Type 1} → statement M
 comes-spec =

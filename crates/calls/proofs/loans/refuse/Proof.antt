@@ -32,41 +32,35 @@ returns : tie.Need-returns
 unfolding refusals refusalsRefuse
 returns c =
     let found = c .before .before .held-by in
-    let b = c .before .before .before .before in
-    let s = b .before .before .before in
-    let a = s .args in (
+    let a = c .before .before .before .before .before .before .before .before .args in (
       (λ st sd rep same listed.
-          let away = not-in-clist st (a .p) (a .e) (found .result) (found .ensures .1 st (rep, b .count-rows .ensures .0 st rep) (s .pre .1 .1)) (c .enum-told .given .1) in
-          refused-agrees st (Refuse (a .p) (a .e)) rep (a .ps) same 7 (seven (notHeld st (a .p) (a .e)) _ (not-held st (a .p) (a .e) away)) (λ z. absurd (omega arith))),
-      s .pre .0,
+          let away = not-in-clist st (a .p) (a .e) (found .result) (found .ensures .1 st (rep, c .before .before .before .before .count-rows .ensures .0 st rep) (c .before .before .before .before .before .before .before .before .pre .2 .1)) (c .enum-told .given .1) in
+          refused-agrees st (Refuse (a .p) (a .e)) rep same 7 (seven (notHeld st (a .p) (a .e)) _ (not-held st (a .p) (a .e) away)) (λ z. absurd (omega arith))),
+      (c .before .before .before .before .before .before .before .before .pre .0, c .before .before .before .before .before .before .before .before .pre .1),
     )
 
 refuse-end-requires : tie.Need-refuse-end-requires
 refuse-end-requires c κs =
-    let i = c .before .before .i .given in
-    let b = c .before .before .before .before in
-    let found = b .held-by in
-    let count = b .before .before .count-rows in
-    let b4 = b .before .before .before .before in
-    let s = b4 .before in
-    (s .pre .0, omega (arith, count .ensures .1, at-below (count .result) (found .result) (i .0 .0) (found .ensures .0) (i .1)))
+    let i = c .before .before .before .i .given in
+    let found = c .before .before .before .before .before .held-by in
+    let count = c .before .before .before .before .before .before .before .count-rows in
+    (c .before .before .before .before .before .before .before .before .before .before .before .pre .0, c .before .before .before .before .before .before .before .before .before .before .before .pre .1, omega (arith, count .ensures .1, at-below (count .result) (found .result) (i .0 .0) (found .ensures .0) (i .1)))
 
 same-length-2 : tie.Need-same-length-2
 same-length-2 c = search needs
 
+same-length-3 : tie.Need-same-length-3
+same-length-3 c = search needs
+
 returns-2 : tie.Need-returns-2
 returns-2 c =
-    let end = c .before .before .refuse-end in
-    let c4 = c .before .before .before .before in
-    let i = c4 .before .i .given in
-    let b = c4 .before .before .before in
-    let found = b .held-by in
-    let count = b .before .before .count-rows in
-    let b4 = b .before .before .before .before in
-    let s = b4 .before in
-    let a = s .args in (
+    let end = c .before .before .before .before .refuse-end in
+    let i = c .before .before .before .before .before .before .before .before .i .given in
+    let found = c .before .before .before .before .before .before .before .before .before .before .held-by in
+    let count = c .before .before .before .before .before .before .before .before .before .before .before .before .count-rows in
+    let a = c .before .before .before .before .before .before .before .before .before .before .before .before .before .before .before .before .args in (
       (λ st sd rep same listed.
-          let here = found-in st (inClist (a .p)) (a .e) (found .result) (i .0 .0) (found .ensures .1 st (rep, count .ensures .0 st rep) (s .pre .1 .1)) (i .1) in
+          let here = found-in st (inClist (a .p)) (a .e) (found .result) (i .0 .0) (found .ensures .1 st (rep, count .ensures .0 st rep) (c .before .before .before .before .before .before .before .before .before .before .before .before .before .before .before .before .pre .2 .1)) (i .1) in
           end .ensures .0 st (a .p) (a .e) sd rep same here),
       end .ensures .1,
     )
@@ -83,4 +77,5 @@ refuse-spec =
     returns
     refuse-end-requires
     same-length-2
+    same-length-3
     returns-2)

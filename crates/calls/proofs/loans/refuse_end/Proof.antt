@@ -29,13 +29,12 @@ slice-read-if1 c = search needs
 returns : tie.Need-returns
 unfolding refusals
 returns c =
-    let s = c .before .before .before in
-    let a = s .args in (
+    let a = c .before .before .before .before .args in (
       (λ st p e sd rep same m.
           let kind = rowOf (st .rows) e .kind in
           let other = no-server kind (λ k. c .if1 .taken (row-words rep e (a .i) (m .0) .kind ∙ k)) in
-          refused-agrees st (Refuse p e) rep (a .ps) same 8 (test-holds (not (isServer kind)) 8 _ other ∙ sym (refuse-rest st e p (held st p e (m .1)))) (λ z. absurd (omega arith))),
-      s .pre .0,
+          refused-agrees st (Refuse p e) rep same 8 (test-holds (not (isServer kind)) 8 _ other ∙ sym (refuse-rest st e p (held st p e (m .1)))) (λ z. absurd (omega arith))),
+      (c .before .before .before .before .pre .0, c .before .before .before .before .pre .1),
     )
 
 count-requests-requires : tie.Need-count-requests-requires
@@ -57,46 +56,38 @@ returns-2 : tie.Need-returns-2
 unfolding refusals
 returns-2 c =
     let found = c .before .before .asked-at in
-    let b = c .before .before .before .before in
-    let b4 = b .before .before .before .before in
-    let s = b4 .before in
-    let a = s .args in (
+    let a = c .before .before .before .before .before .before .before .before .before .before .args in (
       (λ st p e sd rep same m.
           let kind = rowOf (st .rows) e .kind in
-          let server = is-server kind (sym (row-words rep e (a .i) (m .0) .kind) ∙ b .before .before .if1 .left) in
+          let server = is-server kind (sym (row-words rep e (a .i) (m .0) .kind) ∙ c .before .before .before .before .before .before .if1 .left) in
           let none = found-nothing (openSlot (st .requests) (rowOf (st .rows) e .object))
-          (found .ensures .1 st e (rep, b .count-requests .ensures .0 st rep) (m .0)) (c .enum-told .given .1) in
-          refused-agrees st (Refuse p e) rep (a .ps) same 11
+          (found .ensures .1 st e (rep, c .before .before .before .before .count-requests .ensures .0 st rep) (m .0)) (c .enum-told .given .1) in
+          refused-agrees st (Refuse p e) rep same 11
           (test-fails (not (isServer kind)) 8 (ap not server) (test-holds (eqb (askedOf st e .number) 0) 11 _ (asked-none st e none))
           ∙ sym (refuse-rest st e p (held st p e (m .1)))) (λ z. absurd (omega arith))),
-      s .pre .0,
+      (c .before .before .before .before .before .before .before .before .before .before .pre .0, c .before .before .before .before .before .before .before .before .before .before .pre .1),
     )
 
 add-q : tie.Need-add-q
 add-q c =
     let j = c .before .j .given in
     let found = c .before .before .before .asked-at in
-    let c4 = c .before .before .before .before in
-    let count = c4 .before .count-requests in
+    let count = c .before .before .before .before .before .count-requests in
     record { fits = omega (arith, count .ensures .1, at-below (count .result) (found .result) (j .0 .0) (found .ensures .0) (j .1)) }
 
 mul-q : tie.Need-mul-q
 mul-q c =
     let j = c .before .j .given in
     let found = c .before .before .before .asked-at in
-    let c4 = c .before .before .before .before in
-    let count = c4 .before .count-requests in
+    let count = c .before .before .before .before .before .count-requests in
     record { fits = omega (arith, count .ensures .1, at-below (count .result) (found .result) (j .0 .0) (found .ensures .0) (j .1)) }
 
 slice-read-q : tie.Need-slice-read-q
 slice-read-q c =
     let j = c .before .before .j .given in
     let found = c .before .before .before .before .asked-at in
-    let c4 = c .before .before .before .before in
-    let c8 = c4 .before .before .before .before in
-    let count = c4 .before .before .count-requests in
-    let s = c8 .before .before .before in
-    omega (arith, s .pre .0, count .ensures .1, at-below (count .result) (found .result) (j .0 .0) (found .ensures .0) (j .1))
+    let count = c .before .before .before .before .before .before .count-requests in
+    omega (arith, c .before .before .before .before .before .before .before .before .before .before .before .before .pre .0, count .ensures .1, at-below (count .result) (found .result) (j .0 .0) (found .ensures .0) (j .1))
 
 close-request-requires : tie.Need-close-request-requires
 close-request-requires c κs = search needs
@@ -104,27 +95,26 @@ close-request-requires c κs = search needs
 same-length-2 : tie.Need-same-length-2
 same-length-2 c = search needs
 
+same-length-3 : tie.Need-same-length-3
+same-length-3 c = search needs
+
 returns-3 : tie.Need-returns-3
 unfolding refusals askedOf
 returns-3 c =
-    let closed = c .before .before .close-request in
-    let c4 = c .before .before .before .before in
-    let j = c4 .before .before .j .given in
-    let b = c4 .before .before .before .before in
-    let found = b .asked-at in
-    let count = b .before .before .count-requests in
-    let u = b .before .before .before .before in
-    let s = u .before .before .before in
-    let a = s .args in (
+    let closed = c .before .before .before .before .close-request in
+    let j = c .before .before .before .before .before .before .before .before .before .j .given in
+    let found = c .before .before .before .before .before .before .before .before .before .before .before .asked-at in
+    let count = c .before .before .before .before .before .before .before .before .before .before .before .before .before .count-requests in
+    let a = c .before .before .before .before .before .before .before .before .before .before .before .before .before .before .before .before .before .before .before .args in (
       (λ st p e sd rep same m.
           let kind = rowOf (st .rows) e .kind in
           let port = rowOf (st .rows) e .object in
-          let server = is-server kind (sym (row-words rep e (a .i) (m .0) .kind) ∙ u .if1 .left) in
+          let server = is-server kind (sym (row-words rep e (a .i) (m .0) .kind) ∙ c .before .before .before .before .before .before .before .before .before .before .before .before .before .before .before .if1 .left) in
           let slot = found-at (openSlot (st .requests) port) (j .0 .0) (found .ensures .1 st e (rep, count .ensures .0 st rep) (m .0)) (j .1) in
           let none = test-fails (not (isServer kind)) 8 (ap not server)
           (test-fails (eqb (askedOf st e .number) 0) 11 (asked-some st e rep (j .0 .0) slot) refl) ∙ sym (refuse-rest st e p (held st p e (m .1))) in
-          accepted-agrees st (Refuse p e) none _
-          (refused-request st p e (closed .result) _ (open-words rep port (j .0 .0) slot .number) (closed .ensures .0 st sd rep same))),
+          accepted-agrees st (Refuse p e) none
+          (refused-request st p e _ _ (open-words rep port (j .0 .0) slot .number) (closed .ensures .0 st sd rep same))),
       closed .ensures .1,
     )
 
@@ -147,4 +137,5 @@ refuse-end-spec =
     slice-read-q
     close-request-requires
     same-length-2
+    same-length-3
     returns-3)

@@ -31,40 +31,33 @@ returns : tie.Need-returns
 unfolding refusals
 returns c =
     let found = c .before .before .request-among in
-    let b = c .before .before .before .before in
-    let s = b .before .before .before in
-    let a = s .args in (
+    let a = c .before .before .before .before .before .before .before .before .args in (
       (λ st sd rep same listed.
-          let none = found-nothing (requestSlot (st .requests) (a .q)) (found .ensures .1 st (rep, b .count-requests .ensures .0 st rep)) (c .enum-told .given .1) in
-          refused-agrees st (Revoke (a .p) (a .q)) rep (a .ps) same 7 (revoke-none st (a .p) (a .q) none) (λ z. absurd (omega arith))),
-      s .pre .0,
+          let none = found-nothing (requestSlot (st .requests) (a .q)) (found .ensures .1 st (rep, c .before .before .before .before .count-requests .ensures .0 st rep)) (c .enum-told .given .1) in
+          refused-agrees st (Revoke (a .p) (a .q)) rep same 7 (revoke-none st (a .p) (a .q) none) (λ z. absurd (omega arith))),
+      (c .before .before .before .before .before .before .before .before .pre .0, c .before .before .before .before .before .before .before .before .pre .1),
     )
 
 add-if1 : tie.Need-add-if1
 add-if1 c =
     let j = c .before .j .given in
     let found = c .before .before .before .request-among in
-    let c4 = c .before .before .before .before in
-    let count = c4 .before .count-requests in
+    let count = c .before .before .before .before .before .count-requests in
     record { fits = omega (arith, count .ensures .1, at-below (count .result) (found .result) (j .0 .0) (found .ensures .0) (j .1)) }
 
 mul-if1 : tie.Need-mul-if1
 mul-if1 c =
     let j = c .before .j .given in
     let found = c .before .before .before .request-among in
-    let c4 = c .before .before .before .before in
-    let count = c4 .before .count-requests in
+    let count = c .before .before .before .before .before .count-requests in
     record { fits = omega (arith, count .ensures .1, at-below (count .result) (found .result) (j .0 .0) (found .ensures .0) (j .1)) }
 
 slice-read-if1 : tie.Need-slice-read-if1
 slice-read-if1 c =
     let j = c .before .before .j .given in
     let found = c .before .before .before .before .request-among in
-    let c4 = c .before .before .before .before in
-    let c8 = c4 .before .before .before .before in
-    let count = c4 .before .before .count-requests in
-    let s = c8 .before in
-    omega (arith, s .pre .0, count .ensures .1, at-below (count .result) (found .result) (j .0 .0) (found .ensures .0) (j .1))
+    let count = c .before .before .before .before .before .before .count-requests in
+    omega (arith, c .before .before .before .before .before .before .before .before .before .before .pre .0, count .ensures .1, at-below (count .result) (found .result) (j .0 .0) (found .ensures .0) (j .1))
 
 same-length-2 : tie.Need-same-length-2
 same-length-2 c = search needs
@@ -73,18 +66,14 @@ returns-2 : tie.Need-returns-2
 unfolding refusals
 returns-2 c =
     let j = c .before .before .before .j .given in
-    let c4 = c .before .before .before .before in
-    let b = c4 .before in
-    let found = b .request-among in
-    let count = b .before .before .count-requests in
-    let b4 = b .before .before .before .before in
-    let s = b4 .before in
-    let a = s .args in (
+    let found = c .before .before .before .before .before .request-among in
+    let count = c .before .before .before .before .before .before .before .count-requests in
+    let a = c .before .before .before .before .before .before .before .before .before .before .before .args in (
       (λ st sd rep same listed.
           let at = found-at (requestSlot (st .requests) (a .q)) (j .0 .0) (found .ensures .1 st (rep, count .ensures .0 st rep)) (j .1) in
-          refused-agrees st (Revoke (a .p) (a .q)) rep (a .ps) same 7
+          refused-agrees st (Revoke (a .p) (a .q)) rep same 7
           (revoke-other st (a .p) (a .q) (λ k. c .if1 .taken (request-words rep (a .q) (j .0 .0) at .asker ∙ k))) (λ z. absurd (omega arith))),
-      s .pre .0,
+      (c .before .before .before .before .before .before .before .before .before .before .before .pre .0, c .before .before .before .before .before .before .before .before .before .before .before .pre .1),
     )
 
 close-request-requires : tie.Need-close-request-requires
@@ -93,24 +82,22 @@ close-request-requires c κs = search needs
 same-length-3 : tie.Need-same-length-3
 same-length-3 c = search needs
 
+same-length-4 : tie.Need-same-length-4
+same-length-4 c = search needs
+
 returns-3 : tie.Need-returns-3
 unfolding refusals
 returns-3 c =
-    let closed = c .before .before .close-request in
-    let u = c .before .before .before .before in
-    let j = u .before .before .before .j .given in
-    let u4 = u .before .before .before .before in
-    let b = u4 .before in
-    let found = b .request-among in
-    let count = b .before .before .count-requests in
-    let b4 = b .before .before .before .before in
-    let s = b4 .before in
-    let a = s .args in (
+    let closed = c .before .before .before .before .close-request in
+    let j = c .before .before .before .before .before .before .before .before .before .before .j .given in
+    let found = c .before .before .before .before .before .before .before .before .before .before .before .before .request-among in
+    let count = c .before .before .before .before .before .before .before .before .before .before .before .before .before .before .count-requests in
+    let a = c .before .before .before .before .before .before .before .before .before .before .before .before .before .before .before .before .before .before .args in (
       (λ st sd rep same listed.
           let at = found-at (requestSlot (st .requests) (a .q)) (j .0 .0) (found .ensures .1 st (rep, count .ensures .0 st rep)) (j .1) in
-          let own = sym (request-words rep (a .q) (j .0 .0) at .asker) ∙ u .if1 .left in
-          accepted-agrees st (Revoke (a .p) (a .q)) (revoke-own st (a .p) (a .q) (request-some rep (a .q) (j .0 .0) at .0) own) _
-          (revoked st (a .p) (a .q) (closed .result) (closed .ensures .0 st sd rep same))),
+          let own = sym (request-words rep (a .q) (j .0 .0) at .asker) ∙ c .before .before .before .before .before .before .before .if1 .left in
+          accepted-agrees st (Revoke (a .p) (a .q)) (revoke-own st (a .p) (a .q) (request-some rep (a .q) (j .0 .0) at .0) own)
+          (revoked st (a .p) (a .q) _ (closed .ensures .0 st sd rep same))),
       closed .ensures .1,
     )
 
@@ -131,4 +118,5 @@ revoke-spec =
     returns-2
     close-request-requires
     same-length-3
+    same-length-4
     returns-3)

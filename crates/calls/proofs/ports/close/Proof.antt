@@ -33,24 +33,19 @@ returns : tie.Need-returns
 unfolding refusals refusalsClose
 returns c =
     let found = c .before .before .held-by in
-    let b = c .before .before .before .before in
-    let s = b .before .before .before in
-    let a = s .args in (
+    let a = c .before .before .before .before .before .before .before .before .args in (
       (λ st sd rep same listed.
-          let away = not-in-clist st (a .p) (a .c) (found .result) (found .ensures .1 st (rep, b .count-rows .ensures .0 st rep) (s .pre .1 .1)) (c .enum-told .given .1) in
-          refused-agrees st (Close (a .p) (a .c)) rep (a .ps) same 7 (seven (notHeld st (a .p) (a .c)) _ (not-held st (a .p) (a .c) away)) (λ z. absurd (omega arith))),
-      s .pre .0,
+          let away = not-in-clist st (a .p) (a .c) (found .result) (found .ensures .1 st (rep, c .before .before .before .before .count-rows .ensures .0 st rep) (c .before .before .before .before .before .before .before .before .pre .2 .1)) (c .enum-told .given .1) in
+          refused-agrees st (Close (a .p) (a .c)) rep same 7 (seven (notHeld st (a .p) (a .c)) _ (not-held st (a .p) (a .c) away)) (λ z. absurd (omega arith))),
+      (c .before .before .before .before .before .before .before .before .pre .0, c .before .before .before .before .before .before .before .before .pre .1),
     )
 
 close-refusal-requires : tie.Need-close-refusal-requires
 close-refusal-requires c κs =
     let i = c .before .before .i .given in
-    let b = c .before .before .before .before in
-    let found = b .held-by in
-    let count = b .before .before .count-rows in
-    let b4 = b .before .before .before .before in
-    let s = b4 .before in
-    (s .pre .0, omega (arith, count .ensures .1, at-below (count .result) (found .result) (i .0 .0) (found .ensures .0) (i .1)))
+    let found = c .before .before .before .before .held-by in
+    let count = c .before .before .before .before .before .before .count-rows in
+    (c .before .before .before .before .before .before .before .before .before .before .pre .0, omega (arith, count .ensures .1, at-below (count .result) (found .result) (i .0 .0) (found .ensures .0) (i .1)))
 
 same-length-2 : tie.Need-same-length-2
 same-length-2 c = search needs
@@ -60,17 +55,13 @@ unfolding refusals
 returns-2 c =
     let no = c .before .close-refusal in
     let i = c .before .before .before .before .i .given in
-    let c4 = c .before .before .before .before in
-    let b = c4 .before .before in
-    let found = b .held-by in
-    let count = b .before .before .count-rows in
-    let b4 = b .before .before .before .before in
-    let s = b4 .before in
-    let a = s .args in (
+    let found = c .before .before .before .before .before .before .held-by in
+    let count = c .before .before .before .before .before .before .before .before .count-rows in
+    let a = c .before .before .before .before .before .before .before .before .before .before .before .before .args in (
       (λ st sd rep same listed.
-          let here = found-in st (inClist (a .p)) (a .c) (found .result) (i .0 .0) (found .ensures .1 st (rep, count .ensures .0 st rep) (s .pre .1 .1)) (i .1) in
-          refused-agrees st (Close (a .p) (a .c)) rep (a .ps) same (no .result) (no .ensures st (a .p) sd rep here) (c .if1 .taken)),
-      s .pre .0,
+          let here = found-in st (inClist (a .p)) (a .c) (found .result) (i .0 .0) (found .ensures .1 st (rep, count .ensures .0 st rep) (c .before .before .before .before .before .before .before .before .before .before .before .before .pre .2 .1)) (i .1) in
+          refused-agrees st (Close (a .p) (a .c)) rep same (no .result) (no .ensures st (a .p) sd rep here) (c .if1 .taken)),
+      (c .before .before .before .before .before .before .before .before .before .before .before .before .pre .0, c .before .before .before .before .before .before .before .before .before .before .before .before .pre .1),
     )
 
 close-port-requires : tie.Need-close-port-requires
@@ -79,24 +70,22 @@ close-port-requires c κs = search needs
 same-length-3 : tie.Need-same-length-3
 same-length-3 c = search needs
 
+same-length-4 : tie.Need-same-length-4
+same-length-4 c = search needs
+
 returns-3 : tie.Need-returns-3
 unfolding refusals
 returns-3 c =
-    let closed = c .before .before .close-port in
-    let u = c .before .before .before .before in
-    let no = u .before .close-refusal in
-    let i = u .before .before .before .before .i .given in
-    let u4 = u .before .before .before .before in
-    let b = u4 .before .before in
-    let found = b .held-by in
-    let count = b .before .before .count-rows in
-    let b4 = b .before .before .before .before in
-    let s = b4 .before in
-    let a = s .args in (
+    let closed = c .before .before .before .before .close-port in
+    let no = c .before .before .before .before .before .before .before .before .close-refusal in
+    let i = c .before .before .before .before .before .before .before .before .before .before .before .i .given in
+    let found = c .before .before .before .before .before .before .before .before .before .before .before .before .before .held-by in
+    let count = c .before .before .before .before .before .before .before .before .before .before .before .before .before .before .before .count-rows in
+    let a = c .before .before .before .before .before .before .before .before .before .before .before .before .before .before .before .before .before .before .before .args in (
       (λ st sd rep same listed.
-          let here = found-in st (inClist (a .p)) (a .c) (found .result) (i .0 .0) (found .ensures .1 st (rep, count .ensures .0 st rep) (s .pre .1 .1)) (i .1) in
-          accepted-agrees st (Close (a .p) (a .c)) (sym (u .if1 .left) ∙ no .ensures st (a .p) sd rep here) _
-          (closed-port st (a .p) (a .c) (closed .result) (closed .ensures .0 st sd rep same))),
+          let here = found-in st (inClist (a .p)) (a .c) (found .result) (i .0 .0) (found .ensures .1 st (rep, count .ensures .0 st rep) (c .before .before .before .before .before .before .before .before .before .before .before .before .before .before .before .before .before .before .before .pre .2 .1)) (i .1) in
+          accepted-agrees st (Close (a .p) (a .c)) (sym (c .before .before .before .before .before .before .before .if1 .left) ∙ no .ensures st (a .p) sd rep here)
+          (closed-port st (a .p) (a .c) _ (closed .ensures .0 st sd rep same))),
       closed .ensures .1,
     )
 
@@ -115,4 +104,5 @@ close-spec =
     returns-2
     close-port-requires
     same-length-3
+    same-length-4
     returns-3)

@@ -32,13 +32,12 @@ slice-read-if1 c = search needs
 returns : tie.Need-returns
 unfolding refusals
 returns c =
-    let s = c .before .before .before in
-    let a = s .args in (
+    let a = c .before .before .before .before .args in (
       (λ st e sd rep count same m few.
           let kind = rowOf (st .rows) e .kind in
           let other = no-server kind (λ k. c .if1 .taken (row-words rep e (a .i) (m .0) .kind ∙ k)) in
-          refused-agrees st (Reply (a .p) e) rep (a .ps) same 8 (test-holds (not (isServer kind)) 8 _ other ∙ sym (reply-rest st (a .p) e (held st (a .p) e (m .1)))) (λ z. absurd (omega arith))),
-      s .pre .0,
+          refused-agrees st (Reply (a .p) e) rep same 8 (test-holds (not (isServer kind)) 8 _ other ∙ sym (reply-rest st (a .p) e (held st (a .p) e (m .1)))) (λ z. absurd (omega arith))),
+      (c .before .before .before .before .pre .0, c .before .before .before .before .pre .1),
     )
 
 count-requests-requires : tie.Need-count-requests-requires
@@ -60,31 +59,25 @@ returns-2 : tie.Need-returns-2
 unfolding refusals
 returns-2 c =
     let found = c .before .before .asked-at in
-    let b = c .before .before .before .before in
-    let b4 = b .before .before .before .before in
-    let s = b4 .before in
-    let a = s .args in (
+    let a = c .before .before .before .before .before .before .before .before .before .before .args in (
       (λ st e sd rep count same m few.
           let kind = rowOf (st .rows) e .kind in
           let v = askedOf st e in
-          let server = is-server kind (sym (row-words rep e (a .i) (m .0) .kind) ∙ b .before .before .if1 .left) in
+          let server = is-server kind (sym (row-words rep e (a .i) (m .0) .kind) ∙ c .before .before .before .before .before .before .if1 .left) in
           let none = found-nothing (openSlot (st .requests) (rowOf (st .rows) e .object))
-          (found .ensures .1 st e (rep, b .count-requests .ensures .0 st rep) (m .0)) (c .enum-told .given .1) in
+          (found .ensures .1 st e (rep, c .before .before .before .before .count-requests .ensures .0 st rep) (m .0)) (c .enum-told .given .1) in
           let eleven = test-holds (eqb (v .number) 0 || not (isFetched v)) 11 _ (or-l (eqb (v .number) 0) (not (isFetched v)) (asked-none st e none)) in
-          refused-agrees st (Reply (a .p) e) rep (a .ps) same 11
+          refused-agrees st (Reply (a .p) e) rep same 11
           (test-fails (not (isServer kind)) 8 (ap not server) (test-fails _ 10 (none-lent st e none _) eleven) ∙ sym (reply-rest st (a .p) e (held st (a .p) e (m .1)))) (λ z. absurd (omega arith))),
-      s .pre .0,
+      (c .before .before .before .before .before .before .before .before .before .before .pre .0, c .before .before .before .before .before .before .before .before .before .before .pre .1),
     )
 
 reply-refusal-requires : tie.Need-reply-refusal-requires
 reply-refusal-requires c κs =
     let j = c .before .before .j .given in
     let found = c .before .before .before .before .asked-at in
-    let c4 = c .before .before .before .before in
-    let c8 = c4 .before .before .before .before in
-    let count = c4 .before .before .count-requests in
-    let s = c8 .before .before .before in
-    (s .pre .0, s .pre .1, count .ensures .1, omega (arith, count .ensures .1, at-below (count .result) (found .result) (j .0 .0) (found .ensures .0) (j .1)))
+    let count = c .before .before .before .before .before .before .count-requests in
+    (c .before .before .before .before .before .before .before .before .before .before .before .before .pre .0, c .before .before .before .before .before .before .before .before .before .before .before .before .pre .2, count .ensures .1, omega (arith, count .ensures .1, at-below (count .result) (found .result) (j .0 .0) (found .ensures .0) (j .1)))
 
 same-length-2 : tie.Need-same-length-2
 same-length-2 c = search needs
@@ -94,47 +87,37 @@ unfolding refusals
 returns-3 c =
     let no = c .before .reply-refusal in
     let j = c .before .before .before .before .j .given in
-    let c4 = c .before .before .before .before in
-    let b = c4 .before .before in
-    let found = b .asked-at in
-    let counted = b .before .before .count-requests in
-    let u = b .before .before .before .before in
-    let s = u .before .before .before in
-    let a = s .args in (
+    let found = c .before .before .before .before .before .before .asked-at in
+    let counted = c .before .before .before .before .before .before .before .before .count-requests in
+    let a = c .before .before .before .before .before .before .before .before .before .before .before .before .before .before .args in (
       (λ st e sd rep count same m few.
           let requests = counted .ensures .0 st rep in
-          let server = is-server (rowOf (st .rows) e .kind) (sym (row-words rep e (a .i) (m .0) .kind) ∙ u .if1 .left) in
+          let server = is-server (rowOf (st .rows) e .kind) (sym (row-words rep e (a .i) (m .0) .kind) ∙ c .before .before .before .before .before .before .before .before .before .before .if1 .left) in
           let slot = found-at (openSlot (st .requests) (rowOf (st .rows) e .object)) (j .0 .0) (found .ensures .1 st e (rep, requests) (m .0)) (j .1) in
-          refused-agrees st (Reply (a .p) e) rep (a .ps) same (no .result) (no .ensures st e (rep, count, requests) (m .1, server, slot) few) (c .if2 .taken)),
-      s .pre .0,
+          refused-agrees st (Reply (a .p) e) rep same (no .result) (no .ensures st e (rep, count, requests) (m .1, server, slot) few) (c .if2 .taken)),
+      (c .before .before .before .before .before .before .before .before .before .before .before .before .before .before .pre .0, c .before .before .before .before .before .before .before .before .before .before .before .before .before .before .pre .1),
     )
 
 add-q : tie.Need-add-q
 add-q c =
     let j = c .before .before .before .before .j .given in
-    let c4 = c .before .before .before .before in
-    let found = c4 .before .before .asked-at in
-    let count = c4 .before .before .before .before .count-requests in
+    let found = c .before .before .before .before .before .before .asked-at in
+    let count = c .before .before .before .before .before .before .before .before .count-requests in
     record { fits = omega (arith, count .ensures .1, at-below (count .result) (found .result) (j .0 .0) (found .ensures .0) (j .1)) }
 
 mul-q : tie.Need-mul-q
 mul-q c =
     let j = c .before .before .before .before .j .given in
-    let c4 = c .before .before .before .before in
-    let found = c4 .before .before .asked-at in
-    let count = c4 .before .before .before .before .count-requests in
+    let found = c .before .before .before .before .before .before .asked-at in
+    let count = c .before .before .before .before .before .before .before .before .count-requests in
     record { fits = omega (arith, count .ensures .1, at-below (count .result) (found .result) (j .0 .0) (found .ensures .0) (j .1)) }
 
 slice-read-q : tie.Need-slice-read-q
 slice-read-q c =
-    let c4 = c .before .before .before .before in
-    let c8 = c4 .before .before .before .before in
-    let c12 = c8 .before .before .before .before in
-    let j = c4 .before .j .given in
-    let found = c4 .before .before .before .asked-at in
-    let count = c8 .before .count-requests in
-    let s = c12 .before .before in
-    omega (arith, s .pre .0, count .ensures .1, at-below (count .result) (found .result) (j .0 .0) (found .ensures .0) (j .1))
+    let j = c .before .before .before .before .before .j .given in
+    let found = c .before .before .before .before .before .before .before .asked-at in
+    let count = c .before .before .before .before .before .before .before .before .before .count-requests in
+    omega (arith, c .before .before .before .before .before .before .before .before .before .before .before .before .before .before .before .pre .0, count .ensures .1, at-below (count .result) (found .result) (j .0 .0) (found .ensures .0) (j .1))
 
 close-request-requires : tie.Need-close-request-requires
 close-request-requires c κs = search needs
@@ -142,28 +125,25 @@ close-request-requires c κs = search needs
 same-length-3 : tie.Need-same-length-3
 same-length-3 c = search needs
 
+same-length-4 : tie.Need-same-length-4
+same-length-4 c = search needs
+
 returns-4 : tie.Need-returns-4
 unfolding refusals askedOf
 returns-4 c =
-    let closed = c .before .before .close-request in
-    let c4 = c .before .before .before .before in
-    let w = c4 .before in
-    let no = w .before .reply-refusal in
-    let j = w .before .before .before .before .j .given in
-    let w4 = w .before .before .before .before in
-    let b = w4 .before .before in
-    let found = b .asked-at in
-    let counted = b .before .before .count-requests in
-    let u = b .before .before .before .before in
-    let s = u .before .before .before in
-    let a = s .args in (
+    let closed = c .before .before .before .before .close-request in
+    let no = c .before .before .before .before .before .before .before .before .before .reply-refusal in
+    let j = c .before .before .before .before .before .before .before .before .before .before .before .before .j .given in
+    let found = c .before .before .before .before .before .before .before .before .before .before .before .before .before .before .asked-at in
+    let counted = c .before .before .before .before .before .before .before .before .before .before .before .before .before .before .before .before .count-requests in
+    let a = c .before .before .before .before .before .before .before .before .before .before .before .before .before .before .before .before .before .before .before .before .before .before .args in (
       (λ st e sd rep count same m few.
           let port = rowOf (st .rows) e .object in
           let requests = counted .ensures .0 st rep in
-          let server = is-server (rowOf (st .rows) e .kind) (sym (row-words rep e (a .i) (m .0) .kind) ∙ u .if1 .left) in
+          let server = is-server (rowOf (st .rows) e .kind) (sym (row-words rep e (a .i) (m .0) .kind) ∙ c .before .before .before .before .before .before .before .before .before .before .before .before .before .before .before .before .before .before .if1 .left) in
           let slot = found-at (openSlot (st .requests) port) (j .0 .0) (found .ensures .1 st e (rep, requests) (m .0)) (j .1) in
-          accepted-agrees st (Reply (a .p) e) (sym (w .if2 .left) ∙ no .ensures st e (rep, count, requests) (m .1, server, slot) few) _
-          (replied-request st (a .p) e (closed .result) _ (open-words rep port (j .0 .0) slot .number) (closed .ensures .0 st sd rep same))),
+          accepted-agrees st (Reply (a .p) e) (sym (c .before .before .before .before .before .before .before .before .if2 .left) ∙ no .ensures st e (rep, count, requests) (m .1, server, slot) few)
+          (replied-request st (a .p) e _ _ (open-words rep port (j .0 .0) slot .number) (closed .ensures .0 st sd rep same))),
       closed .ensures .1,
     )
 
@@ -189,4 +169,5 @@ reply-end-spec =
     slice-read-q
     close-request-requires
     same-length-3
+    same-length-4
     returns-4)
