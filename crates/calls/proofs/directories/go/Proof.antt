@@ -58,14 +58,14 @@ add-if2 c =
     let i = c .before .i .given in
     let found = c .before .before .before .held-by in
     let count = c .before .before .before .before .count-rows in
-    record { fits = omega (arith, count .ensures .1, at-below (count .result) (found .result) (i .0 .0) (found .ensures .0) (i .1)); }
+    record { fits = omega (arith, count .ensures .1, at-below (count .result) (found .result) (i .0 .0) (found .ensures .0) (i .1)) }
 
 mul-if2 : tie.Need-mul-if2
 mul-if2 c =
     let i = c .before .i .given in
     let found = c .before .before .before .held-by in
     let count = c .before .before .before .before .count-rows in
-    record { fits = omega (arith, count .ensures .1, at-below (count .result) (found .result) (i .0 .0) (found .ensures .0) (i .1)); }
+    record { fits = omega (arith, count .ensures .1, at-below (count .result) (found .result) (i .0 .0) (found .ensures .0) (i .1)) }
 
 shared-slice-read-if2 : tie.Need-shared-slice-read-if2
 shared-slice-read-if2 c =
