@@ -1,4 +1,4 @@
--- A refused call changes nothing: no effect answers a refusal, and words that represent one state are the same words.
+-- A refused call changes nothing: no effect answers a refusal, and words that represent one state are the same words. Both runs after a call.
 use Prim.Native.Nat.{ℕ}
 use mathlib.Core.Bool.{Bool, true, false, cond}
 use mathlib.Core.List.{List}
@@ -6,7 +6,7 @@ use mathlib.Core.Path.{_≡_, refl, ap, sym, subst, _∙_}
 use native.Mathlib.Omega.{arith}
 use lib.Dec.{eqb}
 use Rattle.rows.specs.Tables.{State}
-use Rattle.rows.specs.Layout.{recordsOf}
+use Rattle.rows.specs.Layout.{recordsIn, recordsOf}
 use Rattle.rows.specs.contracts.Represents.{Represents}
 use Rattle.rows.proofs.LayoutRequests.{records-words}
 use Rattle.rows.specs.contracts.Sizes.{IsTables, IsRecords}
@@ -14,9 +14,9 @@ use Rattle.calls.specs.declared.Answer.the-variants.{Refused}
 use Rattle.calls.specs.declared.Answer.{Answer}
 use Rattle.calls.specs.declared.Call.{Call}
 use Rattle.calls.specs.declared.Call.the-variants.{Go, Hold, Register, Drop, Port, Close, Ask, Fetch, Reply, Refuse, Revoke, Comes}
-use Rattle.calls.specs.Rules.{lowest, refused, judge}
+use Rattle.calls.specs.Rules.{Out, lowest, refused, judge}
 use Rattle.calls.specs.Calls.{refusals, done, made, fetchedAnswer, effect, perform}
-use Rattle.calls.specs.contracts.Performs.{Performs, StaysIfRefused}
+use Rattle.calls.specs.contracts.Performs.{Agrees, RunsAfter, Performs, StaysIfRefused}
 
 -- what is done answers no refusal
 effect-accepts : (st : State) (c : Call) (k : ℕ) → effect st c .answer ≡ Refused k → ⊥
@@ -61,3 +61,7 @@ module _ (t after : List ℕ) (ps left : List ℕ) (r : Answer) (long : IsRecord
   carried c d e h =
       let own = subst (λ (x : Call). Performs t ps x after left r) (sym e) h in
       (own, (refused-writes-nothing c own, kept))
+
+-- records that are read as the definition's are its words
+pub runs-after : (u v : List ℕ) (r : Answer) (o : Out) → IsRecords v → Agrees u (recordsIn v) r o → RunsAfter u v o × (r ≡ o .answer)
+runs-after u v r o long a = ((a .words, sym (records-words 64 v long) ∙ ap recordsOf (a .records)), a .answer)

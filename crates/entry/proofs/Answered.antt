@@ -16,10 +16,9 @@ use Rattle.calls.specs.declared.Call.{Call}
 use Rattle.calls.specs.declared.Answer.the-variants.{Refused}
 use Rattle.calls.specs.Rules.{Out, judge, lowest, refused}
 use Rattle.calls.specs.Calls.{perform, callerOf}
-use Rattle.calls.specs.contracts.Performs.{CallerListed}
+use Rattle.calls.specs.contracts.Performs.{RunsAfter, CallerListed}
 use Rattle.text.specs.declared.Reading.the-variants.{Asks, Crowded}
 use Rattle.text.specs.Entry.{callerUnlisted, answered}
-use Rattle.entry.specs.contracts.Entries.{RunsAfter}
 
 -- a refused line leaves both runs
 pub state-stays : (t p : List ℕ) (st : State) (o : Out) → o .after ≡ st → IsRecords p → Represents t st → st .processes ≡ recordsIn p → RunsAfter t p o

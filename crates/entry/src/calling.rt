@@ -1,7 +1,7 @@
 // The entry point call: one line of any bytes on tables of any content.
 use calls::Answer;
 use calls::Call;
-use calls::perform;
+use calls::perform::perform;
 use rows::records;
 use soundness::sound;
 use text::Reading;
@@ -14,7 +14,7 @@ ghost use Rattle.calls.specs.Calls.{callerOf};
 ghost use Rattle.calls.specs.contracts.Performs.{CallerInRange};
 ghost use Rattle.text.specs.declared.Reading.the-variants.{Asks};
 ghost use Rattle.text.specs.Entry.{answered, callEntry};
-ghost use Rattle.entry.specs.contracts.Entries.{TellsUnlisted, PerformsOn, AnswersOn};
+ghost use Rattle.entry.specs.contracts.Entries.{TellsUnlisted, AnswersOn};
 ghost use Rattle.entry.specs.contracts.Entries.{AnswersCrowded, ReadInRange, Replies};
 
 // ---- the caller
@@ -48,18 +48,6 @@ fn is_unlisted(p: &[u32], c: Call) -> bool
 }
 
 // ---- a call that was read
-// Carries out a call on both runs. Ruled out: the records stay as they were; they are those of another call.
-pub fn carry_out(t: &mut [u32], p: &mut [u32], c: Call) -> Answer
-    requires { ⌜ IsTables (now t) × IsRecords (now p) × CallerInRange c ⌝ }
-    ensures { λ r. ⌜ PerformsOn (now (t .entry)) (now (p .entry)) c (now (t .exit)) (now (p .exit)) r ⌝ }
-{
-    let ps = records::load(p);
-    let done = perform::perform(t, ps, c);
-    let left = done.records;
-    records::store(left, p);
-    done.answer
-}
-
 // A call of any caller: 5, or what the call answers.
 fn answer_call(t: &mut [u32], p: &mut [u32], c: Call) -> Answer
     requires { ⌜ IsTables (now t) × IsRecords (now p) × CallerInRange c ⌝ }
@@ -69,7 +57,7 @@ fn answer_call(t: &mut [u32], p: &mut [u32], c: Call) -> Answer
     if is_unlisted(p, c) {
         return Answer::Refused(5);
     }
-    carry_out(t, p, c)
+    perform(t, p, c)
 }
 
 // An ask of a caller with too many items: 5 comes before 6.

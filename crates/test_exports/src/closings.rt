@@ -2,7 +2,6 @@
 use closing::close;
 use rows::layout::RECORDS;
 use rows::layout::TABLES;
-use rows::records;
 ghost use Rattle.closing.specs.Closing.{closeRequest, closePort, dropRow};
 ghost use Rattle.test_exports.specs.contracts.Exports.{Closes, BothStay};
 
@@ -17,9 +16,7 @@ pub extern "C" fn kernel_close_request(t: &mut [u32], p: &mut [u32], q: u32)
     if p.len() != RECORDS {
         return;
     }
-    let ps = records::load(p);
-    let after = close::close_request(t, ps, q);
-    records::store(after, p);
+    close::close_request(t, p, q);
 }
 
 #[no_mangle]
@@ -33,9 +30,7 @@ pub extern "C" fn kernel_close_port(t: &mut [u32], p: &mut [u32], c: u32)
     if p.len() != RECORDS {
         return;
     }
-    let ps = records::load(p);
-    let after = close::close_port(t, ps, c);
-    records::store(after, p);
+    close::close_port(t, p, c);
 }
 
 #[no_mangle]
@@ -49,7 +44,5 @@ pub extern "C" fn kernel_drop_row(t: &mut [u32], p: &mut [u32], e: u32)
     if p.len() != RECORDS {
         return;
     }
-    let ps = records::load(p);
-    let after = close::drop_row(t, ps, e);
-    records::store(after, p);
+    close::drop_row(t, p, e);
 }

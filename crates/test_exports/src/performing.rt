@@ -3,7 +3,7 @@ use calls::Answer;
 use calls::Call;
 use calls::Item;
 use calls::Items;
-use entry::calling::carry_out;
+use calls::perform::perform;
 use rows::codes::LAST_PROCESS;
 use rows::layout::RECORDS;
 use rows::layout::TABLES;
@@ -117,6 +117,6 @@ pub extern "C" fn kernel_perform(
         return;
     }
     let c = call_of(w);
-    let answer = carry_out(t, p, c);
+    let answer = perform(t, p, c);
     *out = words_of(answer);
 }

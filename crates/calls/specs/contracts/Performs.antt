@@ -11,7 +11,7 @@ use Rattle.rows.specs.Lists.{any, member, some}
 use Rattle.rows.specs.Codes.{isSubdirectory, isServer, inClist, inNode}
 use Rattle.rows.specs.Tables.{State, rowOf, processAt, isListed, sources, isLent}
 use Rattle.rows.specs.Sound.{sound}
-use Rattle.rows.specs.Layout.{rowSlot, recordsIn}
+use Rattle.rows.specs.Layout.{rowSlot, recordsIn, recordsOf}
 use Rattle.rows.specs.contracts.Represents.{Represents}
 use Rattle.rows.specs.contracts.Slots.{foundSlot, openSlot}
 use Rattle.rows.specs.contracts.Sizes.{ROWS, PROCESSES}
@@ -35,6 +35,10 @@ pub record Agrees (after : List ℕ) (left : List Process) (r : Answer) (o : Out
   pub answer : r ≡ o .answer
   pub words : Represents after (o .after)
   pub records : left ≡ o .after .processes
+
+-- both runs are those of the definition, word for word
+abbrev pub RunsAfter : List ℕ → List ℕ → Out → Type 0
+RunsAfter u v o = Represents u (o .after) × (v ≡ recordsOf (o .after .processes))
 
 -- the caller is listed; comes has none
 abbrev pub CallerListed : State → Call → Type 0

@@ -6,13 +6,12 @@ use mathlib.Core.Path.{_≡_}
 use lib.ListN.{length, drop, take}
 use Rattle.rows.specs.Tables.{State}
 use Rattle.rows.specs.Sound.{sound}
-use Rattle.rows.specs.Layout.{recordsIn, recordsOf}
+use Rattle.rows.specs.Layout.{recordsIn}
 use Rattle.rows.specs.contracts.Represents.{Represents}
 use Rattle.calls.specs.declared.Answer.{Answer}
 use Rattle.calls.specs.declared.Call.{Call}
 use Rattle.calls.specs.Rules.{Out}
-use Rattle.calls.specs.Calls.{perform}
-use Rattle.calls.specs.contracts.Performs.{CallerListed, CallerInRange}
+use Rattle.calls.specs.contracts.Performs.{RunsAfter, CallerInRange}
 use Rattle.text.specs.declared.Reading.{Reading}
 use Rattle.text.specs.declared.Reading.the-variants.{Asks, Crowded}
 use Rattle.text.specs.declared.Reply.{Reply}
@@ -21,21 +20,11 @@ use Rattle.text.specs.contracts.Replies.{inReply}
 use Rattle.text.specs.contracts.Sizes.{REPLY}
 
 -- ---- on sound tables
--- both runs after it are those of the definition
-abbrev pub RunsAfter : List ℕ → List ℕ → Out → Type 0
-RunsAfter u v o = Represents u (o .after) × (v ≡ recordsOf (o .after .processes))
-
 -- the sound tables t with the records p become u with the records v, and r is answered, as f says
 abbrev pub AnswersOn : List ℕ → List ℕ → (State → Out) → List ℕ → List ℕ → Answer → Type 0
 AnswersOn t p f u v r =
     (st : State) → sound st ≡ true → Represents t st → st .processes ≡ recordsIn p
     → RunsAfter u v (f st) × (r ≡ f st .answer)
-
--- the same of a call whose caller is listed
-abbrev pub PerformsOn : List ℕ → List ℕ → Call → List ℕ → List ℕ → Answer → Type 0
-PerformsOn t p c u v r =
-    (st : State) → sound st ≡ true → Represents t st → st .processes ≡ recordsIn p → CallerListed st c
-    → RunsAfter u v (perform st c) × (r ≡ perform st c .answer)
 
 -- r says whether the caller is not listed
 abbrev pub TellsUnlisted : List ℕ → Call → Bool → Type 0

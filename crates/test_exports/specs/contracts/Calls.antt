@@ -19,8 +19,7 @@ use Rattle.calls.specs.declared.Call.{Call}
 use Rattle.calls.specs.declared.Call.the-variants.{Go, Hold, Register, Drop, Port, Close, Ask, Fetch, Reply, Refuse, Revoke, Comes}
 use Rattle.calls.specs.Rules.{Out}
 use Rattle.calls.specs.Calls.{perform}
-use Rattle.calls.specs.contracts.Performs.{CallerListed}
-use Rattle.entry.specs.contracts.Entries.{RunsAfter}
+use Rattle.calls.specs.contracts.Performs.{RunsAfter, CallerListed}
 use Rattle.test_exports.specs.contracts.Exports.{Unless}
 
 -- ---- a call in words: its code, its two numbers, row and rights of each item of an ask

@@ -2,6 +2,7 @@
 use borrow.Author.Needs.{needs}
 use mathlib.Core.Path.{sym, refl, _∙_}
 use Rattle.calls.specs.Rules.{refused}
+use Rattle.calls.proofs.Carried.{runs-after}
 use Rattle.entry.proofs.Answered.{refused-stays, unlisted-refused, listed-performed, caller-listed}
 use Rattle.entry.proofs.calling.answer_call.Statement.{statement}
 use Rattle.entry.proofs.calling.answer_call.Tie as tie
@@ -18,8 +19,8 @@ returns c = λ st sd rep same.
     let e = sym (c .before .is-unlisted .ensures st same) ∙ c .if1 .taken in
     rw (unlisted-refused st _ e) (refused-stays _ _ st 5 (c .before .before .before .before .before .pre .1) rep same, refl)
 
-carry-out-requires : tie.Need-carry-out-requires
-carry-out-requires c κs = search needs
+perform-requires : tie.Need-perform-requires
+perform-requires c κs = search needs
 
 same-length-2 : tie.Need-same-length-2
 same-length-2 c = search needs
@@ -29,8 +30,9 @@ same-length-3 c = search needs
 
 returns-2 : tie.Need-returns-2
 returns-2 c = λ st sd rep same.
+    let done = c .before .before .before .before .perform in
     let e = sym (c .before .before .before .before .before .before .before .before .is-unlisted .ensures st same) ∙ c .before .before .before .before .before .before .before .if1 .left in
-    rw (listed-performed st _ e) (c .before .before .before .before .carry-out .ensures st sd rep same (caller-listed st _ e))
+    rw (listed-performed st _ e) (runs-after _ _ _ _ (done .ensures .1 .1 .1) (done .ensures .0 st sd rep same (caller-listed st _ e)))
 
 pub answer-call-spec : {M : Type 1} → statement M
 answer-call-spec =
@@ -39,7 +41,7 @@ answer-call-spec =
     is-unlisted-requires
     same-length
     returns
-    carry-out-requires
+    perform-requires
     same-length-2
     same-length-3
     returns-2)

@@ -5,8 +5,8 @@ use denote.Ref.{now}
 use lib.ListN.{getD}
 use Rattle.rows.proofs.Bools.{clash, not-t, not-f}
 use Rattle.calls.specs.declared.Call.{Call}
-use Rattle.calls.specs.contracts.Performs.{CallerInRange}
-use Rattle.entry.specs.contracts.Entries.{PerformsOn}
+use Rattle.calls.specs.contracts.Performs.{CallerInRange, Performs}
+use Rattle.calls.proofs.Carried.{runs-after}
 use Rattle.test_exports.specs.contracts.Calls.{itemsOfWords, wordsOfAnswer}
 use Rattle.test_exports.proofs.CallWords.{fits-in-range}
 use Rattle.test_exports.proofs.performing.kernel_perform.Statement.{statement}
@@ -29,8 +29,8 @@ returns-3 c =
 call-of-requires : tie.Need-call-of-requires
 call-of-requires c κs = search needs
 
-carry-out-requires : tie.Need-carry-out-requires
-carry-out-requires c κs =
+perform-requires : tie.Need-perform-requires
+perform-requires c κs =
     let fit = c .before .before .before .before .caller-fits in
     let w = now (c .before .before .before .before .before .before .before .before .before .args .w) in
     let range = fits-in-range (getD w 0 0) (getD w 1 0) (getD w 2 0) (itemsOfWords w) (sym (fit .ensures) ∙ not-f (fit .result) (c .before .before .before .if3 .left)) in
@@ -47,12 +47,12 @@ same-length-2 c = search needs
 
 returns-4 : tie.Need-returns-4
 returns-4 c =
-    let done = c .before .before .before .before .before .carry-out in
+    let done = c .before .before .before .before .before .perform in
     let fit = c .before .before .before .before .before .before .before .before .before .before .caller-fits in
     let a = c .before .before .before .before .before .before .before .before .before .before .before .before .before .before .before .args in
-    let own = subst (λ (x : Call). PerformsOn (now (a .t)) (now (a .p)) x (done .last .0) (done .last .1 .0) (done .result)) (c .before .before .before .before .before .before .before .before .call-of .ensures) (done .ensures) in (
+    let own = subst (λ (x : Call). Performs (now (a .t)) (now (a .p)) x (done .last .0) (done .last .1 .0) (done .result)) (c .before .before .before .before .before .before .before .before .call-of .ensures) (done .ensures .0) in (
       (λ fits st sd rep same listed.
-          let after = own st sd rep same listed in
+          let after = runs-after _ _ _ _ (done .ensures .1 .1 .1) (own st sd rep same listed) in
           (after .0, c .words-of .ensures ∙ ap wordsOfAnswer (after .1))),
       (λ not. absurd (not (c .before .before .before .before .before .before .before .before .before .before .before .before .if1 .left, c .before .before .before .before .before .before .before .before .before .before .before .if2 .left, sym (fit .ensures) ∙ not-f (fit .result) (c .before .before .before .before .before .before .before .before .before .if3 .left)))),
     )
@@ -66,7 +66,7 @@ kernel-perform-spec =
     caller-fits-requires
     returns-3
     call-of-requires
-    carry-out-requires
+    perform-requires
     words-of-requires
     same-length
     same-length-2
