@@ -21,10 +21,6 @@ use Rattle.rows.proofs.LayoutRequests.{length-records, records-words}
 abbrev pub recordAt : List ℕ → ℕ → Process
 recordAt p k = record { prime = getD p (3 * k) 0; active = getD p (3 * k + 1) 0; through = getD p (3 * k + 2) 0 }
 
--- the first i records are in the words
-abbrev pub Through : List Process → List ℕ → ℕ → Type 0
-Through ps p i = (k : ℕ) → k < i → getD ps k noProcess ≡ recordAt p k
-
 pub record-at : (n : ℕ) (p : List ℕ) → length p ≡ 3 * n → (k : ℕ) → k < n → getD (recordsIn p) k noProcess ≡ recordAt p k
 unfolding recordsIn
 record-at zero p e k h = absurd (not-suc-le-zero h)
@@ -42,16 +38,18 @@ record-at (suc n) (a ∷ b ∷ c ∷ p) e (suc k) h =
 pub length-in : (n : ℕ) (p : List ℕ) → length p ≡ 3 * n → length (recordsIn p) ≡ n
 length-in n p e = omega (arith, length-records (recordsIn p), ap length (records-words n p e))
 
--- all of them are
-pub through-all : (n : ℕ) (ps : List Process) (p : List ℕ) → length ps ≡ n → length p ≡ 3 * n → Through ps p n → ps ≡ recordsIn p
-through-all n ps p l e h =
-    ext-getD noProcess ps (recordsIn p) (l ∙ sym (length-in n p e)) (λ k lt. h k (omega arith) ∙ sym (record-at n p e k (omega arith)))
+-- the first i records of two lists are the same
+abbrev pub SameTo : List Process → List Process → ℕ → Type 0
+SameTo xs ys i = (k : ℕ) → k < i → getD xs k noProcess ≡ getD ys k noProcess
 
--- a record is read
-pub through-read : (ps : List Process) (p : List ℕ) (i : ℕ) → i < length ps → Through ps p i → Through (set ps i (recordAt p i)) p (i + 1)
-through-read ps p i h t =
-    below-more (λ k. getD (set ps i (recordAt p i)) k noProcess ≡ recordAt p k) i
-    (λ k lt. getD-set-other ps i k (recordAt p i) noProcess (λ e. omega arith) ∙ t k lt) (getD-set-same ps i (recordAt p i) noProcess h)
+pub same-more : (xs ys : List Process) (i : ℕ) → i < length xs → SameTo xs ys i → SameTo (set xs i (getD ys i noProcess)) ys (i + 1)
+same-more xs ys i h t =
+    let x : Process = getD ys i noProcess in
+    below-more (λ k. getD (set xs i x) k noProcess ≡ getD ys k noProcess) i
+    (λ k lt. getD-set-other xs i k x noProcess (λ e. omega arith) ∙ t k lt) (getD-set-same xs i x noProcess h)
+
+pub same-all : (n : ℕ) (xs ys : List Process) → length xs ≡ n → length ys ≡ n → SameTo xs ys n → xs ≡ ys
+same-all n xs ys l m t = ext-getD noProcess xs ys (l ∙ sym m) (λ k lt. t k (omega arith))
 
 -- a record is written, in three stores
 module _ (p : List ℕ) (i : ℕ) (x : Process) where
@@ -85,25 +83,23 @@ module _ (p : List ℕ) (i : ℕ) (x : Process) where
         through = getD-set-same (set (set p (3 * i) (x .prime)) (3 * i + 1) (x .active)) (3 * i + 2) (x .through) 0 (simp length-set (omega arith)) j;
       }
 
-pub through-write : (ps : List Process) (p : List ℕ) (i : ℕ) → 3 * i + 2 < length p → Through ps p i → Through ps (written p i (getD ps i noProcess)) (i + 1)
-through-write ps p i h t =
-    let x = getD ps i noProcess in
-    below-more (λ k. getD ps k noProcess ≡ recordAt (written p i x) k) i (λ k lt. t k lt ∙ sym (elsewhere p i x k (λ e. omega arith))) (sym (here p i x h))
-
 -- one record of the words is written
 pub records-written : (p : List ℕ) (i : ℕ) (x : Process) → length p ≡ 192 → i < 64 → recordsIn (written p i x) ≡ set (recordsIn p) i x
-records-written p i x e h = sym (through-all 64 (set (recordsIn p) i x) (written p i x) (simp length-set (length-in 64 p e)) (simp length-set e) each)
+records-written p i x e h =
+    same-all 64 (recordsIn (written p i x)) (set (recordsIn p) i x) (length-in 64 (written p i x) long) (simp length-set (length-in 64 p e)) each
   where
-    each : Through (set (recordsIn p) i x) (written p i x) 64
-    each k lt =
-        pick (eqb k i) refl
+    long : length (written p i x) ≡ 3 * 64
+    long = simp length-set e
+
+    each : SameTo (recordsIn (written p i x)) (set (recordsIn p) i x) 64
+    each k lt = record-at 64 (written p i x) long k lt ∙ pick (eqb k i) refl
       where
-        pick : (b : Bool) → eqb k i ≡ b → getD (set (recordsIn p) i x) k noProcess ≡ recordAt (written p i x) k
+        pick : (b : Bool) → eqb k i ≡ b → recordAt (written p i x) k ≡ getD (set (recordsIn p) i x) k noProcess
         pick true q =
-            rw (eqb-true k i q) (getD-set-same (recordsIn p) i x noProcess (omega (arith, length-in 64 p e)) ∙ sym (here p i x (omega arith)))
+            rw (eqb-true k i q) (here p i x (omega arith) ∙ sym (getD-set-same (recordsIn p) i x noProcess (omega (arith, length-in 64 p e))))
         pick false q =
             let ne : k ≡ i → ⊥ = eqb-false k i q in
-            getD-set-other (recordsIn p) i k x noProcess ne ∙ record-at 64 p e k lt ∙ sym (elsewhere p i x k ne)
+            elsewhere p i x k ne ∙ sym (record-at 64 p e k lt) ∙ sym (getD-set-other (recordsIn p) i k x noProcess ne)
 
 -- ---- whether a process is listed
 listed-none : (ps : List Process) (n : ℕ) → n ≡ 0 → false ≡ isListed ps n

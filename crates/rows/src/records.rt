@@ -13,46 +13,6 @@ ghost use Rattle.rows.specs.contracts.Sizes.{PROCESSES, IsRecords};
 // The records of all processes: that of process p is element p - 1.
 pub type Records = [Process; PROCESSES];
 
-// The records by value. Ruled out: a record of another process; two fields swapped.
-pub fn load(p: &[u32]) -> Records
-    requires { ⌜ IsRecords (now p) ⌝ }
-    ensures { λ r. ⌜ r ≡ recordsIn (now (p .entry)) ⌝ }
-{
-    let none = Process {
-        prime: 0,
-        active: 0,
-        through: 0,
-    };
-    let mut ps = [none; PROCESSES];
-    let mut i = 0;
-    while i < PROCESSES {
-        let at = RECORD_WORDS * i;
-        ps[i] = Process {
-            prime: p[at],
-            active: p[at + 1],
-            through: p[at + 2],
-        };
-        i += 1;
-    }
-    ps
-}
-
-// Writes the records back. Ruled out: a word of the run is left as it was; two fields swapped.
-pub fn store(ps: Records, p: &mut [u32])
-    requires { ⌜ IsRecords (now p) ⌝ }
-    ensures { λ _. ⌜ now (p .exit) ≡ recordsOf ps ⌝ }
-{
-    let mut i = 0;
-    while i < PROCESSES {
-        let x = ps[i];
-        let at = RECORD_WORDS * i;
-        p[at] = x.prime;
-        p[at + 1] = x.active;
-        p[at + 2] = x.through;
-        i += 1;
-    }
-}
-
 // The record of process i + 1. Ruled out: the record before it or after it; two fields swapped.
 pub fn record_at(p: &[u32], i: usize) -> Process
     requires { ⌜ IsRecords (now p) × (i < PROCESSES) ⌝ }
@@ -76,6 +36,38 @@ pub fn set_record(p: &mut [u32], i: usize, x: Process)
     p[at] = x.prime;
     p[at + 1] = x.active;
     p[at + 2] = x.through;
+}
+
+// The records by value. Ruled out: a record is left out; one stands in the place of another.
+pub fn load(p: &[u32]) -> Records
+    requires { ⌜ IsRecords (now p) ⌝ }
+    ensures { λ r. ⌜ r ≡ recordsIn (now (p .entry)) ⌝ }
+{
+    let none = Process {
+        prime: 0,
+        active: 0,
+        through: 0,
+    };
+    let mut ps = [none; PROCESSES];
+    let mut i = 0;
+    while i < PROCESSES {
+        ps[i] = record_at(p, i);
+        i += 1;
+    }
+    ps
+}
+
+// Writes the records back. Ruled out: a record is left as it was; one is written in the place of another.
+pub fn store(ps: Records, p: &mut [u32])
+    requires { ⌜ IsRecords (now p) ⌝ }
+    ensures { λ _. ⌜ now (p .exit) ≡ recordsOf ps ⌝ }
+{
+    let mut i = 0;
+    while i < PROCESSES {
+        let x = ps[i];
+        set_record(p, i, x);
+        i += 1;
+    }
 }
 
 // Whether n is a listed process, for any n, without a branch, so that loops over many rows run over several at once

@@ -12,11 +12,11 @@ use rows::layout::PROCESSES;
 use rows::layout::Q_NUMBER;
 use rows::layout::Q_PORT;
 use rows::read::row_at;
+use rows::records::record_at;
 ghost use mathlib.Core.Path.{_≡_};
 ghost use Prim.Native.Nat.{_<_, _≤_};
-ghost use lib.ListN.{length, getD};
+ghost use lib.ListN.{length};
 ghost use Rattle.rows.specs.Lists.{all};
-ghost use Rattle.rows.specs.Tables.{noProcess};
 ghost use Rattle.rows.specs.Sound.{recordInRange, processPlaced, placedFrom};
 ghost use Rattle.rows.specs.Layout.{recordsIn};
 ghost use Rattle.rows.specs.contracts.Sizes.{ROWS, REQUESTS, PROCESSES, IsTables, IsRecords};
@@ -52,19 +52,6 @@ pub fn next_sound(t: &[u32], n: usize, m: usize) -> bool
 }
 
 // ---- the process records
-// The record of process i + 1. Ruled out: the record after it; two fields exchanged.
-pub fn record_at(p: &[u32], i: usize) -> Process
-    requires { ⌜ IsRecords (now p) × (i < PROCESSES) ⌝ }
-    ensures { λ r. ⌜ r ≡ getD (recordsIn (now (p .entry))) i noProcess ⌝ }
-{
-    let at = 3 * i;
-    Process {
-        prime: p[at],
-        active: p[at + 1],
-        through: p[at + 2],
-    }
-}
-
 // Ruled out: a prime node of 33; a record with a node of 0 that has gone through a row.
 pub fn record_in_range(x: Process) -> bool
     ensures { λ r. ⌜ r ≡ recordInRange x ⌝ }

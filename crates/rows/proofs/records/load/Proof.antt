@@ -1,16 +1,19 @@
--- Each turn reads one record. Assumes nothing.
+-- `records::load`: each turn reads one record.
 use borrow.Author.Needs.{needs}
-use Prim.Native.Nat.{ℕ, _≤_, _-_}
+use Prim.Native.Nat.{ℕ, _+_, _≤_, _-_}
 use native.Mathlib.Omega.{arith}
-use mathlib.Core.Path.{_≡_, refl, subst}
+use mathlib.Core.Path.{_≡_, refl, sym, subst}
 use native.Mathlib.Nat.{not-suc-le-zero}
-use lib.ListN.{length, length-set}
-use Rattle.rows.proofs.ProcessRecords.{Through, through-read, through-all}
+use lib.ListN.{length, set, length-set}
+use denote.Ref.{now}
+use Rattle.rows.specs.declared.Process.{Process}
+use Rattle.rows.specs.Layout.{recordsIn}
+use Rattle.rows.proofs.ProcessRecords.{SameTo, same-more, same-all, length-in}
 use Rattle.rows.proofs.records.load.Statement.{statement}
 use Rattle.rows.proofs.records.load.Tie as tie
 
 abbrev Inv-loop : tie.InvT-loop
-Inv-loop p ps₀ i₀ ps i = (i ≤ 64) × (length ps ≡ 64) × Through ps p i
+Inv-loop p ps₀ i₀ ps i = (i ≤ 64) × (length ps ≡ 64) × SameTo ps (recordsIn p) i
 
 abbrev μ-loop : tie.MeasureT-loop
 μ-loop p ps₀ i₀ ps i = 64 - i
@@ -18,32 +21,8 @@ abbrev μ-loop : tie.MeasureT-loop
 loop-holds : tie.Need-loop-holds Inv-loop μ-loop
 loop-holds c = (search needs, refl, (λ k h. absurd (not-suc-le-zero h)))
 
-mul-at : tie.Need-mul-at Inv-loop μ-loop
-mul-at c = search needs
-
-mul-t7 : tie.Need-mul-t7 Inv-loop μ-loop
-mul-t7 c = search needs
-
-shared-slice-read-t9 : tie.Need-shared-slice-read-t9 Inv-loop μ-loop
-shared-slice-read-t9 c = search needs
-
-add-t10 : tie.Need-add-t10 Inv-loop μ-loop
-add-t10 c = search needs
-
-mul-t11 : tie.Need-mul-t11 Inv-loop μ-loop
-mul-t11 c = search needs
-
-shared-slice-read-t13 : tie.Need-shared-slice-read-t13 Inv-loop μ-loop
-shared-slice-read-t13 c = search needs
-
-add-t14 : tie.Need-add-t14 Inv-loop μ-loop
-add-t14 c = search needs
-
-mul-t15 : tie.Need-mul-t15 Inv-loop μ-loop
-mul-t15 c = search needs
-
-shared-slice-read-t17 : tie.Need-shared-slice-read-t17 Inv-loop μ-loop
-shared-slice-read-t17 c = search needs
+record-at-requires : tie.Need-record-at-requires Inv-loop μ-loop
+record-at-requires c κs = search needs
 
 mul-ps : tie.Need-mul-ps Inv-loop μ-loop
 mul-ps c = search needs
@@ -59,17 +38,20 @@ loop-less c = search needs
 
 loop-again : tie.Need-loop-again Inv-loop μ-loop
 loop-again c =
-    let turn = c .before .before .before .before in
-    let l = turn .loop in
-    let p = turn .before .args .p .now in
-    (search needs, simp length-set (l .inv .1), through-read (l .ps) p (l .i) (omega (arith, l .inv .1)) (l .inv .2))
+    let l = c .before .before .loop in
+    let qs = recordsIn (now (c .before .before .before .before .args .p)) in (
+      search needs,
+      simp length-set (l .inv .1),
+      subst (λ (x : Process). SameTo (set (l .ps) (l .i) x) qs (l .i + 1)) (sym (c .record-at .ensures)) (same-more (l .ps) qs (l .i) (omega (arith, l .inv .1, c .before .loop-test .taken)) (l .inv .2)),
+    )
 
 returns : tie.Need-returns Inv-loop μ-loop
 returns c =
     let l = c .before .loop in
-    let p = c .before .before .args .p .now in
+    let s = c .before .before .before in
+    let qs = recordsIn (now (s .args .p)) in
     let end : l .i ≡ 64 = omega (arith, l .inv .0, c .loop-test .left) in
-    through-all 64 (l .ps) p (l .inv .1) (c .before .before .pre) (subst (λ (n : ℕ). Through (l .ps) p n) end (l .inv .2))
+    same-all 64 (l .ps) qs (l .inv .1) (length-in 64 (now (s .args .p)) (s .pre)) (subst (λ (n : ℕ). SameTo (l .ps) qs n) end (l .inv .2))
 
 pub load-spec : {M : Type 1} → statement M
 load-spec =
@@ -78,15 +60,7 @@ load-spec =
     Inv-loop
     μ-loop
     loop-holds
-    mul-at
-    mul-t7
-    shared-slice-read-t9
-    add-t10
-    mul-t11
-    shared-slice-read-t13
-    add-t14
-    mul-t15
-    shared-slice-read-t17
+    record-at-requires
     mul-ps
     array-set-from-ps
     add-i
