@@ -99,3 +99,10 @@ homes-all t n ps removed rs each st g sd rep count gone same =
     stands k =
         subst (λ (qs : List Process). some (getD qs k noProcess .through) ≡ true → Stands st (getD qs k noProcess .through)) same
         (placed-there (st .rows) 1 (st .processes) (sound-open st sd .placed .processes-placed) k)
+
+-- records that have gone through no row stay as they are
+pub none-away : (g : List ℕ) (ps : List Process) → ((k : ℕ) → k < length ps → getD ps k noProcess .through ≡ 0) → ps ≡ map (homed g) ps
+unfolding processAt
+none-away g ps h =
+    ext-getD noProcess ps (map (homed g) ps) (sym (length-map ps (homed g)))
+    (λ k lt. homed-none g (getD ps k noProcess) (h k lt) ∙ sym (homed-at g ps (suc k)))

@@ -1,12 +1,13 @@
 // Processes that stand in a node through a removed row go to their prime node.
 use crate::marks::is_marked;
 use rows::Process;
+use rows::layout::PROCESSES;
 use rows::layout::RowMarks;
 use rows::records;
 use rows::records::Records;
 ghost use Prim.Native.Nat.{_≤_};
 ghost use Rattle.rows.specs.contracts.Sizes.{ROWS, IsTables, IsRecords};
-ghost use Rattle.closing.specs.contracts.Takes.{Homes, HomesEach, HomesAll, HomesWords};
+ghost use Rattle.closing.specs.contracts.Takes.{Homes, HomesEach, HomesAll, AwayIfAny, HomesWords};
 
 // One record.
 fn home(t: &[u32], n: usize, x: Process, removed: &RowMarks) -> Process
@@ -48,13 +49,32 @@ fn home_all(t: &[u32], n: usize, mut ps: Records, removed: &RowMarks) -> Records
     ps
 }
 
-// All records, in their words.
+// Whether a process went to its active node through a row. Every record is looked at, with no way out early.
+// Ruled out: no, where the last process alone did.
+fn any_away(ps: &[u32]) -> bool
+    requires { ⌜ IsRecords (now ps) ⌝ }
+    ensures { λ r. ⌜ AwayIfAny (now (ps .entry)) r ⌝ }
+{
+    let mut away = false;
+    let mut i = 0;
+    while i < PROCESSES {
+        let x = records::record_at(ps, i);
+        away = (x.through != 0) | away;
+        i += 1;
+    }
+    away
+}
+
+// All records, in their words; most often there is nothing to do.
 // Ruled out: the records are left as they were; those of another run are stored.
 pub fn home_records(t: &[u32], n: usize, ps: &mut [u32], removed: &RowMarks)
     requires { ⌜ IsTables (now t) × (n ≤ ROWS) × IsRecords (now ps) ⌝ }
     ensures homed { λ _. ⌜ HomesWords (now (t .entry)) n (now (ps .entry)) (now (removed .entry)) (now (ps .exit)) ⌝ }
     ensures long { λ _. ⌜ IsRecords (now (ps .exit)) ⌝ }
 {
+    if !any_away(ps) {
+        return;
+    }
     let before = records::load(ps);
     let after = home_all(t, n, before, removed);
     records::store(after, ps);

@@ -1,6 +1,6 @@
 -- What a closing makes of words and records: the whole, and its parts (records go home, the marked rows and requests are taken out).
 use Prim.Native.Nat.{ℕ, _<_}
-use mathlib.Core.Bool.{Bool, true}
+use mathlib.Core.Bool.{Bool, true, false}
 use mathlib.Core.List.{List, map}
 use mathlib.Core.Path.{_≡_}
 use Rattle.rows.specs.declared.Process.{Process}
@@ -10,6 +10,7 @@ use Rattle.rows.specs.Tables.{State, noProcess}
 use Rattle.rows.specs.Sound.{sound}
 use Rattle.rows.specs.Layout.{recordsIn}
 use Rattle.rows.specs.contracts.Represents.{Represents}
+use Rattle.rows.specs.contracts.Sizes.{PROCESSES}
 use Rattle.changes.specs.contracts.Marks.{closedUnder}
 use Rattle.closing.specs.declared.Seed.{Seed}
 use Rattle.closing.specs.Closing.{closes, homed, settled}
@@ -38,6 +39,14 @@ abbrev pub HomesAll : List ℕ → ℕ → List Process → List Bool → List P
 HomesAll t n ps removed r =
     (st : State) (g : List ℕ) → sound st ≡ true → Represents t st → RowCount n st → RowsMarked removed g st → st .processes ≡ ps
     → r ≡ map (homed g) ps
+
+-- the first i records have gone through no row
+abbrev pub HomeTo : List ℕ → ℕ → Type 0
+HomeTo p i = (k : ℕ) → k < i → getD (recordsIn p) k noProcess .through ≡ 0
+
+-- r says yes if a record has gone through a row
+abbrev pub AwayIfAny : List ℕ → Bool → Type 0
+AwayIfAny p r = r ≡ false → HomeTo p PROCESSES
 
 -- the same of the records in their words
 abbrev pub HomesWords : List ℕ → ℕ → List ℕ → List Bool → List ℕ → Type 0
