@@ -58,6 +58,7 @@ pub promises : Promises
 unfolding sourcesOlder numbers exact capped InTables Returned
 promises =
     record {
+      demand3 = demand3;
       rows-exactly = λ t p text ok lines. held t p text ok lines .exactly;
       two-ends = λ t p text ok lines c port stands. as-said (afterLines t p text lines) c (held t p text ok lines .ports c port stands);
       standing = λ t p text ok lines. held t p text ok lines .standing;
@@ -66,6 +67,7 @@ promises =
       revoked-nothing-new = λ t p text ok lines line r q n e done. revoked t p text ok lines line r q e done .0 .nothingNew n;
       revoked-returned = λ t p text ok lines line r q d v e done stands had gone oldest.
           revoked t p text ok lines line r q e done .1 d v stands (record { hadOnLoan = had; isClosed = gone }) (λ u z. oldest u (z .hadOnLoan) (z .isClosed));
+      kept = kept;
       opened-sound = kept .opened;
       called-sound = kept .called;
       session-sound = kept .session-sound;

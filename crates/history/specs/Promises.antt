@@ -31,32 +31,37 @@ use Rattle.history.specs.History.{History}
 use Rattle.history.specs.Notes.{loanOf, stands, isClosed}
 use Rattle.history.specs.Chains.{aRequest, aPort, IsPort, AskedOver, Gone, Stands, ComesFrom, HasOnLoan}
 use Rattle.history.specs.Reading.{begun, accepts, noteLine, historyAfter}
-use Rattle.history.specs.Demand3.{lentAfter, repliesTo, stateIn}
-use Rattle.history.specs.Kept.{joined}
+use Rattle.history.specs.Demand3.{Demand3, lentAfter, repliesTo, stateIn}
+use Rattle.history.specs.Kept.{Kept, joined}
 
--- ---- a session: an opening on words of any content, then lines, each lent the words that the last one left
+-- ---- a session
+-- (rule P5) an opening on words of any content, then lines, each lent the words that the last one left
 abbrev pub afterLines : List ℕ → List ℕ → List ℕ → List (List ℕ) → Replied
 afterLines t p text lines = lentAfter (openEntry t p text) lines
 
--- its history, of the text, the lines and the answers alone
+-- (rules P5, H1) its history, of the text, the lines and the answers alone
 abbrev pub toldBy : List ℕ → List ℕ → List ℕ → List (List ℕ) → History
 toldBy t p text lines = historyAfter (begun text) lines (repliesTo (openEntry t p text) lines)
 
--- one line more
+-- (rule P5) one line more
 abbrev pub afterLine : Replied → List ℕ → Replied
 afterLine w line = callEntry (w .tables) (w .processes) line
 
+-- (rule P5) the rows in the tables
 abbrev pub rowsLent : Replied → List Row
 rowsLent w = stateIn w .rows
 
--- the ends of a port, newest first
+-- (rule P6) the ends of a port, newest first
 abbrev pub portEnds : Replied → ℕ → List Row
 portEnds w c = filter (λ r. isEnd (r .kind) && eqb (r .object) c) (rowsLent w)
 
+-- (rule P5) the text is accepted
 abbrev pub Accepted : List ℕ → List ℕ → List ℕ → Type 0
 Accepted t p text = accepts (openEntry t p text .reply) ≡ true
 
 pub record Promises : Type 0 where
+  -- (rules P5, P6, P7) the tables of a session by its history: one theorem; then what it says, written out
+  pub demand3 : Demand3
   -- (rule P5) the rows in the tables are exactly those of the history that stand
   pub rows-exactly : (t p text : List ℕ) → Accepted t p text → (lines : List (List ℕ)) (n : ℕ)
       → (member n (numbers (rowsLent (afterLines t p text lines))) ≡ true) ↔ Stands (toldBy t p text lines) n
@@ -90,6 +95,8 @@ pub record Promises : Type 0 where
       readingOf line ≡ Asks (Revoke r q) → accepts (afterLine w line .reply) ≡ true
       → Stands h′ e → HasOnLoan h v e → Gone h′ (aRequest v) → ((u : ℕ) → HasOnLoan h u e → Gone h′ (aRequest u) → v ≤ u)
       → rowOf (rowsLent (afterLine w line)) e .place ≡ inClist (loanOf (h .requests) v .lender)
+  -- (rules P1, P2, P3, P4, P12) kept soundness, and what `session` prints; then what that says, written out
+  pub kept : Kept
   -- (rules P1, P2, P3) sound tables: after an accepted opening, after every call on sound tables, after every list of lines; no such call answers 1
   pub opened-sound : (t p text : List ℕ) → Accepted t p text → soundWords (openEntry t p text .tables) (openEntry t p text .processes) ≡ true
   pub called-sound : (t p line : List ℕ) → soundWords t p ≡ true → soundWords (callEntry t p line .tables) (callEntry t p line .processes) ≡ true
