@@ -1,157 +1,154 @@
-// Answers printed: the text of an answer in a reply (specs/Answers.antt).
+// Answers printed: the text of an answer in a reply (specs/Answers.antt). Texts are put into the bytes of one reply, each
+// where the one before it ends; a function that puts a text gives the place after it.
 use crate::REPLY;
 use crate::Reply;
 use calls::Answer;
 ghost use mathlib.Core.Path.{_≡_};
 ghost use mathlib.Core.List.{[], _∷_};
-ghost use Prim.Native.Nat.{_+_, _*_, _<_, _≤_};
+ghost use Prim.Native.Nat.{_+_, _*_, _≤_, _%_};
 ghost use lib.ListN.{length};
-ghost use Rattle.rows.specs.Lists.{bytes, nonzero};
+ghost use Rattle.rows.specs.Lists.{nonzero};
 ghost use Rattle.calls.specs.declared.Answer.the-variants.{Refused};
-ghost use Rattle.text.specs.Answers.{decimal, spaced, okText, printed};
-ghost use Rattle.text.specs.contracts.Sizes.{REPLY, DIGITS, VALUE};
-ghost use Rattle.text.specs.contracts.Replies.{inReply, Adds, openingText};
+ghost use Rattle.text.specs.Answers.{spaced, okText, printed};
+ghost use Rattle.text.specs.contracts.Sizes.{REPLY, VALUE};
+ghost use Rattle.text.specs.contracts.Replies.{inReply, Puts, openingText};
 
 // the digits of a number at most
 const DIGITS: usize = 10;
 
-// ---- bytes and texts
-fn put_byte(o: Reply, b: u8) -> Reply
-    requires { ⌜ o .length < REPLY ⌝ }
-    ensures put { λ r. ⌜ Adds o (b ∷ []) r ⌝ }
-    ensures grown { λ r. ⌜ r .length ≡ o .length + 1 ⌝ }
-{
-    let n = o.length;
-    let mut bytes = o.bytes;
-    bytes[n] = b;
-    Reply {
-        bytes,
-        length: n + 1,
-    }
-}
+// a space and a number
+const VALUE: usize = 11;
 
-fn put_text(o: Reply, t: &[u8]) -> Reply
-    requires { ⌜ o .length + length (now t) ≤ REPLY ⌝ }
-    ensures put { λ r. ⌜ Adds o (now (t .entry)) r ⌝ }
-    ensures grown { λ r. ⌜ r .length ≡ o .length + length (now (t .entry)) ⌝ }
+// ---- texts
+fn put_text(o: &mut [u8; REPLY], at: usize, t: &[u8]) -> usize
+    requires { ⌜ at + length (now t) ≤ REPLY ⌝ }
+    ensures put { λ r. ⌜ Puts (now (o .entry)) at (now (t .entry)) (now (o .exit)) r ⌝ }
+    ensures grown { λ r. ⌜ r ≡ at + length (now (t .entry)) ⌝ }
 {
-    let mut r = o;
     for k in 0..t.len() {
-        r = put_byte(r, t[k]);
+        o[at + k] = t[k];
     }
-    r
+    at + t.len()
 }
 
 // ---- numbers
-// The byte of a digit.
-fn digit_of(n: u64) -> u8
-    requires { ⌜ n < 10 ⌝ }
-    ensures { λ r. ⌜ r ≡ 48 + n ⌝ }
+// The byte of a number's last digit.
+fn last_digit(n: u64) -> u8
+    ensures { λ r. ⌜ r ≡ 48 + n % 10 ⌝ }
 {
-    48 + n as u8
+    48 + (n % 10) as u8
 }
 
-// A number's digits, d at most: those before the last, then the last.
-fn put_number(o: Reply, n: u64, d: usize) -> Reply
-    requires { ⌜ o .length + d ≤ REPLY ⌝ }
-    ensures put { λ r. ⌜ Adds o (decimal d n) r ⌝ }
-    ensures grown { λ r. ⌜ r .length ≤ o .length + d ⌝ }
+// A space and a number: its digits from the last to the first, with the space before them.
+fn put_value(o: &mut [u8; REPLY], at: usize, n: u64) -> usize
+    requires { ⌜ at + VALUE ≤ REPLY ⌝ }
+    ensures put { λ r. ⌜ Puts (now (o .entry)) at (spaced (n ∷ [])) (now (o .exit)) r ⌝ }
+    ensures grown { λ r. ⌜ r ≤ at + VALUE ⌝ }
 {
-    if d == 0 {
-        return o;
+    let mut value = [0u8; VALUE];
+    let mut left = n;
+    let mut i = DIGITS;
+    while (10 <= left) & (1 < i) {
+        value[i] = last_digit(left);
+        left = left / 10;
+        i -= 1;
     }
-    if n < 10 {
-        return put_byte(o, digit_of(n));
-    }
-    let before = put_number(o, n / 10, d - 1);
-    put_byte(before, digit_of(n % 10))
-}
-
-// A space and a number.
-fn put_value(o: Reply, n: u64) -> Reply
-    requires { ⌜ o .length + VALUE ≤ REPLY ⌝ }
-    ensures put { λ r. ⌜ Adds o (spaced (n ∷ [])) r ⌝ }
-    ensures grown { λ r. ⌜ r .length ≤ o .length + VALUE ⌝ }
-{
-    let after_space = put_byte(o, b' ');
-    put_number(after_space, n, DIGITS)
+    value[i] = last_digit(left);
+    i -= 1;
+    value[i] = b' ';
+    put_text(o, at, &value[i..])
 }
 
 // A value that is listed; nothing for 0.
-fn put_listed(o: Reply, n: u32) -> Reply
-    requires { ⌜ o .length + VALUE ≤ REPLY ⌝ }
-    ensures put { λ r. ⌜ Adds o (spaced (nonzero (n ∷ []))) r ⌝ }
-    ensures grown { λ r. ⌜ r .length ≤ o .length + VALUE ⌝ }
+fn put_listed(o: &mut [u8; REPLY], at: usize, n: u32) -> usize
+    requires { ⌜ at + VALUE ≤ REPLY ⌝ }
+    ensures put { λ r. ⌜ Puts (now (o .entry)) at (spaced (nonzero (n ∷ []))) (now (o .exit)) r ⌝ }
+    ensures grown { λ r. ⌜ r ≤ at + VALUE ⌝ }
 {
     if n == 0 {
-        return o;
+        return at;
     }
-    put_value(o, n as u64)
-}
-
-// ---- answers
-// The reply with `(ok` or `(no` in it, and no more.
-fn begun(t: &[u8]) -> Reply
-    requires { ⌜ length (now t) ≤ REPLY ⌝ }
-    ensures put { λ r. ⌜ r ≡ inReply (now (t .entry)) ⌝ }
-    ensures long { λ r. ⌜ r .length ≡ length (now (t .entry)) ⌝ }
-{
-    let bytes = [0u8; REPLY];
-    put_text(Reply { bytes, length: 0 }, t)
-}
-
-// `(ok n)`.
-fn print_value(n: u64) -> Reply
-    ensures { λ r. ⌜ r ≡ inReply (okText (n ∷ [])) ⌝ }
-{
-    let o = put_value(begun(b"(ok"), n);
-    put_text(o, b")\n")
+    put_value(o, at, n as u64)
 }
 
 // The items of a fetched request that are still listed, in the order asked.
-fn put_items(o: Reply, a: u32, b: u32, c: u32, d: u32) -> Reply
-    requires { ⌜ o .length + 4 * VALUE ≤ REPLY ⌝ }
-    ensures put { λ r. ⌜ Adds o (spaced (nonzero (a ∷ b ∷ c ∷ d ∷ []))) r ⌝ }
-    ensures grown { λ r. ⌜ r .length ≤ o .length + 4 * VALUE ⌝ }
+fn put_items(o: &mut [u8; REPLY], at: usize, a: u32, b: u32, c: u32, d: u32) -> usize
+    requires { ⌜ at + 4 * VALUE ≤ REPLY ⌝ }
+    ensures put { λ r. ⌜ Puts (now (o .entry)) at (spaced (nonzero (a ∷ b ∷ c ∷ d ∷ []))) (now (o .exit)) r ⌝ }
+    ensures grown { λ r. ⌜ r ≤ at + 4 * VALUE ⌝ }
 {
-    let first = put_listed(o, a);
-    let second = put_listed(first, b);
-    let third = put_listed(second, c);
-    put_listed(third, d)
+    let first = put_listed(o, at, a);
+    let second = put_listed(o, first, b);
+    let third = put_listed(o, second, c);
+    put_listed(o, third, d)
+}
+
+// ---- answers
+// `(ok n)`.
+fn put_accepted(o: &mut [u8; REPLY], n: u64) -> usize
+    ensures { λ r. ⌜ Puts (now (o .entry)) 0 (okText (n ∷ [])) (now (o .exit)) r ⌝ }
+{
+    let begun = put_text(o, 0, b"(ok");
+    let valued = put_value(o, begun, n);
+    put_text(o, valued, b")\n")
 }
 
 // `(ok v ..)`: a request and its items.
-fn print_fetched(v: u32, a: u32, b: u32, c: u32, d: u32) -> Reply
-    ensures { λ r. ⌜ r ≡ inReply (okText (v ∷ nonzero (a ∷ b ∷ c ∷ d ∷ []))) ⌝ }
+fn put_fetched(o: &mut [u8; REPLY], v: u32, a: u32, b: u32, c: u32, d: u32) -> usize
+    ensures { λ r. ⌜ Puts (now (o .entry)) 0 (okText (v ∷ nonzero (a ∷ b ∷ c ∷ d ∷ []))) (now (o .exit)) r ⌝ }
 {
-    let o = put_value(begun(b"(ok"), v as u64);
-    let items = put_items(o, a, b, c, d);
-    put_text(items, b")\n")
+    let begun = put_text(o, 0, b"(ok");
+    let numbered = put_value(o, begun, v as u64);
+    let listed = put_items(o, numbered, a, b, c, d);
+    put_text(o, listed, b")\n")
 }
 
 // `(no k)`; 0 is no refusal.
-fn print_refusal(k: u32) -> Reply
-    ensures { λ r. ⌜ r ≡ inReply (printed (Refused k)) ⌝ }
+fn put_refusal(o: &mut [u8; REPLY], k: u32) -> usize
+    ensures { λ r. ⌜ Puts (now (o .entry)) 0 (printed (Refused k)) (now (o .exit)) r ⌝ }
 {
     if k == 0 {
-        return begun(b"(ok)\n");
+        return put_text(o, 0, b"(ok)\n");
     }
-    let o = put_value(begun(b"(no"), k as u64);
-    put_text(o, b")\n")
+    let begun = put_text(o, 0, b"(no");
+    let numbered = put_value(o, begun, k as u64);
+    put_text(o, numbered, b")\n")
 }
 
 // The text of an answer.
+fn put_answer(o: &mut [u8; REPLY], a: Answer) -> usize
+    ensures { λ r. ⌜ Puts (now (o .entry)) 0 (printed a) (now (o .exit)) r ⌝ }
+{
+    match a {
+        Answer::Done => put_accepted(o, 0),
+        Answer::Made(n) => put_accepted(o, n as u64),
+        Answer::Fetched(v, a, b, c, d) => put_fetched(o, v, a, b, c, d),
+        Answer::Told(t) => put_accepted(o, t as u64),
+        Answer::Refused(k) => put_refusal(o, k),
+    }
+}
+
+// The text of an answer, in a reply.
 // Ruled out: a reply one byte short, without its line feed; a 0 printed for an item that is no longer listed.
 pub fn print(a: Answer) -> Reply
     ensures { λ r. ⌜ r ≡ inReply (printed a) ⌝ }
 {
-    match a {
-        Answer::Done => print_value(0),
-        Answer::Made(n) => print_value(n as u64),
-        Answer::Fetched(v, a, b, c, d) => print_fetched(v, a, b, c, d),
-        Answer::Told(t) => print_value(t as u64),
-        Answer::Refused(k) => print_refusal(k),
+    let mut bytes = [0u8; REPLY];
+    let length = put_answer(&mut bytes, a);
+    Reply { bytes, length }
+}
+
+// The text of an opening's answer.
+fn put_opening(o: &mut [u8; REPLY], k: u32, line: usize) -> usize
+    ensures { λ r. ⌜ Puts (now (o .entry)) 0 (openingText k line) (now (o .exit)) r ⌝ }
+{
+    if k == 0 {
+        return put_accepted(o, 0);
     }
+    let begun = put_text(o, 0, b"(no");
+    let numbered = put_value(o, begun, k as u64);
+    let lined = put_value(o, numbered, line as u64);
+    put_text(o, lined, b")\n")
 }
 
 // The answer of an opening: `(ok 0)`, or `(no k line)` for the refusal k.
@@ -159,10 +156,7 @@ pub fn print(a: Answer) -> Reply
 pub fn print_opening(k: u32, line: usize) -> Reply
     ensures { λ r. ⌜ r ≡ inReply (openingText k line) ⌝ }
 {
-    if k == 0 {
-        return print_value(0);
-    }
-    let o = put_value(begun(b"(no"), k as u64);
-    let lined = put_value(o, line as u64);
-    put_text(lined, b")\n")
+    let mut bytes = [0u8; REPLY];
+    let length = put_opening(&mut bytes, k, line);
+    Reply { bytes, length }
 }

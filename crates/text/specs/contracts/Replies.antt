@@ -12,9 +12,10 @@ use Rattle.text.specs.contracts.Sizes.{REPLY}
 unfoldable pub inReply : List ℕ → Reply
 inReply t = record { bytes = pad 0 REPLY t; length = length t }
 
--- r is the reply o with the text t after what it has
-abbrev pub Adds : Reply → List ℕ → Reply → Type 0
-Adds o t r = (before : List ℕ) → o ≡ inReply before → r ≡ inReply (before ++ t)
+-- the bytes o have a text up to n and 0 after it; u have the text t after that, up to m
+abbrev pub Puts : List ℕ → ℕ → List ℕ → List ℕ → ℕ → Type 0
+Puts o n t u m =
+    (before : List ℕ) → record { bytes = o; length = n } ≡ inReply before → record { bytes = u; length = m } ≡ inReply (before ++ t)
 
 -- what an opening answers: accepted (0), or the refusal and its line
 unfoldable pub openingText : ℕ → ℕ → List ℕ

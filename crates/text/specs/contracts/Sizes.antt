@@ -23,10 +23,7 @@ NODES = 32
 abbrev pub REPLY : ℕ
 REPLY = 256
 
--- the digits of a number at most; a space and a number
-abbrev pub DIGITS : ℕ
-DIGITS = 10
-
+-- a space and the digits of a number, at most
 abbrev pub VALUE : ℕ
 VALUE = 11
 

@@ -1,7 +1,7 @@
 -- `replies::put_items` meets its contract: the items one after the other.
-use native.Mathlib.Omega.{arith}
-use Rattle.text.proofs.ReplyLaws.{adds-then, four-listed}
 use borrow.Author.Needs.{needs}
+use native.Mathlib.Omega.{arith}
+use Rattle.text.proofs.ReplyLaws.{puts-then, four-listed}
 use Rattle.text.proofs.replies.put_items.Statement.{statement}
 use Rattle.text.proofs.replies.put_items.Tie as tie
 
@@ -19,14 +19,13 @@ put-listed-requires-4 c κs = search needs
 
 returns : tie.Need-returns
 returns c =
-    let third = c .before in
-    let second = third .before in
-    let first = second .before in
-    let a = first .before .args in
-    let r = c .put-listed4 .result in
-    let last-two = adds-then (second .put-listed2 .result) (third .put-listed3 .result) r _ _ (third .put-listed3 .ensures .0) (c .put-listed4 .ensures .0) in
-    let last-three = adds-then (first .put-listed .result) (second .put-listed2 .result) r _ _ (second .put-listed2 .ensures .0) last-two in
-    let all-four = adds-then (a .o) (first .put-listed .result) r _ _ (first .put-listed .ensures .0) last-three in
+    let third = c .before .before in
+    let second = third .before .before in
+    let first = second .before .before in
+    let a = first .before .before .args in
+    let last-two = puts-then _ _ (third .put-listed3 .ensures .0) (c .put-listed4 .ensures .0) in
+    let last-three = puts-then _ _ (second .put-listed2 .ensures .0) last-two in
+    let all-four = puts-then _ _ (first .put-listed .ensures .0) last-three in
     (rw (four-listed (a .a) (a .b) (a .c) (a .d)) all-four, omega arith)
 
 pub put-items-spec : {M : Type 1} → statement M

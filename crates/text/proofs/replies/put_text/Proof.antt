@@ -3,27 +3,34 @@ use borrow.Author.Needs.{needs}
 use Prim.Native.Nat.{_≤_, _+_, _-_}
 use native.Mathlib.Omega.{arith}
 use mathlib.Core.Path.{_≡_, refl}
+use denote.Ref.{now}
 use lib.ListN.{length, take}
 use lib.Seq.{take-all}
-use Rattle.text.specs.contracts.Replies.{Adds}
-use Rattle.text.proofs.ReplyLaws.{adds-none, adds-more, adds-as}
+use Rattle.text.specs.contracts.Replies.{Puts}
+use Rattle.text.proofs.ReplyLaws.{puts-none, puts-more, puts-as}
 use Rattle.text.proofs.replies.put_text.Statement.{statement}
 use Rattle.text.proofs.replies.put_text.Tie as tie
 
 abbrev Inv-loop : tie.InvT-loop
-Inv-loop t r₀ k₀ k-end r k = (k-end ≡ length t) × (k ≤ length t) × (r .length ≡ r₀ .length + k) × Adds r₀ (take k t) r
+Inv-loop o₀ at t k₀ k-end o k = (k-end ≡ length t) × (k ≤ length t) × Puts o₀ at (take k t) o (at + k)
 
 abbrev μ-loop : tie.MeasureT-loop
-μ-loop t r₀ k₀ k-end r k = k-end - k
+μ-loop o₀ at t k₀ k-end o k = k-end - k
 
 loop-holds : tie.Need-loop-holds Inv-loop μ-loop
-loop-holds c = (refl, omega arith, omega arith, adds-none _)
+loop-holds c =
+    let a = c .args in
+    let there : a .at + 0 ≡ a .at = omega arith in
+    (refl, omega arith, rw there (puts-none (now (a .o)) (a .at)))
 
-shared-slice-read-put-byte : tie.Need-shared-slice-read-put-byte Inv-loop μ-loop
-shared-slice-read-put-byte c = search needs
+shared-slice-read-o : tie.Need-shared-slice-read-o Inv-loop μ-loop
+shared-slice-read-o c = search needs
 
-put-byte-requires : tie.Need-put-byte-requires Inv-loop μ-loop
-put-byte-requires c κs = search needs
+add-o : tie.Need-add-o Inv-loop μ-loop
+add-o c = search needs
+
+element-write-o : tie.Need-element-write-o Inv-loop μ-loop
+element-write-o c = search needs
 
 add-k : tie.Need-add-k Inv-loop μ-loop
 add-k c = search needs
@@ -33,16 +40,20 @@ loop-less c = search needs
 
 loop-again : tie.Need-loop-again Inv-loop μ-loop
 loop-again c =
-    let l = c .before .before .before in
-    let t = l .before .before .args .t .now in
-    let more = adds-more (l .before .before .args .o) (l .loop .r) (c .put-byte .result) t (l .loop .k) (omega arith) (l .loop .inv .3) (c .put-byte .ensures .0) in
-    (l .loop .inv .0, omega arith, omega arith, more)
+    let l = c .before .before .loop in
+    let a = c .before .before .before .args in
+    (refl, omega arith, puts-more (now (a .o)) (l .o) (a .at) (now (a .t)) (l .k) (omega arith) (omega arith) (l .inv .2))
+
+add-result : tie.Need-add-result Inv-loop μ-loop
+add-result c = search needs
 
 returns : tie.Need-returns Inv-loop μ-loop
 returns c =
-    let l = c .before in
-    let a = l .before .before .args in
-    (adds-as (a .o) (l .loop .r) (take (l .loop .k) (a .t .now)) (a .t .now) (take-all (l .loop .k) (a .t .now) (omega arith)) (l .loop .inv .3), omega arith)
+    let l = c .before .loop in
+    let a = c .before .before .args in
+    let t = now (a .t) in
+    let whole : l .k ≡ length t = omega arith in
+    (puts-as _ _ (take-all (length t) t (omega arith)) (rw whole at (l .inv .2)), refl)
 
 pub put-text-spec : {M : Type 1} → statement M
 put-text-spec =
@@ -51,9 +62,11 @@ put-text-spec =
     Inv-loop
     μ-loop
     loop-holds
-    shared-slice-read-put-byte
-    put-byte-requires
+    shared-slice-read-o
+    add-o
+    element-write-o
     add-k
     loop-less
     loop-again
+    add-result
     returns)
