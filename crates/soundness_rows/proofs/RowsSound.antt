@@ -12,7 +12,7 @@ use Rattle.rows.specs.declared.Request.{Request}
 use Rattle.rows.specs.declared.Process.{Process}
 use Rattle.rows.specs.Lists.{all, each, member, some}
 use Rattle.rows.specs.Limits.{greatestDepth}
-use Rattle.rows.specs.Codes.{clientEnd, serverEnd, isClient, isServer}
+use Rattle.rows.specs.Codes.{clientEnd, serverEnd, isClient, isServer, isEnd}
 use Rattle.rows.specs.Tables.{State, noRequest, requestOf, lists, noRow, rowOf}
 use Rattle.rows.specs.Sound.{sourceOf, viaOf, objectInRange, objectsInRange, rightInRange, rightsInRange, placeInRange, placesInRange, sourceRight, sourcesRight, hasRightDepth, depthRight, depthsRight, copyMatches, copiesMatch, isPairedWith, endPaired, endsPaired, copyListed, copiesListed, sourced}
 use Rattle.rows.specs.Layout.{requestAt, rawRow}
@@ -22,7 +22,7 @@ use Rattle.soundness_rows.specs.contracts.AtSlot.{AtSlot, PortsNamed}
 use Rattle.soundness_rows.specs.contracts.Clauses.{ownRight, shapeRight, depthNext, bySources, fieldsAndSources, loanRight, besideOlder, newestPaired, rowSound, allOfRows}
 use Rattle.soundness_rows.specs.contracts.Packed.{packed, Packs, PacksRows, Faithful}
 use Rattle.soundness_rows.specs.contracts.Seen.{Same, SaysOfPacked, slotRow}
-use Rattle.rows.proofs.Bools.{and-true, and-false}
+use Rattle.rows.proofs.Bools.{and-true, and-false, or-false}
 use Rattle.rows.proofs.KeySlots.{each-cut}
 use Rattle.rows.proofs.Slots.{represented-well, slot-zero, request-absent, request-words, raw-request}
 use Rattle.soundness_rows.proofs.PackedRows.{packs-own, ports-own, packed-same}
@@ -157,18 +157,26 @@ module _ {st : State} {t : List ℕ} (rep : Represents t st) where
 
   -- ---- ends
   pub beside-at : (i : ℕ) (a b : Row) → a ≡ rawRow t i → b ≡ rawRow t (i + 1)
-      → AtSlot besideOlder (st .rows) (i + 1) ((eqb (a .kind) 3 && (eqb (b .kind) 4 && isPairedWith b a)) || (not (eqb (a .kind) 3) && not (eqb (b .kind) 4)))
-  unfolding besideOlder isClient isServer clientEnd serverEnd
+      → AtSlot besideOlder (st .rows) (i + 1) (((eqb (a .kind) 3 && eqb (b .kind) 4) || (not (eqb (a .kind) 3) && not (eqb (b .kind) 4))) && (not (eqb (a .kind) 3) || (eqb (b .object) (a .object) && eqb (b .source) (a .source))))
+  unfolding besideOlder isClient isServer clientEnd serverEnd isPairedWith isEnd
   beside-at i a b da db = record { told = at }
     where
+      -- a client end is an end
+      port-alone : (c s k o : Bool) → ((c && s) || (not c && not s)) && (not c || o) ≡ (c && (s && ((c || k) && o))) || (not c && not s)
+      port-alone true true k o = sym (or-false o)
+      port-alone true false k o = refl
+      port-alone false true k o = refl
+      port-alone false false k o = refl
+
       at : (new : List Row) (y : Row) (old : List Row) → st .rows ≡ new ++ (y ∷ old) → length old ≡ i + 1
-          → (eqb (a .kind) 3 && (eqb (b .kind) 4 && isPairedWith b a)) || (not (eqb (a .kind) 3) && not (eqb (b .kind) 4)) ≡ besideOlder y old
+          → ((eqb (a .kind) 3 && eqb (b .kind) 4) || (not (eqb (a .kind) 3) && not (eqb (b .kind) 4))) && (not (eqb (a .kind) 3) || (eqb (b .object) (a .object) && eqb (b .source) (a .source))) ≡ besideOlder y old
       at new y [] e d = absurd (omega arith)
       at new y (z ∷ old) e d =
           let e′ : st .rows ≡ (new ++ (y ∷ [])) ++ (z ∷ old) = e ∙ sym (append-assoc new (y ∷ []) (z ∷ old)) in
           let at-b : b ≡ rawRow t (length (z ∷ old)) = db ∙ ap (rawRow t) (sym d) in
           let at-a : a ≡ rawRow t (length old) = da ∙ ap (rawRow t) (omega arith) in
-          rw (paired-words rep new y (z ∷ old) e (new ++ (y ∷ [])) z old e′ b a at-b at-a, same-at rep new y (z ∷ old) e b at-b .kind, same-at rep (new ++ (y ∷ [])) z old e′ a at-a .kind)
+          port-alone (eqb (a .kind) 3) (eqb (b .kind) 4) (eqb (a .kind) 4) (eqb (b .object) (a .object) && eqb (b .source) (a .source))
+          ∙ rw (paired-words rep new y (z ∷ old) e (new ++ (y ∷ [])) z old e′ b a at-b at-a, same-at rep new y (z ∷ old) e b at-b .kind, same-at rep (new ++ (y ∷ [])) z old e′ a at-a .kind)
           refl
 
   pub oldest-tested : (x : Row) → x ≡ rawRow t 0 → 0 < length (st .rows) → Tested besideOlder (st .rows) 1 (not (eqb (x .kind) 4))

@@ -1,7 +1,7 @@
 // The rows are sound: the clauses of every row, the oldest first, in one loop for each group of clauses.
 use crate::packed::PACKED;
 use crate::packed::pack;
-use crate::row_clauses::is_paired_with;
+use crate::row_clauses::of_one_port;
 use crate::row_clauses::own_right;
 use crate::row_clauses::sources_right;
 use rows::Found;
@@ -86,8 +86,9 @@ fn beside(a: Row, b: Row) -> bool
 {
     let client = a.kind == A_CLIENT_END;
     let server = b.kind == A_SERVER_END;
-    let paired = is_paired_with(b, a);
-    (client & (server & paired)) | (!client & !server)
+    let both = (client & server) | (!client & !server);
+    let port = of_one_port(b, a);
+    both & (!client | port)
 }
 
 // Ends stand in pairs, where they have the objects that their numbers tell.
