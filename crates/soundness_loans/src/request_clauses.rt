@@ -5,8 +5,12 @@ use rows::codes::A_CLIENT_END;
 use rows::codes::is_end;
 use rows::find::row_among;
 use rows::layout::KIND;
+use rows::layout::NUMBER;
 use rows::layout::Q_ASKER;
 use rows::layout::Q_FETCHED;
+use rows::layout::Q_ITEM_2;
+use rows::layout::Q_ITEM_3;
+use rows::layout::Q_ITEM_4;
 use rows::layout::Q_ITEMS;
 use rows::layout::Q_NUMBER;
 use rows::layout::Q_PORT;
@@ -14,6 +18,7 @@ use rows::layout::REQUEST;
 use rows::layout::REQUESTS;
 use rows::layout::ROWS;
 use rows::layout::RowMarks;
+use rows::layout::VIA;
 use rows::records::listed;
 ghost use mathlib.Core.Path.{_≡_};
 ghost use mathlib.Core.Bool.{true, not, _||_};
@@ -23,10 +28,11 @@ ghost use lib.Dec.{leb, ltb};
 ghost use Rattle.rows.specs.Lists.{member, distinct, some, nonzero};
 ghost use Rattle.rows.specs.Tables.{isListed};
 ghost use Rattle.rows.specs.Layout.{requestAt, recordsIn, rowSlot};
-ghost use Rattle.rows.specs.contracts.Sizes.{ROWS, REQUESTS, REQUEST, IsTables, IsRecords};
+ghost use Rattle.rows.specs.contracts.Sizes.{ROWS, REQUESTS, VIA, REQUEST, IsTables, IsRecords};
 ghost use Rattle.rows.specs.contracts.OfState.{OfRows, TestsTables, Tests};
-ghost use Rattle.soundness_loans.specs.contracts.Clauses.{OfRequest, TestsItem, wordAt, numberApart};
-ghost use Rattle.soundness_loans.specs.contracts.Clauses.{ListsNone, OfItems, SlotsWithin};
+ghost use Rattle.soundness_loans.specs.contracts.Clauses.{OfRequest, OfItem, wordAt, numberApart};
+ghost use Rattle.soundness_loans.specs.contracts.Clauses.{ListsNone, OfItems, SlotsWithin, ViasOlder};
+ghost use Rattle.soundness_loans.specs.contracts.Clauses.{isCopyFor, mayBeLent};
 ghost use Rattle.soundness_loans.specs.contracts.Clauses.{itemsListable, requestRight, standingPort};
 ghost use Rattle.soundness_loans.specs.contracts.Clauses.{requestsRight, portsRight, allOfRequests, isFree};
 ghost use Rattle.soundness_loans.specs.contracts.Clauses.{withMark};
@@ -109,32 +115,58 @@ fn items_apart(t: &[u32], j: usize) -> bool
     first & (second & third)
 }
 
-// An item that is there, whose slot plus 1 is s, may be listed by a request numbered q.
-// Ruled out: a copy that bears another request; an end newer than the request.
-fn may_be_listed(t: &[u32], q: u32, e: u32, s: usize) -> bool
-    requires { ⌜ IsTables (now t) × (s ≤ ROWS) ⌝ }
-    ensures { λ r. ⌜ TestsItem (now (t .entry)) q e s r ⌝ }
+// The number of the second source of a row's slot. Ruled out: the first source; the number of the row after it.
+fn via_number(t: &[u32], n: usize, s: usize) -> u32
+    requires sizes { ⌜ IsTables (now t) × (n ≤ ROWS) × (s ≤ n) ⌝ }
+    requires vias { ⌜ ViasOlder (now t) n ⌝ }
+    ensures { λ r. ⌜ r ≡ wordAt (now (t .entry)) 0 (wordAt (now (t .entry)) VIA s) ⌝ }
+{
+    let via = word_at(t, VIA, s);
+    word_at(t, NUMBER, via as usize)
+}
+
+// The row numbered e, whose slot plus 1 is s, is a copy for it: it bears its number, is newer, and came over its port.
+// Ruled out: a copy that bears another request; one over another port; one that is older than the request.
+fn is_copy_for(t: &[u32], n: usize, j: usize, e: u32, s: usize) -> bool
+    requires sizes { ⌜ IsTables (now t) × (n ≤ ROWS) × (j < REQUESTS) × (s ≤ n) ⌝ }
+    requires vias { ⌜ ViasOlder (now t) n ⌝ }
+    ensures { λ r. ⌜ OfItem (now (t .entry)) j e s r isCopyFor ⌝ }
+{
+    let q = t[Q_NUMBER + j];
+    let port = t[Q_PORT + j];
+    let bears = word_at(t, REQUEST, s);
+    let over = via_number(t, n, s);
+    (0 < bears) & ((bears == q) & ((q < e) & (port == over)))
+}
+
+// An item that is there, whose slot plus 1 is s, is an end older than the request, or a copy for it.
+// Ruled out: an end newer than the request; an operation that bears no request.
+fn may_be_listed(t: &[u32], n: usize, j: usize, e: u32, s: usize) -> bool
+    requires sizes { ⌜ IsTables (now t) × (n ≤ ROWS) × (j < REQUESTS) × (s ≤ n) ⌝ }
+    requires vias { ⌜ ViasOlder (now t) n ⌝ }
+    ensures { λ r. ⌜ OfItem (now (t .entry)) j e s r (λ v y. not (some e) || mayBeLent v y) ⌝ }
 {
     if e == 0 {
         return true;
     }
+    let q = t[Q_NUMBER + j];
     let kind = word_at(t, KIND, s);
-    let bears = word_at(t, REQUEST, s);
     let end = is_end(kind);
-    (end & (e < q)) | ((0 < bears) & (bears == q))
+    let copy = is_copy_for(t, n, j, e, s);
+    (end & (e < q)) | copy
 }
 
 // Each item may be listed, where the slots of all four are known.
 // Ruled out: the fourth item is not tested; no for an item that is not there.
-pub fn items_lent(t: &[u32], slots: [usize; 4], j: usize) -> bool
-    requires { ⌜ IsTables (now t) × (j < REQUESTS) × SlotsWithin ROWS slots ⌝ }
+pub fn items_lent(t: &[u32], n: usize, slots: [usize; 4], j: usize) -> bool
+    requires sizes { ⌜ IsTables (now t) × (n ≤ ROWS) × (j < REQUESTS) × SlotsWithin n slots ⌝ }
+    requires vias { ⌜ ViasOlder (now t) n ⌝ }
     ensures { λ r. ⌜ OfItems (now (t .entry)) j slots r itemsListable ⌝ }
 {
-    let q = t[Q_NUMBER + j];
-    let first = may_be_listed(t, q, t[Q_ITEMS + j], slots[0]);
-    let second = may_be_listed(t, q, t[Q_ITEMS + REQUESTS + j], slots[1]);
-    let third = may_be_listed(t, q, t[Q_ITEMS + 2 * REQUESTS + j], slots[2]);
-    let fourth = may_be_listed(t, q, t[Q_ITEMS + 3 * REQUESTS + j], slots[3]);
+    let first = may_be_listed(t, n, j, t[Q_ITEMS + j], slots[0]);
+    let second = may_be_listed(t, n, j, t[Q_ITEM_2 + j], slots[1]);
+    let third = may_be_listed(t, n, j, t[Q_ITEM_3 + j], slots[2]);
+    let fourth = may_be_listed(t, n, j, t[Q_ITEM_4 + j], slots[3]);
     first & (second & (third & fourth))
 }
 

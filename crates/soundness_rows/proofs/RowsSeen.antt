@@ -140,13 +140,5 @@ module _ {st : State} {t : List ℕ} (rep : Represents t st) (new : List Row) (y
             via-none = among-none old up-old (y .via) (among .1);
           }
 
-  -- the number of the second source
-  pub via-told : (x : Row) → x ≡ rawRow t (length old) → slotRow t (x .via) .number ≡ y .via
-  unfolding slotted withSources
-  via-told x d =
-      ap (λ (r : Row). slotRow t (r .via) .number) (d ∙ raw-row-at rep new y old e)
-      ∙ slot-seen (y .via) .number
-      ∙ among-number old up-old (y .via) (among .1)
-
   pub same-at : (x : Row) → x ≡ rawRow t (length old) → Same x y
   same-at x d = subst (λ (r : Row). Same r y) (sym (d ∙ raw-row-at rep new y old e)) (same-slotted y old)
