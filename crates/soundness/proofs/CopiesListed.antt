@@ -1,24 +1,24 @@
 -- Copies told by the listing of items: where rows have their sources, items are right and each row that bears a request is
 -- listed, each is listed by the request that it bears, over its port.
-use Prim.Native.Nat.{ℕ, zero, suc, _≤_, _<_}
-use mathlib.Core.Bool.{Bool, true, false, cond, not, _&&_, _||_}
+use Prim.Native.Nat.{ℕ, zero, suc}
+use mathlib.Core.Bool.{Bool, true, false, cond, _&&_, _||_}
 use mathlib.Core.List.{List, [], _∷_, _++_}
 use mathlib.Core.Path.{_≡_, refl, ap, sym, subst, _∙_}
-use mathlib.Core.Logic.{_⊎_, inl, inr, ⊎-elim}
+use mathlib.Core.Logic.{_⊎_, ⊎-elim}
 use native.Mathlib.Nat.{le-refl}
 use native.Mathlib.Omega.{arith}
-use borrow.Author.Tests.{eqb-true, eqb-false, eq-eqb, ne-eqb}
+use borrow.Author.Tests.{eqb-true, eq-eqb, ne-eqb}
 use lib.Dec.{eqb, ltb}
 use Rattle.rows.specs.declared.Row.{Row}
 use Rattle.rows.specs.declared.Request.{Request}
 use Rattle.rows.specs.Lists.{all, each, rises, topOf, member, some, nonzero}
-use Rattle.rows.specs.Codes.{operation, subdirectory, clientEnd, serverEnd, isOperation, isSubdirectory, isClient, isServer, isEnd, isCopied}
+use Rattle.rows.specs.Codes.{isEnd}
 use Rattle.rows.specs.Tables.{State, noRow, rowOf, noRequest, requestOf, lists, goesBack}
 use Rattle.rows.specs.Sound.{isOpening, isRegistered, isHeld, isPortEnd, mayBeListed, itemsLent, isFetched, sourceOf, viaOf}
 use Rattle.rows.specs.Layout.{rowSlot}
 use Rattle.rows.specs.contracts.Slots.{requestSlot}
 use Rattle.rows.specs.contracts.Represents.{Represents}
-use Rattle.soundness_rows.specs.contracts.Clauses.{isCopyOver, shapeRight, bySources, depthNext, loanRight, loansRight}
+use Rattle.soundness_rows.specs.contracts.Clauses.{isCopyOver, shapeRight, bySources, loanRight, loansRight}
 use Rattle.soundness_loans.specs.contracts.Clauses.{isCopyFor, mayBeLent, itemsListable, itemsRight, listingCode, listingOf, copiesSeen}
 use Rattle.rows.proofs.Bools.{clash, and-l, and-r, and-i, or-l, or-r, or-cases, and-false, some-pos, all-mono, all-at}
 use Rattle.rows.proofs.KeySlots.{each-cut}

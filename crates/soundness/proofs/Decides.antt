@@ -13,7 +13,7 @@ use lib.ListN.{length, getD, take, drop, length-take, List·getD-eq-default}
 use lib.Seq.{getD-take, getD-drop}
 use Rattle.rows.specs.contracts.Sizes.{ROWS, REQUESTS, SOURCE, VIA, Q-NUMBER}
 use Rattle.soundness.specs.contracts.Laid.{Decides, before, Rising, Older, ZeroFrom, RowsUnused, RequestsUnused, RowsLaid, RequestsLaid}
-use lib.Bits.{bitAnd, bitOr, or-add-and, and-le-l, and-le-r}
+use lib.Bits.{bitOr, or-add-and, and-le-l, and-le-r}
 use Rattle.rows.proofs.Bools.{and-l, and-r, and-i, bool-eq}
 
 lt-or-ge : (a b : ℕ) → (a < b) ⊎ (b ≤ a)

@@ -7,7 +7,7 @@ use mathlib.Core.Logic.{_⊎_, inl, inr, ⊎-elim}
 use native.Mathlib.Nat.{zero-add}
 use native.Mathlib.Numerals.{add-one}
 use native.Mathlib.Omega.{arith}
-use borrow.Author.Tests.{eqb-true, eq-eqb, ne-eqb, lt-ltb}
+use borrow.Author.Tests.{eqb-true, eq-eqb, lt-ltb}
 use lib.Dec.{ltb, eqb}
 use lib.ListN.{length, getD}
 use Rattle.rows.specs.declared.Row.{Row}
@@ -48,13 +48,6 @@ unfolding all requestsTo
 all-next F t j p q = rw (add-one j) (λ i. p i && q i)
 
 -- ---- the slot of a row
-pub apart-slot : (rs : List Row) (q : ℕ) → eqb (rowSlot rs q) 0 ≡ not (member q (numbers rs))
-apart-slot rs q = pick (rowSlot rs q) refl
-  where
-    pick : (s : ℕ) → rowSlot rs q ≡ s → eqb s 0 ≡ not (member q (numbers rs))
-    pick zero e = sym (ap not (row-none rs q e))
-    pick (suc i) e = ne-eqb (suc i) 0 (λ d. omega arith) ∙ sym (ap not (row-found rs q i e .0))
-
 module _ {st : State} {t : List ℕ} (rep : Represents t st) where
   -- all requests are read
   pub requests-read : requestsTo t (length (st .requests)) ≡ st .requests

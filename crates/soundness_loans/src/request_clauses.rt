@@ -25,16 +25,17 @@ ghost use mathlib.Core.Bool.{true, not, _||_};
 ghost use mathlib.Core.List.{[], _∷_};
 ghost use Prim.Native.Nat.{suc, _<_, _≤_};
 ghost use lib.Dec.{leb, ltb};
-ghost use Rattle.rows.specs.Lists.{member, distinct, some, nonzero};
+ghost use Rattle.rows.specs.Lists.{all, member, distinct, some, nonzero};
 ghost use Rattle.rows.specs.Tables.{isListed};
+ghost use Rattle.rows.specs.Sound.{numbersApart};
 ghost use Rattle.rows.specs.Layout.{requestAt, recordsIn, rowSlot};
 ghost use Rattle.rows.specs.contracts.Sizes.{ROWS, REQUESTS, VIA, REQUEST, IsTables, IsRecords};
-ghost use Rattle.rows.specs.contracts.OfState.{OfRows, TestsTables, Tests};
-ghost use Rattle.soundness_loans.specs.contracts.Clauses.{OfRequest, OfItem, wordAt, numberApart};
+ghost use Rattle.rows.specs.contracts.OfState.{OfRows, OfRequests, TestsTables, Tests};
+ghost use Rattle.soundness_loans.specs.contracts.Clauses.{OfRequest, OfItem, wordAt, FirstNotBelow};
 ghost use Rattle.soundness_loans.specs.contracts.Clauses.{ListsNone, OfItems, SlotsWithin, ViasOlder};
 ghost use Rattle.soundness_loans.specs.contracts.Clauses.{isCopyFor, mayBeLent};
 ghost use Rattle.soundness_loans.specs.contracts.Clauses.{itemsListable, requestRight, standingPort};
-ghost use Rattle.soundness_loans.specs.contracts.Clauses.{requestsRight, portsRight, allOfRequests, isFree};
+ghost use Rattle.soundness_loans.specs.contracts.Clauses.{portsRight, allOfRequests, isFree};
 ghost use Rattle.soundness_loans.specs.contracts.Clauses.{withMark};
 
 // The slot plus 1 of the row numbered x, of n rows; 0 for none.
@@ -65,16 +66,6 @@ fn word_at(t: &[u32], c: usize, s: usize) -> u32
 }
 
 // ---- the clauses for the request in slot j
-// Its number is no row's. Ruled out: yes for the number of a row; the number of another request decides.
-fn number_apart(t: &[u32], n: usize, j: usize) -> bool
-    requires { ⌜ IsTables (now t) × (n ≤ ROWS) × (j < REQUESTS) ⌝ }
-    ensures { λ r. ⌜ OfRequest (now (t .entry)) n j r numberApart ⌝ }
-{
-    let q = t[Q_NUMBER + j];
-    let s = slot_among(t, n, q);
-    s == 0
-}
-
 // Ruled out: a request fetched twice; the word of another request.
 fn fetched_in_range(t: &[u32], j: usize) -> bool
     requires { ⌜ IsTables (now t) × (j < REQUESTS) ⌝ }
@@ -195,16 +186,15 @@ fn items_once(t: &[u32], j: usize) -> bool
     items_apart(t, j)
 }
 
-// The clauses but for port and items. Ruled out: one of the four alone decides; the tests of another request.
-fn request_right(t: &[u32], p: &[u32], n: usize, j: usize) -> bool
-    requires { ⌜ IsTables (now t) × IsRecords (now p) × (n ≤ ROWS) × (j < REQUESTS) ⌝ }
-    ensures { λ r. ⌜ OfRequest (now (t .entry)) n j r (requestRight (recordsIn (now (p .entry)))) ⌝ }
+// The clauses but for number, port and items. Ruled out: one of the three alone decides; the tests of another request.
+fn request_right(t: &[u32], p: &[u32], j: usize) -> bool
+    requires { ⌜ IsTables (now t) × IsRecords (now p) × (j < REQUESTS) ⌝ }
+    ensures { λ r. ⌜ r ≡ requestRight (recordsIn (now (p .entry))) (requestAt (now (t .entry)) j) ⌝ }
 {
-    let apart = number_apart(t, n, j);
     let fetched = fetched_in_range(t, j);
     let asked = requester_listed(t, p, j);
     let once = items_once(t, j);
-    apart & (fetched & (asked & once))
+    fetched & (asked & once)
 }
 
 // A request is newer than both ends of its port. Ruled out: newer than the client end alone; a sum that wraps to 0.
@@ -248,15 +238,50 @@ fn claim(marks: &mut RowMarks, s: usize) -> bool
 }
 
 // ---- the loops
+// The first slot of n, from a slot on, whose row's number is not below q; n for none.
+// Ruled out: a slot whose row's number is below q; one past the first that is not.
+fn first_not_below(t: &[u32], n: usize, from: usize, q: u32) -> usize
+    requires { ⌜ IsTables (now t) × (n ≤ ROWS) × (from ≤ n) ⌝ }
+    ensures { λ r. ⌜ FirstNotBelow (now (t .entry)) n from q r ⌝ }
+{
+    let mut s = from;
+    while s < n {
+        if q <= t[NUMBER + s] {
+            return s;
+        }
+        s += 1;
+    }
+    s
+}
+
+// No request has the number of a row. Both rise, so one walk along the rows serves all requests.
+// Ruled out: yes where the newest request has the number of a row; the rows from the oldest on for each request.
+fn numbers_apart(t: &[u32], n: usize, m: usize) -> bool
+    requires { ⌜ IsTables (now t) × (n ≤ ROWS) × (m ≤ REQUESTS) ⌝ }
+    ensures { λ r. ⌜ TestsTables (now (t .entry)) n m r (λ st. numbersApart (st .rows) (st .requests)) ⌝ }
+{
+    let mut apart = true;
+    let mut s = 0;
+    let mut j = 0;
+    while j < m {
+        let q = t[Q_NUMBER + j];
+        s = first_not_below(t, n, s, q);
+        let taken = (s < n) & (t[NUMBER + s] == q);
+        apart = !taken & apart;
+        j += 1;
+    }
+    apart
+}
+
 // The clauses of each request by itself. Ruled out: the last request alone decides; a request past the first m.
-fn requests_right(t: &[u32], p: &[u32], n: usize, m: usize) -> bool
-    requires { ⌜ IsTables (now t) × IsRecords (now p) × (n ≤ ROWS) × (m ≤ REQUESTS) ⌝ }
-    ensures { λ r. ⌜ Tests (now (t .entry)) (now (p .entry)) n m r requestsRight ⌝ }
+fn requests_right(t: &[u32], p: &[u32], m: usize) -> bool
+    requires { ⌜ IsTables (now t) × IsRecords (now p) × (m ≤ REQUESTS) ⌝ }
+    ensures { λ r. ⌜ OfRequests (now (t .entry)) m r (all (requestRight (recordsIn (now (p .entry))))) ⌝ }
 {
     let mut right = true;
     let mut j = 0;
     while j < m {
-        right = request_right(t, p, n, j) & right;
+        right = request_right(t, p, j) & right;
         j += 1;
     }
     right
@@ -284,7 +309,8 @@ pub fn requests_sound(t: &[u32], p: &[u32], n: usize, m: usize) -> bool
     requires { ⌜ IsTables (now t) × IsRecords (now p) × (n ≤ ROWS) × (m ≤ REQUESTS) ⌝ }
     ensures { λ r. ⌜ Tests (now (t .entry)) (now (p .entry)) n m r allOfRequests ⌝ }
 {
-    let right = requests_right(t, p, n, m);
+    let apart = numbers_apart(t, n, m);
+    let right = requests_right(t, p, m);
     let ports = ports_right(t, n, m);
-    right & ports
+    apart & (right & ports)
 }

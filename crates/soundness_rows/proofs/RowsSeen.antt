@@ -35,11 +35,6 @@ unfolding slotted withSources
 same-slotted r old = record { number = refl; kind = refl; object = refl; operation = refl; rights = refl; place = refl; depth = refl; request = refl }
 
 -- ---- a source by its slot
-pub slot-row-pos : (t : List ℕ) (s : ℕ) → (s ≡ 0 → ⊥) → rawRow t (s - 1) ≡ slotRow t s
-unfolding slotRow
-slot-row-pos t zero h = absurd (h refl)
-slot-row-pos t (suc i) h = ap (rawRow t) (omega arith)
-
 -- source words in range
 pub row-sources : (t : List ℕ) (i : ℕ) (x : Row) → x ≡ rawRow t i → i < ROWS → SourcesBefore t i → (x .source ≤ ROWS) × (x .via ≤ ROWS)
 unfolding rawRow rowField rowSlots

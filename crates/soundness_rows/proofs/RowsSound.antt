@@ -7,12 +7,11 @@ use native.Mathlib.Omega.{arith}
 use lib.Dec.{eqb, leb, ltb}
 use lib.ListN.{length, getD}
 use Rattle.rows.specs.declared.Row.{Row}
-use Rattle.rows.specs.declared.Request.{Request}
 use Rattle.rows.specs.declared.Process.{Process}
 use Rattle.rows.specs.Lists.{all, each}
 use Rattle.rows.specs.Limits.{greatestDepth}
 use Rattle.rows.specs.Codes.{clientEnd, serverEnd, isClient, isServer, isEnd}
-use Rattle.rows.specs.Tables.{State, requestOf, lists, noRow, rowOf}
+use Rattle.rows.specs.Tables.{State, requestOf, lists}
 use Rattle.rows.specs.Sound.{sourceOf, viaOf, objectInRange, objectsInRange, rightInRange, rightsInRange, placeInRange, placesInRange, sourceRight, sourcesRight, hasRightDepth, depthRight, depthsRight, copyMatches, copiesMatch, isPairedWith, endPaired, endsPaired, copyListed, copiesListed, sourced}
 use Rattle.rows.specs.Layout.{rawRow}
 use Rattle.rows.specs.contracts.Represents.{Represents}

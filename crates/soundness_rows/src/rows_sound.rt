@@ -8,7 +8,6 @@ use rows::Row;
 use rows::codes::A_CLIENT_END;
 use rows::codes::A_SERVER_END;
 use rows::read::row_at;
-ghost use mathlib.Core.Path.{_≡_};
 ghost use Prim.Native.Nat.{_<_, _≤_};
 ghost use Rattle.rows.specs.Layout.{recordsIn};
 ghost use Rattle.rows.specs.contracts.Sizes.{ROWS, IsTables, IsRecords};

@@ -4,13 +4,13 @@ use mathlib.Core.Bool.{Bool, true, false, not, _&&_, _||_}
 use mathlib.Core.List.{List, [], _∷_, map}
 use mathlib.Core.Path.{_≡_}
 use lib.Dec.{leb, ltb, eqb}
-use lib.ListN.{length, getD, set}
+use lib.ListN.{getD, set}
 use Rattle.rows.specs.declared.Row.{Row}
 use Rattle.rows.specs.declared.Request.{Request}
 use Rattle.rows.specs.declared.Process.{Process}
-use Rattle.rows.specs.Lists.{if_then_else_, any, all, member, distinct, some, nonzero}
+use Rattle.rows.specs.Lists.{if_then_else_, any, all, distinct, some, nonzero}
 use Rattle.rows.specs.Codes.{isSystem}
-use Rattle.rows.specs.Tables.{State, rowOf, isListed, numbers, lists, goesBack}
+use Rattle.rows.specs.Tables.{State, rowOf, isListed, lists, goesBack}
 use Rattle.rows.specs.Sound.{numbersApart, fetchedInRange, portStands, portsStand, requestersListed, itemsApart, onePerPort, isFetched, olderFetched, same, systemHolds}
 use Rattle.rows.specs.Layout.{requestAt, rowSlot}
 use Rattle.rows.specs.contracts.Sizes.{ROWS, VIA, REQUEST}
@@ -22,14 +22,22 @@ unfoldable pub wordAt : List ℕ → ℕ → ℕ → ℕ
 wordAt t c zero = 0
 wordAt t c (suc i) = getD t (c + i) 0
 
+-- ---- numbers of rows
+-- the number of the row at a slot
+abbrev pub numberAt : List ℕ → ℕ → ℕ
+numberAt t i = getD t (0 + i) 0
+
+-- s is the first of n slots, from a slot on, whose number is not below q, or n
+pub record FirstNotBelow (t : List ℕ) (n from q s : ℕ) : Type 0 where
+  pub past : from ≤ s
+  pub within : s ≤ n
+  pub below : (i : ℕ) → from ≤ i → i < s → numberAt t i < q
+  pub reached : s < n → q ≤ numberAt t s
+
 -- ---- one request
 -- r is F of the rows and of the request in slot j, in every state that t represents, n rows standing
 abbrev pub OfRequest : {A : Type 0} → List ℕ → ℕ → ℕ → A → (List Row → Request → A) → Type 0
 OfRequest t n j r F = OfRows t n r (λ rs. F rs (requestAt t j))
-
--- its number is no row's
-abbrev pub numberApart : List Row → Request → Bool
-numberApart rs v = not (member (v .number) (numbers rs))
 
 -- the request in slot j lists nothing
 abbrev pub ListsNone : List ℕ → ℕ → Type 0
@@ -58,20 +66,15 @@ OfItem t j e s r F = (st : State) → Represents t st → s ≡ rowSlot (st .row
 abbrev pub ViasOlder : List ℕ → ℕ → Type 0
 ViasOlder t n = (i : ℕ) → i < n → getD t (VIA + i) 0 ≤ i
 
--- what is asked of each request by itself, but for its port and what its items are
-unfoldable pub requestRight : List Process → List Row → Request → Bool
-requestRight ps rs v =
-    numberApart rs v && (leb (v .fetched) 1 && (isListed ps (v .asker) && distinct (nonzero (v .items))))
+-- what is asked of each request by itself, but for its number, its port and what its items are
+unfoldable pub requestRight : List Process → Request → Bool
+requestRight ps v = leb (v .fetched) 1 && (isListed ps (v .asker) && distinct (nonzero (v .items)))
 
 -- the slot plus 1 of the client end of its port, if that stands
 unfoldable pub standingPort : List Row → Request → ℕ
 standingPort rs v = if portStands rs v then rowSlot rs (v .port) else 0
 
 -- ---- all requests
--- each by itself
-abbrev pub requestsRight : State → Bool
-requestsRight st = all (requestRight (st .processes) (st .rows)) (st .requests)
-
 -- the ports stand, and no two are the same
 unfoldable pub portsRight : List Row → List Request → Bool
 portsRight rs vs = all (portStands rs) vs && distinct (map (λ v. v .port) vs)
