@@ -1,5 +1,6 @@
 // The clauses of soundness of holders, each named as in rows/specs/Sound.antt: the listing of rows by requests, from
-// the newest request to the oldest. Slots of rows are given plus 1, 0 for none.
+// the newest request to the oldest. It tells copies too: each item is an end or a copy for the request that lists it,
+// so a row that bears a request and is listed is listed by that one. Slots of rows are given plus 1, 0 for none.
 use crate::request_clauses::items_lent;
 use crate::request_clauses::lists_none;
 use crate::request_clauses::slot_among;
@@ -20,7 +21,8 @@ ghost use Rattle.rows.specs.Sound.{same};
 ghost use Rattle.rows.specs.Layout.{requestAt};
 ghost use Rattle.rows.specs.contracts.Sizes.{ROWS, REQUESTS, IsTables};
 ghost use Rattle.rows.specs.contracts.OfState.{TestsTables};
-ghost use Rattle.soundness_loans.specs.contracts.Clauses.{OfRequest, SlotsWithin, ViasOlder, allOfHolders, listingCode};
+ghost use Rattle.soundness_loans.specs.contracts.Clauses.{OfRequest, SlotsWithin, ViasOlder, allOfHolders};
+ghost use Rattle.soundness_loans.specs.contracts.Clauses.{listingCode};
 ghost use Rattle.soundness_loans.specs.contracts.Clauses.{codeAt, listAt, listAll, anyListed, itemSlots};
 ghost use Rattle.soundness_loans.specs.contracts.Clauses.{onceIn, markedIn, listedRight, relisted, heldTo};
 
@@ -140,14 +142,16 @@ fn system_holds(place: u32, code: u8) -> bool
     (there & waits) | (!there & !waits)
 }
 
-// Whether a row bears no request, or is listed. Ruled out: yes for a copy that no request lists; no for other rows.
+// (rule S24) Whether a row bears no request, or is listed.
+// Ruled out: yes for a copy that no request lists; no for other rows.
 fn copy_listed(bears: u32, code: u8) -> bool
     ensures { λ r. ⌜ r ≡ (eqb bears 0 || some code) ⌝ }
 {
     (bears == 0) | (0 < code)
 }
 
-// Whether each of the first n rows is held, and listed, as it must. Ruled out: the last row alone decides; one past them.
+// Whether each of the first n rows is held, and listed, as it must.
+// Ruled out: the last row alone decides; one past them.
 fn rows_held(t: &[u32], n: usize, listing: &[u8; ROWS]) -> bool
     requires { ⌜ IsTables (now t) × (n ≤ ROWS) ⌝ }
     ensures { λ r. ⌜ r ≡ heldTo (now (t .entry)) (now (listing .entry)) n ⌝ }

@@ -116,7 +116,8 @@ fn via_number(t: &[u32], n: usize, s: usize) -> u32
     word_at(t, NUMBER, via as usize)
 }
 
-// The row numbered e, whose slot plus 1 is s, is a copy for it: it bears its number, is newer, and came over its port.
+// (rules S13, S24) The row numbered e, whose slot plus 1 is s, is a copy for it: it bears its number, is newer, and
+// came over its port.
 // Ruled out: a copy that bears another request; one over another port; one that is older than the request.
 fn is_copy_for(t: &[u32], n: usize, j: usize, e: u32, s: usize) -> bool
     requires sizes { ⌜ IsTables (now t) × (n ≤ ROWS) × (j < REQUESTS) × (s ≤ n) ⌝ }
@@ -254,7 +255,7 @@ fn first_not_below(t: &[u32], n: usize, from: usize, q: u32) -> usize
     s
 }
 
-// No request has the number of a row. Both rise, so one walk along the rows serves all requests.
+// (rule S3) No request has the number of a row. Both rise, so one walk along the rows serves all requests.
 // Ruled out: yes where the newest request has the number of a row; the rows from the oldest on for each request.
 fn numbers_apart(t: &[u32], n: usize, m: usize) -> bool
     requires { ⌜ IsTables (now t) × (n ≤ ROWS) × (m ≤ REQUESTS) ⌝ }

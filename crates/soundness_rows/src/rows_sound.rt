@@ -1,4 +1,5 @@
-// The rows are sound: the clauses of every row, the oldest first, in one loop for each group of clauses.
+// The rows are sound, but for the requests that they bear (crate soundness_loans): the clauses of every row, the oldest
+// first, in one loop for each group of clauses.
 use crate::packed::PACKED;
 use crate::packed::pack;
 use crate::row_clauses::of_one_port;
@@ -103,8 +104,8 @@ fn sources_sound(t: &[u32], p: &[u32], n: usize) -> bool
     right & packed_sound(t, &packs, n)
 }
 
-// The clauses of rows, but for the requests that they bear. Ruled out: a last row that is not tested; true where one row
-// breaks one clause.
+// The clauses of rows, but for the requests that they bear.
+// Ruled out: a last row that is not tested; true where one row breaks one clause.
 pub fn rows_sound(t: &[u32], p: &[u32], n: usize) -> bool
     requires sizes { ⌜ IsTables (now t) × IsRecords (now p) × (n ≤ ROWS) ⌝ }
     requires sources { ⌜ SourcesOlder (now t) n ⌝ }
