@@ -13,7 +13,8 @@ use lib.ListN.{length, getD, take, drop, length-take, List·getD-eq-default}
 use lib.Seq.{getD-take, getD-drop}
 use Rattle.rows.specs.contracts.Sizes.{ROWS, REQUESTS, SOURCE, VIA, Q-NUMBER}
 use Rattle.soundness.specs.contracts.Laid.{Decides, before, Rising, Older, ZeroFrom, RowsUnused, RequestsUnused, RowsLaid, RequestsLaid}
-use Rattle.rows.proofs.Bools.{and-l, and-r, and-i}
+use lib.Bits.{bitOr, or-add-and, and-le-l, and-le-r}
+use Rattle.rows.proofs.Bools.{and-l, and-r, and-i, bool-eq}
 
 lt-or-ge : (a b : ℕ) → (a < b) ⊎ (b ≤ a)
 lt-or-ge a b = elim (decLt a b) [ yes h ↦ inl h | no h ↦ inr (omega arith) ]
@@ -47,6 +48,22 @@ module _ (P : ℕ → Type 0) where
       (decides-and a b h here)
 
 -- ---- what the loops over a column answer
+-- the bits of two words together are none exactly if each has none
+pub or-zero : (a b : ℕ) → eqb (bitOr a b) 0 ≡ eqb a 0 && eqb b 0
+or-zero a b =
+    bool-eq (eqb (bitOr a b) 0) (eqb a 0 && eqb b 0)
+    (λ e.
+    let none = eqb-true (bitOr a b) 0 e in
+    let sum = or-add-and a b in
+    let le = and-le-l a b in
+    let le′ = and-le-r a b in
+    and-i (eqb a 0) (eqb b 0) (eq-eqb a 0 (omega arith)) (eq-eqb b 0 (omega arith)))
+    (λ e.
+    let left = eqb-true a 0 (and-l (eqb a 0) (eqb b 0) e) in
+    let right = eqb-true b 0 (and-r (eqb a 0) (eqb b 0) e) in
+    let sum = or-add-and a b in
+    eq-eqb (bitOr a b) 0 (omega arith))
+
 pub decides-zero : (l : List ℕ) (k i : ℕ) (a : Bool) → length l ≤ i → Decides a (Between k i (λ j. getD l j 0 ≡ 0)) → Decides a (ZeroFrom k l)
 unfolding ZeroFrom
 decides-zero l k i a h = decides-as (λ x j lo. ⊎-elim (λ lt. x j lo lt) (λ ge. List·getD-eq-default l 0 (le-trans h ge)) (lt-or-ge j i)) (λ x j lo hi. x j lo)

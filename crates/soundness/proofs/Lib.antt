@@ -7,5 +7,7 @@ pub mod ListTo
 pub mod LaidWords
 -- soundness of the process records and of the next number
 pub mod RecordClauses
+-- copies told by the listing of items
+pub mod CopiesListed
 -- soundness as the code tests it: the words laid, then the clauses in groups
 pub mod SoundParts

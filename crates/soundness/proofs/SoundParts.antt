@@ -5,18 +5,22 @@ use mathlib.Core.List.{List}
 use mathlib.Core.Path.{_≡_, refl, ap, sym, subst, _∙_}
 use borrow.Author.Tests.{eq-eqb, ne-eqb}
 use lib.ListN.{length}
-use Rattle.rows.specs.Lists.{sameList}
+use Rattle.rows.specs.Lists.{each, sameList}
 use Rattle.rows.specs.Limits.{processes, rowSlots, requestSlots}
 use Rattle.rows.specs.Tables.{State}
 use Rattle.rows.specs.Sound.{rowsRise, requestsRise, numbersApart, belowNext, nextInRange, rowsFit, requestsFit, recordsFit, objectsInRange, rightsInRange, placesInRange, fetchedInRange, sourcesRight, depthsRight, copiesMatch, recordsInRange, endsPaired, portsStand, requestersListed, itemsFew, itemsApart, itemsLent, onePerPort, copiesListed, olderFetched, systemHolds, processesPlaced, sound}
 use Rattle.rows.specs.Layout.{rowColumns, requestColumns, requestsAt, nextAt, tablesLength, processesLength, wordsOf, recordsIn, rowsIn, requestsIn, stateOf, rightLengths, soundWords}
 use Rattle.rows.specs.contracts.Represents.{laidWell, Represents, sourcesOlder}
 use Rattle.soundness.specs.contracts.Laid.{Decides, RowsLaid, RequestsLaid}
+use Rattle.soundness_rows.specs.contracts.Clauses.{bySources, allButLoans, loansRight}
+use Rattle.soundness_loans.specs.contracts.Clauses.{itemsRight, copiesSeen, allOfHolders}
 use Rattle.rows.proofs.Bools.{false-of, clash, bool-eq, and-l, and-r, and-i, not-t, not-f}
 use Rattle.tables.proofs.Sound.{Numbers, RowsSound, LoansSound, Sound, sound-open, sound-close}
 use Rattle.rows.proofs.LayoutColumns.{list-same}
 use Rattle.tables.proofs.Words.{words-state, sound-represents}
 use Rattle.rows.proofs.ProcessRecords.{length-in}
+use Rattle.soundness_rows.proofs.RowsSound.{loans-joined}
+use Rattle.soundness.proofs.CopiesListed.{items-listed, copies-lent, copies-seen, items-lent}
 use Rattle.soundness.proofs.LaidWords.{laid-represents, represented-rows-laid, represented-requests-laid}
 
 -- ---- the groups
@@ -120,23 +124,46 @@ module _ (st : State) {t : List ℕ} (rep : Represents t st) (rows : ofRows st �
       }
 
 -- the tests of the groups
-module _ (st : State) {t : List ℕ} (rep : Represents t st) (fit : recordsFit (st .processes) ≡ true) where
-  pub groups-sound : (rows requests holders placed : Bool) → rows ≡ ofRows st → requests ≡ ofRequests st
-      → holders ≡ ofHolders st → placed ≡ processesPlaced (st .rows) (st .processes)
+module _ (st : State) {t : List ℕ} (rep : Represents t st) where
+  abbrev alone : Bool
+  alone = allButLoans (st .processes) (st .rows)
+
+  -- rows but for the requests that they bear, and items and holders with those requests, are rows and holders; and back
+  loans-told : alone ≡ true → allOfHolders st ≡ true → (ofRows st ≡ true) × (ofHolders st ≡ true)
+  loans-told rows holders =
+      let right : itemsRight (st .rows) (st .requests) ≡ true = search and-l in
+      let older : olderFetched (st .requests) ≡ true = search (and-l, and-r) in
+      let system : systemHolds (st .requests) (st .rows) ≡ true = search (and-l, and-r) in
+      let seen : copiesSeen (st .requests) (st .rows) ≡ true = search (and-l, and-r) in
+      let sources : each bySources (st .rows) ≡ true = search (and-l, and-r) in
+      let loans = copies-lent rep right sources seen in
+      (sym (loans-joined st) ∙ and-i alone (loansRight st) rows loans, rw (items-listed rep right, older, system) refl)
+
+  loans-back : ofRows st ≡ true → ofHolders st ≡ true → (alone ≡ true) × (allOfHolders st ≡ true)
+  loans-back rows holders =
+      let both : alone && loansRight st ≡ true = loans-joined st ∙ rows in
+      let loans : loansRight st ≡ true = and-r alone (loansRight st) both in
+      let older : olderFetched (st .requests) ≡ true = search (and-l, and-r) in
+      let system : systemHolds (st .requests) (st .rows) ≡ true = search (and-l, and-r) in
+      let items : itemsLent (st .rows) (st .requests) ≡ true = search and-l in
+      (and-l alone (loansRight st) both, rw (items-lent rep loans items, older, system, copies-seen rep loans) refl)
+
+  pub groups-sound : recordsFit (st .processes) ≡ true → (rows requests holders placed : Bool) → rows ≡ alone → requests ≡ ofRequests st
+      → holders ≡ allOfHolders st → placed ≡ processesPlaced (st .rows) (st .processes)
       → ofNext st ≡ true → recordsInRange (st .processes) ≡ true → rows && (requests && (holders && placed)) ≡ sound st
-  groups-sound rows requests holders placed er eq eh ep next records = bool-eq (rows && (requests && (holders && placed))) (sound st) forth back
+  groups-sound fit rows requests holders placed er eq eh ep next records = bool-eq (rows && (requests && (holders && placed))) (sound st) forth back
     where
       forth : rows && (requests && (holders && placed)) ≡ true → sound st ≡ true
       forth e =
           let q : ofRequests st ≡ true = sym eq ∙ and-l requests (holders && placed) (and-r rows (requests && (holders && placed)) e) in
           let rest : holders && placed ≡ true = and-r requests (holders && placed) (and-r rows (requests && (holders && placed)) e) in
-          sound-close st
-          (all-parts st rep (sym er ∙ and-l rows (requests && (holders && placed)) e) q (sym eh ∙ and-l holders placed rest) fit next records
-          (sym ep ∙ and-r holders placed rest))
+          let (told, held) = loans-told (sym er ∙ and-l rows (requests && (holders && placed)) e) (sym eh ∙ and-l holders placed rest) in
+          sound-close st (all-parts st rep told q held fit next records (sym ep ∙ and-r holders placed rest))
 
       back : sound st ≡ true → rows && (requests && (holders && placed)) ≡ true
       back e =
-          rw (er ∙ sound-rows st e, eq ∙ sound-requests st e, eh ∙ sound-holders st e, ep ∙ sound-open st e .placed .processes-placed) refl
+          let (rest, held) = loans-back (sound-rows st e) (sound-holders st e) in
+          rw (er ∙ rest, eq ∙ sound-requests st e, eh ∙ held, ep ∙ sound-open st e .placed .processes-placed) refl
 
 -- the plain clauses come first
 pub clauses-sound : (st : State) (next records tables : Bool) → next ≡ ofNext st → records ≡ recordsInRange (st .processes)

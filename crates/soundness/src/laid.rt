@@ -17,18 +17,18 @@ ghost use Rattle.rows.specs.contracts.Sizes.{ROWS, REQUESTS, IsTables};
 ghost use Rattle.soundness.specs.contracts.Laid.{Decides, Rising, Older, ZeroFrom, RowsUnused, RequestsUnused};
 ghost use Rattle.soundness.specs.contracts.Laid.{RowsLaid, RequestsLaid};
 
-// Whether the words of a column from position k on are 0.
+// Whether the words of a column from position k on are 0: whether all their bits together are.
 // Ruled out: yes where the last word is not 0; no for what stands before position k.
 pub fn zero_from(column: &[u32], k: usize) -> bool
     ensures { λ r. ⌜ Decides r (ZeroFrom k (now (column .entry))) ⌝ }
 {
-    let mut zero = true;
+    let mut bits: u32 = 0;
     let mut i = k;
     while i < column.len() {
-        zero = zero & (column[i] == 0);
+        bits = bits | column[i];
         i += 1;
     }
-    zero
+    bits == 0
 }
 
 // Whether the first k words of a column rise, from above 0.

@@ -27,7 +27,7 @@ fn tables_sound(t: &[u32], p: &[u32], n: usize, m: usize) -> bool
     requires sources { ⌜ SourcesOlder (now t) n ⌝ }
     ensures { λ r. ⌜ TestsRest (now (t .entry)) (now (p .entry)) n m r ⌝ }
 {
-    let rows = rows_sound(t, p, n, m);
+    let rows = rows_sound(t, p, n);
     let requests = requests_sound(t, p, n, m);
     let holders = holders_sound(t, n, m);
     let placed = processes_placed(t, p, n);

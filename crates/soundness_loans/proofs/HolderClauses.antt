@@ -13,10 +13,10 @@ use Rattle.rows.specs.declared.Request.{Request}
 use Rattle.rows.specs.Lists.{any, all, member, some, nonzero}
 use Rattle.rows.specs.Codes.{clientEnd, serverEnd, isClient, isServer, isEnd}
 use Rattle.rows.specs.Tables.{State, noRow, rowOf, lists}
-use Rattle.rows.specs.Sound.{isFetched, mayBeListed}
+use Rattle.rows.specs.Sound.{isFetched}
 use Rattle.rows.specs.contracts.Represents.{Represents}
 use Rattle.rows.specs.Layout.{rowSlot}
-use Rattle.soundness_loans.specs.contracts.Clauses.{itemsListable, codeAt, listAt, listAll, itemSlots, listedOnce, relisted}
+use Rattle.soundness_loans.specs.contracts.Clauses.{isCopyFor, mayBeLent, itemsListable, codeAt, listAt, listAll, itemSlots, listedOnce, relisted}
 use Rattle.rows.proofs.Bools.{false-of, clash, and-l, and-r, and-i, or-false, pos-some, eqb-self, all-at}
 use Rattle.rows.proofs.Slots.{represented-well, slot-le, row-absent}
 use Rattle.soundness_loans.proofs.RequestClauses.{no-slot, slot-test, member-nonzero}
@@ -146,11 +146,11 @@ Lent st v = itemsListable (st .rows) v ≡ true
 
 -- an item that is there is a row
 item-there : (st : State) (v : Request) → Lent st v → (e : ℕ) → lists e v ≡ true → rowSlot (st .rows) e ≡ 0 → ⊥
-unfolding lists mayBeListed isEnd isClient isServer clientEnd serverEnd noRow some
+unfolding lists mayBeLent isCopyFor isEnd isClient isServer clientEnd serverEnd noRow some
 item-there st v lent e h z =
     let here : some e ≡ true = and-l (some e) (member e (v .items)) h in
     let there : member e (nonzero (v .items)) ≡ true = member-nonzero e (v .items) here ∙ and-r (some e) (member e (v .items)) h in
-    clash (all-at (λ e. mayBeListed v (rowOf (st .rows) e)) (nonzero (v .items)) lent e there) (ap (mayBeListed v) (row-absent (st .rows) e z))
+    clash (all-at (λ e. mayBeLent v (rowOf (st .rows) e)) (nonzero (v .items)) lent e there) (ap (mayBeLent v) (row-absent (st .rows) e z))
 
 member-slot : {st : State} {t : List ℕ} → Represents t st → (e i : ℕ) → rowSlot (st .rows) e ≡ suc i → (es : List ℕ)
     → member (suc i) (map (rowSlot (st .rows)) es) ≡ member e es

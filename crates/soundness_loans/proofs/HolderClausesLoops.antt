@@ -14,13 +14,13 @@ use Rattle.rows.specs.declared.Request.{Request}
 use Rattle.rows.specs.Lists.{any, all, rises, some}
 use Rattle.rows.specs.Codes.{isSystem}
 use Rattle.rows.specs.Tables.{State, lists}
-use Rattle.rows.specs.Sound.{itemsLent, isFetched, olderFetched, awaitsFetch, same, systemHolds}
+use Rattle.rows.specs.Sound.{isFetched, olderFetched, awaitsFetch, same, systemHolds}
 use Rattle.rows.specs.Layout.{requestAt, requestsTo, rowSlot}
 use Rattle.rows.specs.contracts.Represents.{Represents}
-use Rattle.soundness_loans.specs.contracts.Clauses.{itemsListable, listingCode, listingOf, codeAt, listAll, itemSlots, listedOnce, relisted, heldTo, allOfHolders}
+use Rattle.soundness_loans.specs.contracts.Clauses.{itemsListable, itemsRight, copiesSeen, listingCode, listingOf, codeAt, listAll, itemSlots, listedOnce, relisted, heldTo, allOfHolders}
 use Rattle.rows.proofs.Bools.{clash, and-l, and-r, or-r, and-true, or-false, pos-some}
-use Rattle.rows.proofs.Slots.{represented-well, row-words-at, slot-number}
-use Rattle.soundness_loans.proofs.RequestClauses.{requests-read}
+use Rattle.rows.proofs.Slots.{RowWords, represented-well, row-words-at, slot-number}
+use Rattle.soundness_loans.proofs.RequestClauses.{requests-read, all-both}
 use Rattle.soundness_loans.proofs.HolderClausesOlder.{fetchedAfter, older-after}
 use Rattle.soundness_loans.proofs.HolderClauses.{code-none, length-list-all, listed-now, Lent, code-turn}
 
@@ -136,27 +136,36 @@ awaits-is (v ∷ vs) e = pick (awaits-is vs e) (lists e v) (isFetched v)
     pick ih false f = ih
 
 pub held-rows : {st : State} {t : List ℕ} → Represents t st → (l : List ℕ) → ((e : ℕ) → listingOf (st .requests) e ≡ codeAt l (rowSlot (st .rows) e))
-    → systemHolds (st .requests) (st .rows) ≡ heldTo t l (length (st .rows))
-unfolding systemHolds all heldTo codeAt rowSlot
-held-rows {st} {t} rep l codes = along [] (st .rows) refl
+    → systemHolds (st .requests) (st .rows) && copiesSeen (st .requests) (st .rows) ≡ heldTo t l (length (st .rows))
+unfolding systemHolds copiesSeen all heldTo codeAt rowSlot
+held-rows {st} {t} rep l codes = sym (all-both held seen (st .rows)) ∙ along [] (st .rows) refl
   where
-    test : Row → Bool
-    test r = same (isSystem (r .place)) (awaitsFetch (st .requests) (r .number))
+    held : Row → Bool
+    held r = same (isSystem (r .place)) (awaitsFetch (st .requests) (r .number))
 
-    along : (new old : List Row) → st .rows ≡ new ++ old → all test old ≡ heldTo t l (length old)
+    seen : Row → Bool
+    seen r = eqb (r .request) 0 || some (listingOf (st .requests) (r .number))
+
+    along : (new old : List Row) → st .rows ≡ new ++ old → all (λ r. held r && seen r) old ≡ heldTo t l (length old)
     along new [] e = refl
     along new (r ∷ old) e =
         λ i.
-        same (isSystem (sym (row-words-at rep new r old e .place) i)) (waits i)
+        (same (isSystem (sym (words .place) i)) (waits i) && (eqb (sym (words .request) i) 0 || some (code i)))
         && along (new ++ (r ∷ [])) old (e ∙ sym (append-assoc new (r ∷ []) old)) i
       where
+        words : RowWords t (length old) r old
+        words = row-words-at rep new r old e
+
         slot : rowSlot (st .rows) (r .number) ≡ suc (length old)
         slot =
             ap (λ (rs : List Row). rowSlot rs (r .number)) e
             ∙ slot-number (λ r. r .number) new r old (ap (rises (λ r. r .number)) (sym e) ∙ represented-well rep .rows-rise)
 
+        code : listingOf (st .requests) (r .number) ≡ getD l (length old) 0
+        code = codes (r .number) ∙ ap (codeAt l) slot
+
         waits : awaitsFetch (st .requests) (r .number) ≡ eqb (getD l (length old) 0) 2
-        waits = awaits-is (st .requests) (r .number) ∙ ap (λ (n : ℕ). eqb n 2) (codes (r .number) ∙ ap (codeAt l) slot)
+        waits = awaits-is (st .requests) (r .number) ∙ ap (λ (n : ℕ). eqb n 2) code
 
 -- ---- over the slots of the requests
 lent-at : (F : Request → Bool) (t : List ℕ) (m : ℕ) → all F (requestsTo t m) ≡ true → (j : ℕ) → j < m → F (requestAt t j) ≡ true
@@ -166,8 +175,8 @@ lent-at F t (suc m) h j lt =
     ⊎-elim (λ e. ap (λ (k : ℕ). F (requestAt t k)) e ∙ and-l (F (requestAt t m)) (all F (requestsTo t m)) h)
     (λ less. lent-at F t m (and-r (F (requestAt t m)) (all F (requestsTo t m)) h) j less) (eq-or-lt-of-le (le-of-suc-le-suc lt))
 
-pub items-lent : {st : State} {t : List ℕ} → Represents t st → itemsLent (st .rows) (st .requests) ≡ true → (j : ℕ) → j < length (st .requests) → Lent st (requestAt t j)
-unfolding itemsLent
+pub items-lent : {st : State} {t : List ℕ} → Represents t st → itemsRight (st .rows) (st .requests) ≡ true → (j : ℕ) → j < length (st .requests) → Lent st (requestAt t j)
+unfolding itemsRight
 items-lent {st} {t} rep h j lt =
     lent-at (itemsListable (st .rows)) t (length (st .requests)) (ap (all (itemsListable (st .rows))) (requests-read rep) ∙ h) j lt
 
@@ -183,14 +192,14 @@ listing-next {st} {t} rep whole j l l′ older r pos lent e d p =
 -- all requests are listed, and the rows looked at
 listed-end : {st : State} {t : List ℕ} → Represents t st → (n m : ℕ) → n ≡ length (st .rows) → m ≡ length (st .requests)
     → (j : ℕ) → j ≤ 0 → (l : List ℕ) (older held : Bool)
-    → Listing (st .rows) (requestsTo t m) (requestsTo t j) l older → held ≡ heldTo t l n → older && held ≡ olderFetched (st .requests) && systemHolds (st .requests) (st .rows)
+    → Listing (st .rows) (requestsTo t m) (requestsTo t j) l older → held ≡ heldTo t l n → older && held ≡ olderFetched (st .requests) && (systemHolds (st .requests) (st .rows) && copiesSeen (st .requests) (st .rows))
 unfolding requestsTo
 listed-end {st} {t} rep n m e d j h l older held p q =
     let none : j ≡ 0 = omega arith in
     let whole : requestsTo t m ≡ st .requests = ap (requestsTo t) d ∙ requests-read rep in
     let (a, b) = listing-end (st .rows) (requestsTo t m) l older (subst (λ (k : ℕ). Listing (st .rows) (requestsTo t m) (requestsTo t k) l older) none p) in
     let first : older ≡ olderFetched (st .requests) = a ∙ ap (fetchedAfter (λ x. false)) whole ∙ sym (older-after st) in
-    let second : held ≡ systemHolds (st .requests) (st .rows) = q ∙ ap (heldTo t l) e ∙ sym (held-rows rep l (λ x. ap (λ (vs : List Request). listingOf vs x) (sym whole) ∙ b x)) in
+    let second : held ≡ systemHolds (st .requests) (st .rows) && copiesSeen (st .requests) (st .rows) = q ∙ ap (heldTo t l) e ∙ sym (held-rows rep l (λ x. ap (λ (vs : List Request). listingOf vs x) (sym whole) ∙ b x)) in
     λ i. first i && second i
 
 -- ---- the items of all requests
@@ -204,8 +213,8 @@ lent-next F t j whole h e p =
 pub holders-end : {st : State} {t : List ℕ} → Represents t st → (n m : ℕ) → n ≡ length (st .rows) → m ≡ length (st .requests)
     → (j : ℕ) → j ≤ 0 → (l : List ℕ) (right held : Bool)
     → (right ≡ true → all (itemsListable (st .rows)) (requestsTo t j) ≡ all (itemsListable (st .rows)) (requestsTo t m))
-    → (itemsLent (st .rows) (st .requests) ≡ true → Listing (st .rows) (requestsTo t m) (requestsTo t j) l right) → held ≡ heldTo t l n → right && held ≡ allOfHolders st
-unfolding requestsTo itemsLent all
+    → (itemsRight (st .rows) (st .requests) ≡ true → Listing (st .rows) (requestsTo t m) (requestsTo t j) l right) → held ≡ heldTo t l n → right && held ≡ allOfHolders st
+unfolding requestsTo itemsRight all
 holders-end {st} {t} rep n m e d j h l right held lent p q = pick (all (itemsListable (st .rows)) (st .requests)) refl right refl
   where
     whole : requestsTo t m ≡ st .requests
@@ -215,8 +224,8 @@ holders-end {st} {t} rep n m e d j h l right held lent p q = pick (all (itemsLis
     none = omega arith
 
     pick : (b : Bool) → all (itemsListable (st .rows)) (st .requests) ≡ b → (r : Bool) → right ≡ r
-        → right && held ≡ all (itemsListable (st .rows)) (st .requests) && (olderFetched (st .requests) && systemHolds (st .requests) (st .rows))
-    pick true y r x = listed-end rep n m e d j h l right held (p y) q ∙ ap (λ (c : Bool). c && (olderFetched (st .requests) && systemHolds (st .requests) (st .rows))) (sym y)
+        → right && held ≡ all (itemsListable (st .rows)) (st .requests) && (olderFetched (st .requests) && (systemHolds (st .requests) (st .rows) && copiesSeen (st .requests) (st .rows)))
+    pick true y r x = listed-end rep n m e d j h l right held (p y) q ∙ ap (λ (c : Bool). c && (olderFetched (st .requests) && (systemHolds (st .requests) (st .rows) && copiesSeen (st .requests) (st .rows)))) (sym y)
     pick false y false x = rw (x, y) refl
     pick false y true x =
         clash (sym (ap (all (itemsListable (st .rows))) whole) ∙ sym (lent x) ∙ ap (λ (k : ℕ). all (itemsListable (st .rows)) (requestsTo t k)) none) y

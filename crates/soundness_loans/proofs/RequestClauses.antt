@@ -1,26 +1,29 @@
 -- The clauses of one request, over the words of its slot and the slots of the rows that it names.
-use Prim.Native.Nat.{ℕ, zero, suc, _+_}
+use Prim.Native.Nat.{ℕ, zero, suc, _+_, _≤_, zero-le}
 use mathlib.Core.Bool.{Bool, true, false, not, cond, _&&_, _||_}
 use mathlib.Core.List.{List, [], _∷_}
 use mathlib.Core.Path.{_≡_, refl, ap, sym, _∙_}
+use mathlib.Core.Logic.{_⊎_, inl, inr, ⊎-elim}
+use native.Mathlib.Nat.{zero-add}
 use native.Mathlib.Numerals.{add-one}
 use native.Mathlib.Omega.{arith}
-use borrow.Author.Tests.{eqb-true, eq-eqb, ne-eqb, lt-ltb}
+use borrow.Author.Tests.{eqb-true, eq-eqb, lt-ltb}
 use lib.Dec.{ltb, eqb}
 use lib.ListN.{length, getD}
 use Rattle.rows.specs.declared.Row.{Row}
 use Rattle.rows.specs.declared.Request.{Request}
-use Rattle.rows.specs.Lists.{filter, all, member, distinct, some, nonzero}
+use Rattle.rows.specs.Lists.{filter, all, rises, member, distinct, some, nonzero}
 use Rattle.rows.specs.Limits.{rowSlots, requestSlots}
 use Rattle.rows.specs.Codes.{clientEnd, serverEnd, isClient, isServer, isEnd}
 use Rattle.rows.specs.Tables.{State, noRow, rowOf, numbers}
-use Rattle.rows.specs.Sound.{itemsFew, portStands, mayBeListed}
+use Rattle.rows.specs.Sound.{itemsFew, portStands}
 use Rattle.rows.specs.Layout.{rowColumns, requestColumns, requestsAt, requestAt, requestsTo, rowSlot}
-use Rattle.rows.specs.contracts.Represents.{Represents}
-use Rattle.soundness_loans.specs.contracts.Clauses.{itemsListable, wordAt, standingPort}
+use Rattle.rows.specs.contracts.Represents.{Represents, sourcesOlder}
+use Rattle.soundness_loans.specs.contracts.Clauses.{itemsListable, isCopyFor, mayBeLent, ViasOlder, wordAt, standingPort}
 use Rattle.rows.proofs.Bools.{bool-eq, clash, and-l, and-r, and-true, or-false}
 use Rattle.rows.proofs.LayoutRequests.{requests-back}
-use Rattle.rows.proofs.Slots.{represented-well, represented-request, row-found, row-none, row-absent, row-words, request-read, slot-zero}
+use Rattle.rows.proofs.Keyed.{olderOf, rises-rest}
+use Rattle.rows.proofs.Slots.{represented-well, represented-request, row-cut, row-found, row-none, row-absent, row-words, request-read, slot-zero, newerOf, rises-old, source-rises, sources-among, via-of}
 
 -- ---- the words of a request's slot
 module _ (t : List ℕ) (j : ℕ) where
@@ -45,13 +48,6 @@ unfolding all requestsTo
 all-next F t j p q = rw (add-one j) (λ i. p i && q i)
 
 -- ---- the slot of a row
-pub apart-slot : (rs : List Row) (q : ℕ) → eqb (rowSlot rs q) 0 ≡ not (member q (numbers rs))
-apart-slot rs q = pick (rowSlot rs q) refl
-  where
-    pick : (s : ℕ) → rowSlot rs q ≡ s → eqb s 0 ≡ not (member q (numbers rs))
-    pick zero e = sym (ap not (row-none rs q e))
-    pick (suc i) e = ne-eqb (suc i) 0 (λ d. omega arith) ∙ sym (ap not (row-found rs q i e .0))
-
 module _ {st : State} {t : List ℕ} (rep : Represents t st) where
   -- all requests are read
   pub requests-read : requestsTo t (length (st .requests)) ≡ st .requests
@@ -97,12 +93,68 @@ module _ {st : State} {t : List ℕ} (rep : Represents t st) where
       pick zero d = rw (row-absent (st .rows) e d) refl
       pick (suc i) d = ap (λ (n : ℕ). isEnd (rowOf (st .rows) e .kind) && ltb n q) (sym (row-found (st .rows) e i d .1))
 
-  pub may-be-listed : (v : Request) (e q kind bears : ℕ) → (e ≡ 0 → ⊥) → v .number ≡ q → kind ≡ rowOf (st .rows) e .kind → bears ≡ rowOf (st .rows) e .request
-      → (isEnd kind && ltb e q) || (ltb 0 bears && eqb bears q) ≡ not (some e) || mayBeListed v (rowOf (st .rows) e)
-  unfolding some mayBeListed
-  may-be-listed v e q kind bears z a b c =
-      let own = rowOf (st .rows) e .request in
-      rw (lt-ltb 0 e (omega arith), b, c, ← a) (ap (λ (x : Bool). x || (ltb 0 own && eqb own (v .number))) (older-end e (v .number)))
+  -- the number at the slot of a row's second source
+  number-back : (n : ℕ) → (n ≡ 0) ⊎ (rowSlot (st .rows) n ≡ 0 → ⊥) → wordAt t 0 (rowSlot (st .rows) n) ≡ n
+  unfolding wordAt
+  number-back n among = pick (rowSlot (st .rows) n) refl
+    where
+      pick : (s : ℕ) → rowSlot (st .rows) n ≡ s → wordAt t 0 s ≡ n
+      pick zero e = ⊎-elim (λ z. sym z) (λ h. absurd (h e)) among
+      pick (suc k) e = ap (λ (i : ℕ). getD t i 0) (zero-add k) ∙ row-words rep n k e .number ∙ row-found (st .rows) n k e .1
+
+  pub via-word : (x : ℕ) → wordAt t 0 (wordAt t 7168 (rowSlot (st .rows) x)) ≡ rowOf (st .rows) x .via
+  unfolding wordAt noRow
+  via-word x = pick (rowSlot (st .rows) x) refl
+    where
+      row : Row
+      row = rowOf (st .rows) x
+
+      newer : List Row
+      newer = newerOf (λ r. r .number) (st .rows) x
+
+      older : List Row
+      older = olderOf (λ r. r .number) (st .rows) x
+
+      there : (i : ℕ) → rowSlot (st .rows) x ≡ suc i → (row .via ≡ 0) ⊎ (rowSlot (st .rows) (row .via) ≡ 0 → ⊥)
+      there i e =
+          let cut = row-cut (st .rows) x i e .0 in
+          let up = ap (rises (λ r. r .number)) (sym cut) ∙ represented-well rep .rows-rise in
+          let up-old = rises-rest (λ r. r .number) row older (rises-old (λ r. r .number) newer (row ∷ older) up) in
+          ⊎-elim inl
+          (λ m. inr (λ z. clash m (row-none older (row .via) (sym (source-rises older up-old (row .via)) ∙ via-of st (represented-well rep) x i e .0 ∙ z))))
+          (sources-among newer row older up (ap sourcesOlder (sym cut) ∙ represented-well rep .sources-old) .1)
+
+      pick : (s : ℕ) → rowSlot (st .rows) x ≡ s → wordAt t 0 (wordAt t 7168 s) ≡ row .via
+      pick zero e = sym (ap (λ (r : Row). r .via) (row-absent (st .rows) x e))
+      pick (suc i) e = ap (wordAt t 0) (row-words rep x i e .via ∙ via-of st (represented-well rep) x i e .0) ∙ number-back (row .via) (there i e)
+
+  pub copy-for : (v : Request) (e q port bears over : ℕ) → q ≡ v .number → port ≡ v .port → bears ≡ rowOf (st .rows) e .request → over ≡ rowOf (st .rows) e .via
+      → ltb 0 bears && (eqb bears q && (ltb q e && eqb port over)) ≡ isCopyFor v (rowOf (st .rows) e)
+  unfolding isCopyFor some noRow
+  copy-for v e q port bears over a b c d = rw (a, b, c, d) (pick (rowSlot (st .rows) e) refl)
+    where
+      own : Row
+      own = rowOf (st .rows) e
+
+      pick : (s : ℕ) → rowSlot (st .rows) e ≡ s
+          → ltb 0 (own .request) && (eqb (own .request) (v .number) && (ltb (v .number) e && eqb (v .port) (own .via)))
+          ≡ ltb 0 (own .request) && (eqb (own .request) (v .number) && (ltb (v .number) (own .number) && eqb (v .port) (own .via)))
+      pick zero z = rw (row-absent (st .rows) e z) refl
+      pick (suc i) z =
+          ap (λ (n : ℕ). ltb 0 (own .request) && (eqb (own .request) (v .number) && (ltb (v .number) n && eqb (v .port) (own .via))))
+          (sym (row-found (st .rows) e i z .1))
+
+  pub may-be-lent : (v : Request) (e q kind : ℕ) (copy : Bool) → (e ≡ 0 → ⊥) → q ≡ v .number → kind ≡ rowOf (st .rows) e .kind → copy ≡ isCopyFor v (rowOf (st .rows) e)
+      → (isEnd kind && ltb e q) || copy ≡ not (some e) || mayBeLent v (rowOf (st .rows) e)
+  unfolding some mayBeLent
+  may-be-lent v e q kind copy z a b c =
+      rw (lt-ltb 0 e (omega arith), b, c, a) (ap (λ (x : Bool). x || isCopyFor v (rowOf (st .rows) e)) (older-end e (v .number)))
+
+-- the second source of a row in use is a slot
+pub via-small : (t : List ℕ) (n s : ℕ) → ViasOlder t n → n ≤ 1024 → s ≤ n → wordAt t 7168 s ≤ 1024
+unfolding wordAt
+via-small t n zero vias few h = zero-le
+via-small t n (suc i) vias few h = let le = vias i h in omega arith
 
 -- ---- tests joined
 pub all-both : {A : Type 0} (f g : A → Bool) (xs : List A) → all (λ x. f x && g x) xs ≡ all f xs && all g xs

@@ -12,13 +12,14 @@ use lib.ListN.{length, getD, set, replicate, length-set, length-replicate, getD-
 use lib.Seq.{getD-set-same, getD-set-other}
 use Rattle.rows.specs.declared.Row.{Row}
 use Rattle.rows.specs.declared.Request.{Request}
+use Rattle.rows.specs.declared.Process.{Process}
 use Rattle.rows.specs.Lists.{any, all, member, distinct, nonzero}
 use Rattle.rows.specs.Codes.{clientEnd, isClient}
 use Rattle.rows.specs.Tables.{State, noRow, rowOf, isListed}
 use Rattle.rows.specs.Sound.{numbersApart, fetchedInRange, portStands, portsStand, requestersListed, itemsApart, onePerPort}
 use Rattle.rows.specs.Layout.{requestAt, requestsTo, rowSlot}
 use Rattle.rows.specs.contracts.Represents.{Represents}
-use Rattle.soundness_loans.specs.contracts.Clauses.{numberApart, requestRight, requestsRight, standingPort, portsRight, allOfRequests, isFree, withMark}
+use Rattle.soundness_loans.specs.contracts.Clauses.{requestRight, standingPort, portsRight, allOfRequests, isFree, withMark}
 use Rattle.rows.proofs.Bools.{clash, and-l, and-r, and-false, eqb-sym}
 use Rattle.rows.proofs.Slots.{row-absent}
 use Rattle.soundness_loans.proofs.RequestClauses.{slot-test, all-both}
@@ -132,40 +133,28 @@ unfolding requestsTo
 ports-next rep u j marks marks′ right r s e h free mark p = rw (add-one j, free, mark) (ports-turn rep (requestsTo u j) marks right (requestAt u j) s e h p)
 
 -- ---- the clauses joined
-each-right : (st : State) → requestsRight st
-    ≡ numbersApart (st .rows) (st .requests)
-    && (fetchedInRange (st .requests)
-    && (requestersListed (st .processes) (st .requests) && itemsApart (st .requests)))
-unfolding requestRight numbersApart fetchedInRange requestersListed itemsApart
-each-right st =
-    all-both apart (λ v. fetched v && (asked v && once v)) vs
-    ∙ ap (λ (b : Bool). all apart vs && b) (all-both fetched (λ v. asked v && once v) vs ∙ ap (λ (b : Bool). all fetched vs && b) (all-both asked once vs))
+each-right : (ps : List Process) (vs : List Request) → all (requestRight ps) vs ≡ fetchedInRange vs && (requestersListed ps vs && itemsApart vs)
+unfolding requestRight fetchedInRange requestersListed itemsApart
+each-right ps vs = all-both fetched (λ v. asked v && once v) vs ∙ ap (λ (b : Bool). all fetched vs && b) (all-both asked once vs)
   where
-    vs : List Request
-    vs = st .requests
-
-    apart : Request → Bool
-    apart v = numberApart (st .rows) v
-
     fetched : Request → Bool
     fetched v = leb (v .fetched) 1
 
     asked : Request → Bool
-    asked v = isListed (st .processes) (v .asker)
+    asked v = isListed ps (v .asker)
 
     once : Request → Bool
     once v = distinct (nonzero (v .items))
 
-pub requests-joined : (st : State) → requestsRight st && portsRight (st .rows) (st .requests) ≡ allOfRequests st
+pub requests-joined : (st : State) → numbersApart (st .rows) (st .requests) && (all (requestRight (st .processes)) (st .requests) && portsRight (st .rows) (st .requests)) ≡ allOfRequests st
 unfolding portsRight portsStand onePerPort
 requests-joined st =
-    ap (λ (b : Bool). b && portsRight (st .rows) (st .requests)) (each-right st)
-    ∙ join (numbersApart (st .rows) (st .requests)) (fetchedInRange (st .requests)) (portsStand (st .rows) (st .requests))
-    (requestersListed (st .processes) (st .requests)) (itemsApart (st .requests)) (onePerPort (st .requests))
+    ap (λ (b : Bool). numbersApart (st .rows) (st .requests) && (b && portsRight (st .rows) (st .requests))) (each-right (st .processes) (st .requests))
+    ∙ ap (λ (b : Bool). numbersApart (st .rows) (st .requests) && b)
+    (join (fetchedInRange (st .requests)) (portsStand (st .rows) (st .requests)) (requestersListed (st .processes) (st .requests)) (itemsApart (st .requests)) (onePerPort (st .requests)))
   where
-    join : (a b c d e g : Bool) → (a && (b && (d && e))) && (c && g) ≡ a && (b && (c && (d && (e && g))))
-    join false b c d e g = refl
-    join true false c d e g = refl
-    join true true true false e g = refl
-    join true true true true e g = refl
-    join true true false d e g = and-false (d && e)
+    join : (b c d e g : Bool) → (b && (d && e)) && (c && g) ≡ b && (c && (d && (e && g)))
+    join false c d e g = refl
+    join true true false e g = refl
+    join true true true e g = refl
+    join true false d e g = and-false (d && e)

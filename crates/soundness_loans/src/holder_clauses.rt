@@ -1,5 +1,6 @@
 // The clauses of soundness of holders, each named as in rows/specs/Sound.antt: the listing of rows by requests, from
-// the newest request to the oldest. Slots of rows are given plus 1, 0 for none.
+// the newest request to the oldest. It tells copies too: each item is an end or a copy for the request that lists it,
+// so a row that bears a request and is listed is listed by that one. Slots of rows are given plus 1, 0 for none.
 use crate::request_clauses::items_lent;
 use crate::request_clauses::lists_none;
 use crate::request_clauses::slot_among;
@@ -7,9 +8,11 @@ use rows::codes::THE_SYSTEM;
 use rows::layout::PLACE;
 use rows::layout::Q_FETCHED;
 use rows::layout::Q_ITEMS;
+use rows::layout::REQUEST;
 use rows::layout::REQUESTS;
 use rows::layout::ROWS;
 ghost use mathlib.Core.Path.{_≡_};
+ghost use mathlib.Core.Bool.{_||_};
 ghost use Prim.Native.Nat.{_<_, _≤_};
 ghost use lib.Dec.{eqb};
 ghost use Rattle.rows.specs.Lists.{some};
@@ -18,7 +21,8 @@ ghost use Rattle.rows.specs.Sound.{same};
 ghost use Rattle.rows.specs.Layout.{requestAt};
 ghost use Rattle.rows.specs.contracts.Sizes.{ROWS, REQUESTS, IsTables};
 ghost use Rattle.rows.specs.contracts.OfState.{TestsTables};
-ghost use Rattle.soundness_loans.specs.contracts.Clauses.{OfRequest, SlotsWithin, allOfHolders, listingCode};
+ghost use Rattle.soundness_loans.specs.contracts.Clauses.{OfRequest, SlotsWithin, ViasOlder, allOfHolders};
+ghost use Rattle.soundness_loans.specs.contracts.Clauses.{listingCode};
 ghost use Rattle.soundness_loans.specs.contracts.Clauses.{codeAt, listAt, listAll, anyListed, itemSlots};
 ghost use Rattle.soundness_loans.specs.contracts.Clauses.{onceIn, markedIn, listedRight, relisted, heldTo};
 
@@ -113,7 +117,8 @@ fn listed_once(t: &[u32], listing: &mut [u8; ROWS], slots: [usize; 4], j: usize)
 // they are listed. Each item is looked up once.
 // Ruled out: a request with one item passes untested; one of the two alone decides.
 fn list_request(t: &[u32], n: usize, listing: &mut [u8; ROWS], j: usize) -> bool
-    requires { ⌜ IsTables (now t) × (n ≤ ROWS) × (j < REQUESTS) ⌝ }
+    requires sizes { ⌜ IsTables (now t) × (n ≤ ROWS) × (j < REQUESTS) ⌝ }
+    requires vias { ⌜ ViasOlder (now t) n ⌝ }
     ensures right { λ r. ⌜ OfRequest (now (t .entry)) n j r (listedRight (now (listing .entry))) ⌝ }
     ensures marked { λ _. ⌜ OfRequest (now (t .entry)) n j (now (listing .exit)) (relisted (now (listing .entry))) ⌝ }
 {
@@ -122,7 +127,7 @@ fn list_request(t: &[u32], n: usize, listing: &mut [u8; ROWS], j: usize) -> bool
         return true;
     }
     let slots = item_slots(t, n, j);
-    let lent = items_lent(t, slots, j);
+    let lent = items_lent(t, n, slots, j);
     let once = listed_once(t, listing, slots, j);
     lent & once
 }
@@ -137,7 +142,16 @@ fn system_holds(place: u32, code: u8) -> bool
     (there & waits) | (!there & !waits)
 }
 
-// Whether each of the first n rows is held as the listing says. Ruled out: the last row alone decides; one past them.
+// (rule S24) Whether a row bears no request, or is listed.
+// Ruled out: yes for a copy that no request lists; no for other rows.
+fn copy_listed(bears: u32, code: u8) -> bool
+    ensures { λ r. ⌜ r ≡ (eqb bears 0 || some code) ⌝ }
+{
+    (bears == 0) | (0 < code)
+}
+
+// Whether each of the first n rows is held, and listed, as it must.
+// Ruled out: the last row alone decides; one past them.
 fn rows_held(t: &[u32], n: usize, listing: &[u8; ROWS]) -> bool
     requires { ⌜ IsTables (now t) × (n ≤ ROWS) ⌝ }
     ensures { λ r. ⌜ r ≡ heldTo (now (t .entry)) (now (listing .entry)) n ⌝ }
@@ -145,7 +159,10 @@ fn rows_held(t: &[u32], n: usize, listing: &[u8; ROWS]) -> bool
     let mut right = true;
     let mut i = 0;
     while i < n {
-        right = system_holds(t[PLACE + i], listing[i]) & right;
+        let code = listing[i];
+        let held = system_holds(t[PLACE + i], code);
+        let listed = copy_listed(t[REQUEST + i], code);
+        right = (held & listed) & right;
         i += 1;
     }
     right
@@ -154,7 +171,8 @@ fn rows_held(t: &[u32], n: usize, listing: &[u8; ROWS]) -> bool
 // The clauses of items and of who holds what is lent.
 // Ruled out: an item that is a copy for another request; an older request that is not fetched and lists an item too.
 pub fn holders_sound(t: &[u32], n: usize, m: usize) -> bool
-    requires { ⌜ IsTables (now t) × (n ≤ ROWS) × (m ≤ REQUESTS) ⌝ }
+    requires sizes { ⌜ IsTables (now t) × (n ≤ ROWS) × (m ≤ REQUESTS) ⌝ }
+    requires vias { ⌜ ViasOlder (now t) n ⌝ }
     ensures { λ r. ⌜ TestsTables (now (t .entry)) n m r allOfHolders ⌝ }
 {
     let mut listing = [0u8; ROWS];

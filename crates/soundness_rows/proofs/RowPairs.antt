@@ -36,7 +36,7 @@ module _ {A : Type 0} (key : A → ℕ) (none : A) where
   top-after (z ∷ new) rest up = omega (arith, rises-first key z (new ++ rest) up, top-after new rest (rises-rest key z (new ++ rest) up))
 
   -- the newer elements have greater keys
-  first-skip : (new rest : List A) → rises key (new ++ rest) ≡ true → (n : ℕ) → n ≤ topOf key rest → firstWith key none (new ++ rest) n ≡ firstWith key none rest n
+  pub first-skip : (new rest : List A) → rises key (new ++ rest) ≡ true → (n : ℕ) → n ≤ topOf key rest → firstWith key none (new ++ rest) n ≡ firstWith key none rest n
   unfolding firstWith
   first-skip [] rest up n h = refl
   first-skip (z ∷ new) rest up n h =

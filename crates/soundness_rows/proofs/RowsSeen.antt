@@ -1,5 +1,5 @@
 -- The row at a slot of the words that represent a state, as the tests of one row see it: its own words and its sources.
-use Prim.Native.Nat.{ℕ, zero, suc, _+_, _-_, _<_, _≤_}
+use Prim.Native.Nat.{ℕ, zero, suc, _+_, _<_, _≤_}
 use mathlib.Core.Bool.{true}
 use mathlib.Core.List.{List, [], _∷_, _++_, append-assoc}
 use mathlib.Core.Path.{_≡_, refl, ap, sym, subst, _∙_}
@@ -35,11 +35,6 @@ unfolding slotted withSources
 same-slotted r old = record { number = refl; kind = refl; object = refl; operation = refl; rights = refl; place = refl; depth = refl; request = refl }
 
 -- ---- a source by its slot
-pub slot-row-pos : (t : List ℕ) (s : ℕ) → (s ≡ 0 → ⊥) → rawRow t (s - 1) ≡ slotRow t s
-unfolding slotRow
-slot-row-pos t zero h = absurd (h refl)
-slot-row-pos t (suc i) h = ap (rawRow t) (omega arith)
-
 -- source words in range
 pub row-sources : (t : List ℕ) (i : ℕ) (x : Row) → x ≡ rawRow t i → i < ROWS → SourcesBefore t i → (x .source ≤ ROWS) × (x .via ≤ ROWS)
 unfolding rawRow rowField rowSlots
@@ -139,14 +134,6 @@ module _ {st : State} {t : List ℕ} (rep : Represents t st) (new : List Row) (y
             source-none = among-none old up-old (y .source) (among .0);
             via-none = among-none old up-old (y .via) (among .1);
           }
-
-  -- the number of the second source
-  pub via-told : (x : Row) → x ≡ rawRow t (length old) → slotRow t (x .via) .number ≡ y .via
-  unfolding slotted withSources
-  via-told x d =
-      ap (λ (r : Row). slotRow t (r .via) .number) (d ∙ raw-row-at rep new y old e)
-      ∙ slot-seen (y .via) .number
-      ∙ among-number old up-old (y .via) (among .1)
 
   pub same-at : (x : Row) → x ≡ rawRow t (length old) → Same x y
   same-at x d = subst (λ (r : Row). Same r y) (sym (d ∙ raw-row-at rep new y old e)) (same-slotted y old)

@@ -4,46 +4,34 @@ use mathlib.Core.Bool.{Bool, true, false, not, _&&_, _||_}
 use mathlib.Core.List.{List, [], _∷_, _++_, append-assoc}
 use mathlib.Core.Path.{_≡_, refl, ap, sym, subst, _∙_}
 use native.Mathlib.Omega.{arith}
-use borrow.Author.Tests.{ne-eqb}
 use lib.Dec.{eqb, leb, ltb}
 use lib.ListN.{length, getD}
 use Rattle.rows.specs.declared.Row.{Row}
-use Rattle.rows.specs.declared.Request.{Request}
 use Rattle.rows.specs.declared.Process.{Process}
-use Rattle.rows.specs.Lists.{all, each, member, some}
+use Rattle.rows.specs.Lists.{all, each}
 use Rattle.rows.specs.Limits.{greatestDepth}
-use Rattle.rows.specs.Codes.{clientEnd, serverEnd, isClient, isServer}
-use Rattle.rows.specs.Tables.{State, noRequest, requestOf, lists, noRow, rowOf}
+use Rattle.rows.specs.Codes.{clientEnd, serverEnd, isClient, isServer, isEnd}
+use Rattle.rows.specs.Tables.{State, requestOf, lists}
 use Rattle.rows.specs.Sound.{sourceOf, viaOf, objectInRange, objectsInRange, rightInRange, rightsInRange, placeInRange, placesInRange, sourceRight, sourcesRight, hasRightDepth, depthRight, depthsRight, copyMatches, copiesMatch, isPairedWith, endPaired, endsPaired, copyListed, copiesListed, sourced}
-use Rattle.rows.specs.Layout.{requestAt, rawRow}
+use Rattle.rows.specs.Layout.{rawRow}
 use Rattle.rows.specs.contracts.Represents.{Represents}
-use Rattle.rows.specs.contracts.Slots.{requestSlot}
 use Rattle.soundness_rows.specs.contracts.AtSlot.{AtSlot, PortsNamed}
-use Rattle.soundness_rows.specs.contracts.Clauses.{ownRight, shapeRight, depthNext, bySources, fieldsAndSources, loanRight, besideOlder, newestPaired, rowSound, allOfRows}
+use Rattle.soundness_rows.specs.contracts.Clauses.{ownRight, shapeRight, depthNext, bySources, fieldsAndSources, allButLoans, loanRight, loansRight, besideOlder, newestPaired, rowSound, allOfRows}
 use Rattle.soundness_rows.specs.contracts.Packed.{packed, Packs, PacksRows, Faithful}
-use Rattle.soundness_rows.specs.contracts.Seen.{Same, SaysOfPacked, slotRow}
-use Rattle.rows.proofs.Bools.{and-true, and-false}
+use Rattle.soundness_rows.specs.contracts.Seen.{Same, SaysOfPacked}
+use Rattle.rows.proofs.Bools.{and-true, and-false, or-false}
 use Rattle.rows.proofs.KeySlots.{each-cut}
-use Rattle.rows.proofs.Slots.{represented-well, slot-zero, request-absent, request-words, raw-request}
+use Rattle.rows.proofs.Slots.{represented-well}
 use Rattle.soundness_rows.proofs.PackedRows.{packs-own, ports-own, packed-same}
 use Rattle.soundness_rows.proofs.RowClauses.{shape-split}
 use Rattle.soundness_rows.proofs.RowPairs.{paired-words, neighbours-paired}
-use Rattle.soundness_rows.proofs.RowsSeen.{seen-at, via-told, same-at}
+use Rattle.soundness_rows.proofs.RowsSeen.{seen-at, same-at}
 use Rattle.soundness_rows.proofs.SlotLoops.{Tested, tested-none, tested-more, tested-all, each-join, each-all}
 
 pub no-ends : (rs : List Row) → length rs ≡ 0 → true ≡ endsPaired rs
 unfolding endsPaired all
 no-ends [] e = refl
 no-ends (y ∷ rs) e = absurd (omega arith)
-
--- ---- the request that a row bears
-pub port-none : (vs : List Request) (q : ℕ) → requestSlot vs q ≡ 0 → 0 ≡ requestOf vs q .port
-unfolding noRequest
-port-none vs q d = rw (request-absent vs q d) refl
-
-pub listed-none : (vs : List Request) (q e : ℕ) → requestSlot vs q ≡ 0 → false ≡ lists e (requestOf vs q)
-unfolding noRequest lists member
-listed-none vs q e d = rw (request-absent vs q d) (sym (and-false (some e)))
 
 -- ---- the clauses of a row, in groups
 -- o, r, p: fields; h, b: sources, but for the port, and that no request is borne; j: its port; d, g: depth; c: copy; e: pair; l, i: listing
@@ -125,50 +113,56 @@ fields-then a b ps rs ha hb = pick (all (ownRight ps) rs) refl
     pick false e = rw (ha ∙ e) (rw e refl)
 
 -- the groups of all rows; pairs count only where all fields are in range
-pub groups-joined : (st : State) (a c d : Bool) → a ≡ fieldsAndSources (st .processes) (st .rows)
-    → (all (ownRight (st .processes)) (st .rows) ≡ true → c ≡ endsPaired (st .rows)) → d ≡ all (loanRight (st .requests)) (st .rows) → a && (c && d) ≡ allOfRows st
-unfolding endsPaired
-groups-joined st a c d ha hc hd = pick (all (ownRight (st .processes)) (st .rows)) refl ∙ sym split ∙ rows-joined st
+pub groups-joined : (ps : List Process) (rs : List Row) (a c : Bool) → a ≡ fieldsAndSources ps rs → (all (ownRight ps) rs ≡ true → c ≡ endsPaired rs) → a && c ≡ allButLoans ps rs
+groups-joined ps rs a c ha hc = pick (all (ownRight ps) rs) refl
   where
-    rest : Bool
-    rest = endsPaired (st .rows) && all (loanRight (st .requests)) (st .rows)
+    pick : (q : Bool) → all (ownRight ps) rs ≡ q → a && c ≡ (all (ownRight ps) rs && each bySources rs) && endsPaired rs
+    pick true e = λ i. ha i && hc e i
+    pick false e = rw ha (rw e refl)
 
-    split : each (rowSound st) (st .rows) ≡ all (ownRight (st .processes)) (st .rows) && (each bySources (st .rows) && rest)
+-- with the requests that rows bear they are all clauses of rows
+pub loans-joined : (st : State) → allButLoans (st .processes) (st .rows) && loansRight st ≡ allOfRows st
+unfolding endsPaired
+loans-joined st = along (all own (st .rows)) (each bySources (st .rows)) (endsPaired (st .rows)) (loansRight st) ∙ sym split ∙ rows-joined st
+  where
+    own : Row → Bool
+    own = ownRight (st .processes)
+
+    along : (a b c d : Bool) → ((a && b) && c) && d ≡ a && (b && (c && d))
+    along true true c d = refl
+    along true false c d = refl
+    along false b c d = refl
+
+    split : each (rowSound st) (st .rows) ≡ all own (st .rows) && (each bySources (st .rows) && (endsPaired (st .rows) && loansRight st))
     split =
-        each-ext (rowSound st) (λ y old. ownRight (st .processes) y && (bySources y old && (endPaired (st .rows) y && loanRight (st .requests) y))) (st .rows) (λ y old. sym (groups st y old))
-        ∙ each-join (λ y old. ownRight (st .processes) y) _ (st .rows) (each-all (ownRight (st .processes)) (st .rows))
+        each-ext (rowSound st) (λ y old. own y && (bySources y old && (endPaired (st .rows) y && loanRight (st .requests) y))) (st .rows) (λ y old. sym (groups st y old))
+        ∙ each-join (λ y old. own y) _ (st .rows) (each-all own (st .rows))
         (each-join bySources _ (st .rows) refl
         (each-join (λ y old. endPaired (st .rows) y) (λ y old. loanRight (st .requests) y) (st .rows) (each-all (endPaired (st .rows)) (st .rows)) (each-all (loanRight (st .requests)) (st .rows))))
 
-    pick : (q : Bool) → all (ownRight (st .processes)) (st .rows) ≡ q → a && (c && d) ≡ all (ownRight (st .processes)) (st .rows) && (each bySources (st .rows) && rest)
-    pick true e = (λ i. ha i && (hc e i && hd i)) ∙ rw e refl
-    pick false e = rw ha (rw e refl)
-
 module _ {st : State} {t : List ℕ} (rep : Represents t st) where
-  pub no-request : (q : ℕ) → q ≡ 0 → requestSlot (st .requests) q ≡ 0
-  unfolding requestSlot
-  no-request q z = rw z (slot-zero (λ v. v .number) (st .requests) (represented-well rep .requests-rise))
-
-  pub port-at : (q j : ℕ) → requestSlot (st .requests) q ≡ suc j → getD t (10368 + j) 0 ≡ requestOf (st .requests) q .port
-  port-at q j d = request-words rep q j d .port
-
-  pub listed-at : (q e j : ℕ) → requestSlot (st .requests) q ≡ suc j → lists e (requestAt t j) ≡ lists e (requestOf (st .requests) q)
-  listed-at q e j d = ap (lists e) (raw-request rep q j d)
-
   -- ---- ends
   pub beside-at : (i : ℕ) (a b : Row) → a ≡ rawRow t i → b ≡ rawRow t (i + 1)
-      → AtSlot besideOlder (st .rows) (i + 1) ((eqb (a .kind) 3 && (eqb (b .kind) 4 && isPairedWith b a)) || (not (eqb (a .kind) 3) && not (eqb (b .kind) 4)))
-  unfolding besideOlder isClient isServer clientEnd serverEnd
+      → AtSlot besideOlder (st .rows) (i + 1) (((eqb (a .kind) 3 && eqb (b .kind) 4) || (not (eqb (a .kind) 3) && not (eqb (b .kind) 4))) && (not (eqb (a .kind) 3) || (eqb (b .object) (a .object) && eqb (b .source) (a .source))))
+  unfolding besideOlder isClient isServer clientEnd serverEnd isPairedWith isEnd
   beside-at i a b da db = record { told = at }
     where
+      -- a client end is an end
+      port-alone : (c s k o : Bool) → ((c && s) || (not c && not s)) && (not c || o) ≡ (c && (s && ((c || k) && o))) || (not c && not s)
+      port-alone true true k o = sym (or-false o)
+      port-alone true false k o = refl
+      port-alone false true k o = refl
+      port-alone false false k o = refl
+
       at : (new : List Row) (y : Row) (old : List Row) → st .rows ≡ new ++ (y ∷ old) → length old ≡ i + 1
-          → (eqb (a .kind) 3 && (eqb (b .kind) 4 && isPairedWith b a)) || (not (eqb (a .kind) 3) && not (eqb (b .kind) 4)) ≡ besideOlder y old
+          → ((eqb (a .kind) 3 && eqb (b .kind) 4) || (not (eqb (a .kind) 3) && not (eqb (b .kind) 4))) && (not (eqb (a .kind) 3) || (eqb (b .object) (a .object) && eqb (b .source) (a .source))) ≡ besideOlder y old
       at new y [] e d = absurd (omega arith)
       at new y (z ∷ old) e d =
           let e′ : st .rows ≡ (new ++ (y ∷ [])) ++ (z ∷ old) = e ∙ sym (append-assoc new (y ∷ []) (z ∷ old)) in
           let at-b : b ≡ rawRow t (length (z ∷ old)) = db ∙ ap (rawRow t) (sym d) in
           let at-a : a ≡ rawRow t (length old) = da ∙ ap (rawRow t) (omega arith) in
-          rw (paired-words rep new y (z ∷ old) e (new ++ (y ∷ [])) z old e′ b a at-b at-a, same-at rep new y (z ∷ old) e b at-b .kind, same-at rep (new ++ (y ∷ [])) z old e′ a at-a .kind)
+          port-alone (eqb (a .kind) 3) (eqb (b .kind) 4) (eqb (a .kind) 4) (eqb (b .object) (a .object) && eqb (b .source) (a .source))
+          ∙ rw (paired-words rep new y (z ∷ old) e (new ++ (y ∷ [])) z old e′ b a at-b at-a, same-at rep new y (z ∷ old) e b at-b .kind, same-at rep (new ++ (y ∷ [])) z old e′ a at-a .kind)
           refl
 
   pub oldest-tested : (x : Row) → x ≡ rawRow t 0 → 0 < length (st .rows) → Tested besideOlder (st .rows) 1 (not (eqb (x .kind) 4))
@@ -212,22 +206,4 @@ module _ {st : State} {t : List ℕ} (rep : Represents t st) where
               let own : packed y ≡ w
               = sym (packed-same x y (same-at rep new y old e x at-y)) ∙ ap packed at ∙ sym (p .at i h) ∙ ap (λ (k : ℕ). getD l k 0) (omega arith) ∙ sym dw in
               says y old (seen-at rep new y old e x s v l f all-packed at-y ds dv) (subst (λ (k : ℕ). Packs k y) own (f .packs new y old e));
-        }
-
-    pub loan-none : x .request ≡ 0 → AtSlot (λ y old. loanRight (st .requests) y) (st .rows) i true
-    unfolding loanRight
-    loan-none z = record { told = λ new y old e d. rw (sym (same-at rep new y old e x (at ∙ ap (rawRow t) (sym d)) .request) ∙ z) refl }
-
-    pub loan-some : (x .request ≡ 0 → ⊥) → (port number : ℕ) (listed : Bool) → port ≡ requestOf (st .requests) (x .request) .port
-        → listed ≡ lists (x .number) (requestOf (st .requests) (x .request)) → number ≡ slotRow t (x .via) .number
-        → AtSlot (λ y old. loanRight (st .requests) y) (st .rows) i (ltb (x .request) (x .number) && (listed && eqb port number))
-    unfolding loanRight
-    loan-some z port number listed dp dl dn =
-        record {
-          told =
-              λ new y old e d.
-              let at-y = at ∙ ap (rawRow t) (sym d) in
-              let same = same-at rep new y old e x at-y in
-              rw (dp, dl, dn ∙ via-told rep new y old e x at-y)
-              (rw (sym (same .request), sym (same .number)) (rw (ne-eqb (x .request) 0 z) refl));
         }

@@ -22,10 +22,11 @@ use rows::codes::is_end;
 use rows::codes::is_node;
 use rows::records::listed;
 ghost use mathlib.Core.Path.{_≡_};
+ghost use mathlib.Core.Bool.{_&&_};
 ghost use Prim.Native.Nat.{suc};
 ghost use lib.Dec.{eqb, leb};
 ghost use Rattle.rows.specs.Sound.{objectInRange, rightInRange, placeInRange, isOpening, isRegistered, isHeld};
-ghost use Rattle.rows.specs.Sound.{isPortEnd, copyMatches, isPairedWith, sourceOf, viaOf};
+ghost use Rattle.rows.specs.Sound.{isPortEnd, copyMatches, sourceOf, viaOf};
 ghost use Rattle.rows.specs.Layout.{recordsIn};
 ghost use Rattle.rows.specs.contracts.Sizes.{IsRecords};
 ghost use Rattle.soundness_rows.specs.contracts.Seen.{SaysOf, SaysOfPacked};
@@ -187,10 +188,9 @@ pub fn sources_right(x: Row, w: u32, s: u32, v: u32) -> bool
 }
 
 // ---- other rows
-// Ruled out: ends of two ports; ends whose sources differ.
-pub fn is_paired_with(a: Row, b: Row) -> bool
-    ensures { λ r. ⌜ r ≡ isPairedWith a b ⌝ }
+// Ends of one port have its object and the same source. Ruled out: ends of two ports; ends whose sources differ.
+pub fn of_one_port(a: Row, b: Row) -> bool
+    ensures { λ r. ⌜ r ≡ (eqb (a .object) (b .object) && eqb (a .source) (b .source)) ⌝ }
 {
-    let end = is_end(b.kind);
-    end & ((a.object == b.object) & (a.source == b.source))
+    (a.object == b.object) & (a.source == b.source)
 }

@@ -1,82 +1,22 @@
-// The rows are sound: the clauses of every row, the oldest first, in one loop for each group of clauses.
+// The rows are sound, but for the requests that they bear (crate soundness_loans): the clauses of every row, the oldest
+// first, in one loop for each group of clauses.
 use crate::packed::PACKED;
 use crate::packed::pack;
-use crate::row_clauses::is_paired_with;
+use crate::row_clauses::of_one_port;
 use crate::row_clauses::own_right;
 use crate::row_clauses::sources_right;
-use rows::Found;
 use rows::Row;
 use rows::codes::A_CLIENT_END;
 use rows::codes::A_SERVER_END;
-use rows::find::search;
-use rows::layout::Q_NUMBER;
-use rows::layout::Q_PORT;
-use rows::read::lists_at;
 use rows::read::row_at;
-ghost use mathlib.Core.Path.{_≡_};
 ghost use Prim.Native.Nat.{_<_, _≤_};
-ghost use Rattle.rows.specs.Tables.{requestOf, lists};
 ghost use Rattle.rows.specs.Layout.{recordsIn};
-ghost use Rattle.rows.specs.contracts.Sizes.{ROWS, REQUESTS, IsTables, IsRecords};
-ghost use Rattle.rows.specs.contracts.OfState.{OfRows, OfRequests, TestsTables, Tests};
-ghost use Rattle.soundness_rows.specs.contracts.AtSlot.{OfNeighbours, OfPorts, OfSources, OfLoan, OfFaithful};
-ghost use Rattle.soundness_rows.specs.contracts.Seen.{SourcesBefore, SourcesOlder, slotRow};
+ghost use Rattle.rows.specs.contracts.Sizes.{ROWS, IsTables, IsRecords};
+ghost use Rattle.rows.specs.contracts.OfState.{OfRows};
+ghost use Rattle.soundness_rows.specs.contracts.AtSlot.{OfNeighbours, OfPorts, OfSources, OfFaithful};
+ghost use Rattle.soundness_rows.specs.contracts.Seen.{SourcesBefore, SourcesOlder};
 ghost use Rattle.soundness_rows.specs.contracts.Packed.{PacksRows};
-ghost use Rattle.soundness_rows.specs.contracts.Clauses.{fieldsAndSources, loansRight, allOfRows};
-
-// What the request that a row bears says: its port, and whether it lists the row.
-pub struct Loan {
-    pub port: u32,
-    pub listed: bool,
-}
-
-// ---- reading
-// The row at a slot plus 1; all 0 for none. Ruled out: the row at the slot after; a row for none.
-fn source_row(t: &[u32], s: u32) -> Row
-    requires { ⌜ IsTables (now t) × (s ≤ ROWS) ⌝ }
-    ensures { λ r. ⌜ r ≡ slotRow (now (t .entry)) s ⌝ }
-{
-    if s == 0 {
-        return Row {
-            number: 0,
-            kind: 0,
-            object: 0,
-            operation: 0,
-            rights: 0,
-            place: 0,
-            source: 0,
-            via: 0,
-            depth: 0,
-            request: 0,
-        };
-    }
-    let i = s as usize - 1;
-    row_at(t, i)
-}
-
-// What request q says of the row numbered e.
-// Ruled out: the port of another request; a row that only another request lists.
-fn loan_of(t: &[u32], m: usize, q: u32, e: u32) -> Loan
-    requires { ⌜ IsTables (now t) × (m ≤ REQUESTS) ⌝ }
-    ensures port { λ r. ⌜ OfRequests (now (t .entry)) m (r .port) (λ vs. requestOf vs q .port) ⌝ }
-    ensures listed { λ r. ⌜ OfRequests (now (t .entry)) m (r .listed) (λ vs. lists e (requestOf vs q)) ⌝ }
-{
-    let none = Loan {
-        port: 0,
-        listed: false,
-    };
-    if q == 0 {
-        return none;
-    }
-    let Found::At(j) = search(&t[Q_NUMBER..Q_PORT], m, q) else {
-        return none;
-    };
-    let listed = lists_at(t, j, e);
-    Loan {
-        port: t[Q_PORT + j],
-        listed: listed,
-    }
-}
+ghost use Rattle.soundness_rows.specs.contracts.Clauses.{fieldsAndSources, allButLoans};
 
 // ---- ends in pairs
 // Two rows of neighbouring slots: a client end stands right before the server end of its port, and nothing else does.
@@ -86,8 +26,9 @@ fn beside(a: Row, b: Row) -> bool
 {
     let client = a.kind == A_CLIENT_END;
     let server = b.kind == A_SERVER_END;
-    let paired = is_paired_with(b, a);
-    (client & (server & paired)) | (!client & !server)
+    let both = (client & server) | (!client & !server);
+    let port = of_one_port(b, a);
+    both & (!client | port)
 }
 
 // Ends stand in pairs, where they have the objects that their numbers tell.
@@ -127,22 +68,6 @@ fn sources_at(t: &[u32], packs: &[u32; PACKED], i: usize, n: usize) -> bool
     sources_right(x, w, s, v)
 }
 
-// The request that the row at slot i bears, if it bears one: it is older, it lists the row, and its port is the row's
-// second source. Ruled out: a copy that its request does not list; a copy over another port.
-fn loan_right(t: &[u32], i: usize, m: usize) -> bool
-    requires sizes { ⌜ IsTables (now t) × (i < ROWS) × (m ≤ REQUESTS) ⌝ }
-    requires sources { ⌜ SourcesBefore (now t) i ⌝ }
-    ensures { λ r. ⌜ OfLoan (now (t .entry)) m i r ⌝ }
-{
-    let x = row_at(t, i);
-    if x.request == 0 {
-        return true;
-    }
-    let loan = loan_of(t, m, x.request, x.number);
-    let v = source_row(t, x.via);
-    (x.request < x.number) & (loan.listed & (loan.port == v.number))
-}
-
 // ---- of all rows
 // Ruled out: the last row alone decides; a row past the first n.
 fn packed_sound(t: &[u32], packs: &[u32; PACKED], n: usize) -> bool
@@ -179,29 +104,14 @@ fn sources_sound(t: &[u32], p: &[u32], n: usize) -> bool
     right & packed_sound(t, &packs, n)
 }
 
-// Ruled out: the last row alone decides; a copy that only another request lists.
-fn loans_right(t: &[u32], n: usize, m: usize) -> bool
-    requires sizes { ⌜ IsTables (now t) × (n ≤ ROWS) × (m ≤ REQUESTS) ⌝ }
+// The clauses of rows, but for the requests that they bear.
+// Ruled out: a last row that is not tested; true where one row breaks one clause.
+pub fn rows_sound(t: &[u32], p: &[u32], n: usize) -> bool
+    requires sizes { ⌜ IsTables (now t) × IsRecords (now p) × (n ≤ ROWS) ⌝ }
     requires sources { ⌜ SourcesOlder (now t) n ⌝ }
-    ensures { λ r. ⌜ TestsTables (now (t .entry)) n m r loansRight ⌝ }
-{
-    let mut right = true;
-    let mut i = 0;
-    while i < n {
-        right = loan_right(t, i, m) & right;
-        i += 1;
-    }
-    right
-}
-
-// The clauses of every row. Ruled out: a last row that is not tested; true where one row breaks one clause.
-pub fn rows_sound(t: &[u32], p: &[u32], n: usize, m: usize) -> bool
-    requires sizes { ⌜ IsTables (now t) × IsRecords (now p) × (n ≤ ROWS) × (m ≤ REQUESTS) ⌝ }
-    requires sources { ⌜ SourcesOlder (now t) n ⌝ }
-    ensures { λ r. ⌜ Tests (now (t .entry)) (now (p .entry)) n m r allOfRows ⌝ }
+    ensures { λ r. ⌜ OfRows (now (t .entry)) n r (allButLoans (recordsIn (now (p .entry)))) ⌝ }
 {
     let sources = sources_sound(t, p, n);
     let paired = ends_paired(t, n);
-    let loans = loans_right(t, n, m);
-    sources & (paired & loans)
+    sources & paired
 }

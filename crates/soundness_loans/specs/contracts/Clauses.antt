@@ -1,19 +1,19 @@
 -- What the functions that test soundness say of one slot, of marks and of the listing: slots are given plus 1, 0 for none.
-use Prim.Native.Nat.{ℕ, zero, suc, _+_, _*_, _≤_}
+use Prim.Native.Nat.{ℕ, zero, suc, _+_, _*_, _<_, _≤_}
 use mathlib.Core.Bool.{Bool, true, false, not, _&&_, _||_}
 use mathlib.Core.List.{List, [], _∷_, map}
 use mathlib.Core.Path.{_≡_}
-use lib.Dec.{leb, eqb}
-use lib.ListN.{length, getD, set}
+use lib.Dec.{leb, ltb, eqb}
+use lib.ListN.{getD, set}
 use Rattle.rows.specs.declared.Row.{Row}
 use Rattle.rows.specs.declared.Request.{Request}
 use Rattle.rows.specs.declared.Process.{Process}
-use Rattle.rows.specs.Lists.{if_then_else_, any, all, member, distinct, some, nonzero}
+use Rattle.rows.specs.Lists.{if_then_else_, any, all, distinct, some, nonzero}
 use Rattle.rows.specs.Codes.{isSystem}
-use Rattle.rows.specs.Tables.{State, rowOf, isListed, numbers, lists}
-use Rattle.rows.specs.Sound.{numbersApart, fetchedInRange, portStands, portsStand, requestersListed, itemsApart, mayBeListed, itemsLent, onePerPort, isFetched, olderFetched, same, systemHolds}
+use Rattle.rows.specs.Tables.{State, rowOf, isListed, lists, goesBack}
+use Rattle.rows.specs.Sound.{numbersApart, fetchedInRange, portStands, portsStand, requestersListed, itemsApart, onePerPort, isFetched, olderFetched, same, systemHolds}
 use Rattle.rows.specs.Layout.{requestAt, rowSlot}
-use Rattle.rows.specs.contracts.Sizes.{ROWS}
+use Rattle.rows.specs.contracts.Sizes.{ROWS, VIA, REQUEST}
 use Rattle.rows.specs.contracts.Represents.{Represents}
 use Rattle.rows.specs.contracts.OfState.{OfRows}
 
@@ -22,43 +22,59 @@ unfoldable pub wordAt : List ℕ → ℕ → ℕ → ℕ
 wordAt t c zero = 0
 wordAt t c (suc i) = getD t (c + i) 0
 
+-- ---- numbers of rows
+-- the number of the row at a slot
+abbrev pub numberAt : List ℕ → ℕ → ℕ
+numberAt t i = getD t (0 + i) 0
+
+-- s is the first of n slots, from a slot on, whose number is not below q, or n
+pub record FirstNotBelow (t : List ℕ) (n from q s : ℕ) : Type 0 where
+  pub past : from ≤ s
+  pub within : s ≤ n
+  pub below : (i : ℕ) → from ≤ i → i < s → numberAt t i < q
+  pub reached : s < n → q ≤ numberAt t s
+
 -- ---- one request
 -- r is F of the rows and of the request in slot j, in every state that t represents, n rows standing
 abbrev pub OfRequest : {A : Type 0} → List ℕ → ℕ → ℕ → A → (List Row → Request → A) → Type 0
 OfRequest t n j r F = OfRows t n r (λ rs. F rs (requestAt t j))
 
--- its number is no row's
-abbrev pub numberApart : List Row → Request → Bool
-numberApart rs v = not (member (v .number) (numbers rs))
-
 -- the request in slot j lists nothing
 abbrev pub ListsNone : List ℕ → ℕ → Type 0
 ListsNone t j = requestAt t j .items ≡ 0 ∷ 0 ∷ 0 ∷ 0 ∷ []
 
--- each of its items may be listed
+-- a copy for the request bears its number, is newer than it, and has its port for a second source
+unfoldable pub isCopyFor : Request → Row → Bool
+isCopyFor v r = some (r .request) && (eqb (r .request) (v .number) && (ltb (v .number) (r .number) && eqb (v .port) (r .via)))
+
+-- an item is an end older than the request, or a copy for it
+unfoldable pub mayBeLent : Request → Row → Bool
+mayBeLent v r = (goesBack r && ltb (r .number) (v .number)) || isCopyFor v r
+
+-- each of its items is such
 abbrev pub itemsListable : List Row → Request → Bool
-itemsListable rs v = all (λ e. mayBeListed v (rowOf rs e)) (nonzero (v .items))
+itemsListable rs v = all (λ e. mayBeLent v (rowOf rs e)) (nonzero (v .items))
 
--- r says that e, whose slot plus 1 is s, is no item, or one that a request numbered q may list
-abbrev pub TestsItem : List ℕ → ℕ → ℕ → ℕ → Bool → Type 0
-TestsItem t q e s r =
-    (st : State) (v : Request) → Represents t st → s ≡ rowSlot (st .rows) e → v .number ≡ q
-    → r ≡ (not (some e) || mayBeListed v (rowOf (st .rows) e))
+unfoldable pub itemsRight : List Row → List Request → Bool
+itemsRight rs vs = all (itemsListable rs) vs
 
--- what is asked of each request by itself, but for its port and what its items are
-unfoldable pub requestRight : List Process → List Row → Request → Bool
-requestRight ps rs v =
-    numberApart rs v && (leb (v .fetched) 1 && (isListed ps (v .asker) && distinct (nonzero (v .items))))
+-- r is what F says of the request in slot j and of the row numbered e, whose slot plus 1 is s
+abbrev pub OfItem : List ℕ → ℕ → ℕ → ℕ → Bool → (Request → Row → Bool) → Type 0
+OfItem t j e s r F = (st : State) → Represents t st → s ≡ rowSlot (st .rows) e → r ≡ F (requestAt t j) (rowOf (st .rows) e)
+
+-- the second sources of the first n rows are slots before their own, plus 1, or 0
+abbrev pub ViasOlder : List ℕ → ℕ → Type 0
+ViasOlder t n = (i : ℕ) → i < n → getD t (VIA + i) 0 ≤ i
+
+-- what is asked of each request by itself, but for its number, its port and what its items are
+unfoldable pub requestRight : List Process → Request → Bool
+requestRight ps v = leb (v .fetched) 1 && (isListed ps (v .asker) && distinct (nonzero (v .items)))
 
 -- the slot plus 1 of the client end of its port, if that stands
 unfoldable pub standingPort : List Row → Request → ℕ
 standingPort rs v = if portStands rs v then rowSlot rs (v .port) else 0
 
 -- ---- all requests
--- each by itself
-abbrev pub requestsRight : State → Bool
-requestsRight st = all (requestRight (st .processes) (st .rows)) (st .requests)
-
 -- the ports stand, and no two are the same
 unfoldable pub portsRight : List Row → List Request → Bool
 portsRight rs vs = all (portStands rs) vs && distinct (map (λ v. v .port) vs)
@@ -148,11 +164,19 @@ listedRight listing rs v = itemsListable rs v && listedOnce listing rs v
 abbrev PLACE : ℕ
 PLACE = 5 * ROWS
 
--- the rows of the first slots are with the system exactly where the listing says 2
+-- the rows of the first slots are with the system exactly where the listing says 2, and listed where they bear a request
 unfoldable pub heldTo : List ℕ → List ℕ → ℕ → Bool
 heldTo t listing zero = true
-heldTo t listing (suc i) = same (isSystem (getD t (PLACE + i) 0)) (eqb (getD listing i 0) 2) && heldTo t listing i
+heldTo t listing (suc i) =
+    (same (isSystem (getD t (PLACE + i) 0)) (eqb (getD listing i 0) 2) && (eqb (getD t (REQUEST + i) 0) 0 || some (getD listing i 0)))
+    && heldTo t listing i
 
--- the clause of what items are, and the two clauses of holders
+-- a row that bears a request is listed
+unfoldable pub copiesSeen : List Request → List Row → Bool
+copiesSeen vs rows = all (λ r. eqb (r .request) 0 || some (listingOf vs (r .number))) rows
+
+-- what items are, and who holds them
 abbrev pub allOfHolders : State → Bool
-allOfHolders st = itemsLent (st .rows) (st .requests) && (olderFetched (st .requests) && systemHolds (st .requests) (st .rows))
+allOfHolders st =
+    itemsRight (st .rows) (st .requests)
+    && (olderFetched (st .requests) && (systemHolds (st .requests) (st .rows) && copiesSeen (st .requests) (st .rows)))

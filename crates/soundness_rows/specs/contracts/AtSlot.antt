@@ -10,7 +10,7 @@ use Rattle.rows.specs.Lists.{each}
 use Rattle.rows.specs.Sound.{endsPaired}
 use Rattle.rows.specs.Layout.{rawRow}
 use Rattle.rows.specs.contracts.Represents.{Represents}
-use Rattle.soundness_rows.specs.contracts.Clauses.{bySources, loanRight, besideOlder}
+use Rattle.soundness_rows.specs.contracts.Clauses.{bySources, besideOlder}
 use Rattle.soundness_rows.specs.contracts.Packed.{Faithful}
 
 -- b is what the test says of the element at slot i, counted from the oldest, with the older ones at hand
@@ -38,8 +38,3 @@ OfSources t n i r = (st : State) → Represents t st → n ≡ length (st .rows)
 -- the same of all rows
 abbrev pub OfFaithful : List ℕ → ℕ → Bool → Type 0
 OfFaithful t n r = (st : State) → Represents t st → n ≡ length (st .rows) → Faithful (st .rows) → r ≡ each bySources (st .rows)
-
--- r is what the clause of the request that it bears says of the row at slot i, where m requests stand
-abbrev pub OfLoan : List ℕ → ℕ → ℕ → Bool → Type 0
-OfLoan t m i r =
-    (st : State) → Represents t st → m ≡ length (st .requests) → AtSlot (λ y old. loanRight (st .requests) y) (st .rows) i r

@@ -66,6 +66,10 @@ newestPaired (y ∷ old) = not (isClient (y .kind))
 abbrev pub fieldsAndSources : List Process → List Row → Bool
 fieldsAndSources ps rs = all (ownRight ps) rs && each bySources rs
 
+-- all of them but for the requests that rows bear
+abbrev pub allButLoans : List Process → List Row → Bool
+allButLoans ps rs = fieldsAndSources ps rs && endsPaired rs
+
 abbrev pub loansRight : State → Bool
 loansRight st = all (loanRight (st .requests)) (st .rows)
 

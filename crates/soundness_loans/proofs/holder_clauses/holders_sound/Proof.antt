@@ -9,10 +9,9 @@ use denote.Ref.{now}
 use lib.ListN.{length}
 use Rattle.rows.specs.Tables.{State}
 use Rattle.rows.specs.Lists.{all}
-use Rattle.rows.specs.Sound.{itemsLent}
 use Rattle.rows.specs.Layout.{requestAt, requestsTo}
 use Rattle.rows.specs.contracts.Represents.{Represents}
-use Rattle.soundness_loans.specs.contracts.Clauses.{itemsListable, listedOnce}
+use Rattle.soundness_loans.specs.contracts.Clauses.{itemsListable, itemsRight, listedOnce}
 use Rattle.rows.proofs.Bools.{and-l, and-r}
 use Rattle.soundness_loans.proofs.HolderClausesLoops.{Listing, listing-start, listing-next, items-lent, lent-next, holders-end}
 use Rattle.soundness_loans.proofs.holder_clauses.holders_sound.Statement.{statement}
@@ -23,7 +22,7 @@ Inv-loop t n m listing₀ right₀ j₀ listing right j =
     (j ≤ m)
     × ((st : State) → Represents t st → n ≡ length (st .rows) → right ≡ true
     → all (itemsListable (st .rows)) (requestsTo t j) ≡ all (itemsListable (st .rows)) (requestsTo t m))
-    × ((st : State) → Represents t st → n ≡ length (st .rows) → m ≡ length (st .requests) → itemsLent (st .rows) (st .requests) ≡ true
+    × ((st : State) → Represents t st → n ≡ length (st .rows) → m ≡ length (st .requests) → itemsRight (st .rows) (st .requests) ≡ true
     → Listing (st .rows) (requestsTo t m) (requestsTo t j) listing right)
 
 abbrev μ-loop : tie.MeasureT-loop

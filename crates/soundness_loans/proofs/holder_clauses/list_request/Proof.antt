@@ -29,12 +29,12 @@ item-slots-requires c κs = search needs
 items-lent-requires : tie.Need-items-lent-requires
 items-lent-requires c κs =
     let s = c .before .before .before .before in
-    (s .pre .0, s .pre .2, (λ k. omega (arith, c .item-slots .ensures .0 k, s .pre .1)))
+    ((s .pre .0 .0, s .pre .0 .1, s .pre .0 .2, c .item-slots .ensures .0), s .pre .1)
 
 listed-once-requires : tie.Need-listed-once-requires
 listed-once-requires c κs =
     let s = c .before .before .before .before .before .before in
-    (s .pre .0, s .pre .2, (λ k. omega (arith, c .before .before .item-slots .ensures .0 k, s .pre .1)))
+    (s .pre .0 .0, s .pre .0 .2, (λ k. omega (arith, c .before .before .item-slots .ensures .0 k, s .pre .0 .1)))
 
 returns-2 : tie.Need-returns-2
 returns-2 c =

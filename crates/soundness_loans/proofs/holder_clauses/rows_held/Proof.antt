@@ -1,4 +1,4 @@
--- `holder_clauses::rows_held` meets its contract: the rows of the first slots are held as listed, or not.
+-- `holder_clauses::rows_held` meets its contract: the rows of the first slots are held and listed as they must be, or not.
 use borrow.Author.Needs.{needs}
 use Prim.Native.Nat.{_≤_, _-_}
 use native.Mathlib.Numerals.{add-one}
@@ -20,6 +20,9 @@ loop-holds : tie.Need-loop-holds Inv-loop μ-loop
 unfolding heldTo
 loop-holds c = (search needs, refl)
 
+element-copy-out-code : tie.Need-element-copy-out-code Inv-loop μ-loop
+element-copy-out-code c = search needs
+
 add-system-holds : tie.Need-add-system-holds Inv-loop μ-loop
 add-system-holds c = search needs
 
@@ -29,11 +32,20 @@ mul-system-holds c = search needs
 shared-slice-read-system-holds : tie.Need-shared-slice-read-system-holds Inv-loop μ-loop
 shared-slice-read-system-holds c = search needs
 
-element-copy-out-system-holds : tie.Need-element-copy-out-system-holds Inv-loop μ-loop
-element-copy-out-system-holds c = search needs
-
 system-holds-requires : tie.Need-system-holds-requires Inv-loop μ-loop
 system-holds-requires c κs = search needs
+
+add-copy-listed : tie.Need-add-copy-listed Inv-loop μ-loop
+add-copy-listed c = search needs
+
+mul-copy-listed : tie.Need-mul-copy-listed Inv-loop μ-loop
+mul-copy-listed c = search needs
+
+shared-slice-read-copy-listed : tie.Need-shared-slice-read-copy-listed Inv-loop μ-loop
+shared-slice-read-copy-listed c = search needs
+
+copy-listed-requires : tie.Need-copy-listed-requires Inv-loop μ-loop
+copy-listed-requires c κs = search needs
 
 add-i : tie.Need-add-i Inv-loop μ-loop
 add-i c = search needs
@@ -43,7 +55,9 @@ loop-less c = search needs
 
 loop-again : tie.Need-loop-again Inv-loop μ-loop
 unfolding heldTo
-loop-again c = let b = c .before .before .before .before in (search needs, rw (add-one (b .loop .i)) (λ k. c .system-holds .ensures k && b .loop .inv .1 k))
+loop-again c =
+    let b = c .before .before .before .before .before .before in
+    (search needs, rw (add-one (b .loop .i)) (λ k. (c .before .before .system-holds .ensures k && c .copy-listed .ensures k) && b .loop .inv .1 k))
 
 returns : tie.Need-returns Inv-loop μ-loop
 returns c = let b = c .before in
@@ -57,11 +71,15 @@ rows-held-spec =
     Inv-loop
     μ-loop
     loop-holds
+    element-copy-out-code
     add-system-holds
     mul-system-holds
     shared-slice-read-system-holds
-    element-copy-out-system-holds
     system-holds-requires
+    add-copy-listed
+    mul-copy-listed
+    shared-slice-read-copy-listed
+    copy-listed-requires
     add-i
     loop-less
     loop-again

@@ -5,9 +5,6 @@ use Rattle.soundness_loans.specs.contracts.Clauses.{requestRight}
 use Rattle.soundness_loans.proofs.request_clauses.request_right.Statement.{statement}
 use Rattle.soundness_loans.proofs.request_clauses.request_right.Tie as tie
 
-number-apart-requires : tie.Need-number-apart-requires
-number-apart-requires c κs = search needs
-
 fetched-in-range-requires : tie.Need-fetched-in-range-requires
 fetched-in-range-requires c κs = search needs
 
@@ -19,15 +16,12 @@ items-once-requires c κs = search needs
 
 returns : tie.Need-returns
 unfolding requestRight
-returns c =
-    λ st rep e i.
-    c .before .before .before .number-apart .ensures st rep e i && (c .before .before .fetched-in-range .ensures i && (c .before .requester-listed .ensures i && c .items-once .ensures i))
+returns c = λ i. c .before .before .fetched-in-range .ensures i && (c .before .requester-listed .ensures i && c .items-once .ensures i)
 
 pub request-right-spec : {M : Type 1} → statement M
 request-right-spec =
     tie.close
     (tie.spec
-    number-apart-requires
     fetched-in-range-requires
     requester-listed-requires
     items-once-requires

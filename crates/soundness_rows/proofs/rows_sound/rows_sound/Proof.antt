@@ -1,13 +1,10 @@
--- `rows_sound::rows_sound` meets its contract: the three groups are all clauses; pairs count only where all fields are in range.
+-- `rows_sound::rows_sound` meets its contract: the two groups; pairs count only where all fields are in range.
 use borrow.Author.Needs.{needs}
 use Prim.Native.Nat.{_≤_}
 use denote.Ref.{now}
-use mathlib.Core.List.{List}
-use mathlib.Core.Path.{_≡_, ap, sym, subst, _∙_}
 use native.Mathlib.Omega.{arith}
 use lib.ListN.{length}
-use Rattle.rows.specs.declared.Process.{Process}
-use Rattle.soundness_rows.specs.contracts.Clauses.{fieldsAndSources}
+use Rattle.rows.specs.Layout.{recordsIn}
 use Rattle.rows.proofs.ProcessRecords.{length-in}
 use Rattle.soundness_rows.proofs.RowsSound.{ports-named, groups-joined}
 use Rattle.soundness_rows.proofs.rows_sound.rows_sound.Statement.{statement}
@@ -19,18 +16,15 @@ sources-sound-requires c κs = search needs
 ends-paired-requires : tie.Need-ends-paired-requires
 ends-paired-requires c κs = search needs
 
-loans-right-requires : tie.Need-loans-right-requires
-loans-right-requires c κs = search needs
-
 returns : tie.Need-returns
 returns c =
-    λ st rep ps long few.
-    let s = c .before .before .before .before .before in
-    let r = c .before .before .sources-sound in
-    let fields = subst (λ (q : List Process). r .result ≡ fieldsAndSources q (st .rows)) (sym ps) (r .ensures st rep long) in
-    let records : length (st .processes) ≤ 64 = omega (arith, ap length ps ∙ length-in 64 (now (s .args .p)) (s .pre .0 .1)) in
-    groups-joined st (r .result) (c .before .ends-paired .result) (c .loans-right .result) fields
-    (λ h. c .before .ends-paired .ensures st rep long (ports-named (st .processes) (st .rows) records h)) (c .loans-right .ensures st rep long few)
+    λ st rep long.
+    let s = c .before .before .before .before in
+    let r = c .before .sources-sound in
+    let ps = recordsIn (now (s .args .p)) in
+    let records : length ps ≤ 64 = omega (arith, length-in 64 (now (s .args .p)) (s .pre .0 .1)) in
+    groups-joined ps (st .rows) (r .result) (c .ends-paired .result) (r .ensures st rep long)
+    (λ h. c .ends-paired .ensures st rep long (ports-named ps (st .rows) records h))
 
 pub rows-sound-spec : {M : Type 1} → statement M
-rows-sound-spec = tie.close (tie.spec sources-sound-requires ends-paired-requires loans-right-requires returns)
+rows-sound-spec = tie.close (tie.spec sources-sound-requires ends-paired-requires returns)
