@@ -56,11 +56,11 @@ fn any_away(ps: &[u32]) -> bool
     ensures { λ r. ⌜ AwayIfAny (now (ps .entry)) r ⌝ }
 {
     let mut away = false;
-    let mut i = 0;
-    while i < PROCESSES {
-        let x = records::record_at(ps, i);
+    let mut k = 0;
+    while k < PROCESSES {
+        let x = records::record_at(ps, k);
         away = (x.through != 0) | away;
-        i += 1;
+        k += 1;
     }
     away
 }

@@ -19,10 +19,10 @@ use Rattle.closing.proofs.homes.any_away.Statement.{statement}
 use Rattle.closing.proofs.homes.any_away.Tie as tie
 
 abbrev Inv-loop : tie.InvT-loop
-Inv-loop ps away₀ i₀ away i = (i ≤ 64) × (away ≡ false → HomeTo ps i)
+Inv-loop ps away₀ k₀ away k = (k ≤ 64) × (away ≡ false → HomeTo ps k)
 
 abbrev μ-loop : tie.MeasureT-loop
-μ-loop ps away₀ i₀ away i = 64 - i
+μ-loop ps away₀ k₀ away k = 64 - k
 
 loop-holds : tie.Need-loop-holds Inv-loop μ-loop
 loop-holds c = (search needs, (λ e k h. absurd (not-suc-le-zero h)))
@@ -30,8 +30,8 @@ loop-holds c = (search needs, (λ e k h. absurd (not-suc-le-zero h)))
 record-at-requires : tie.Need-record-at-requires Inv-loop μ-loop
 record-at-requires c κs = search needs
 
-add-i : tie.Need-add-i Inv-loop μ-loop
-add-i c = search needs
+add-k : tie.Need-add-k Inv-loop μ-loop
+add-k c = search needs
 
 loop-less : tie.Need-loop-less Inv-loop μ-loop
 loop-less c = search needs
@@ -44,7 +44,7 @@ loop-again c =
     let away : Bool = not (eqb (x .result .through) 0) in (
       search needs,
       (λ e.
-          below-more (λ k. getD (recordsIn ps) k noProcess .through ≡ 0) (l .i) (l .inv .1 (or-fr away (l .away) e))
+          below-more (λ k. getD (recordsIn ps) k noProcess .through ≡ 0) (l .k) (l .knv .1 (or-fr away (l .away) e))
           (ap (λ (y : Process). y .through) (sym (x .ensures)) ∙ eqb-true (x .result .through) 0 (not-f (eqb (x .result .through) 0) (or-fl away (l .away) e)))),
     )
 
@@ -52,9 +52,9 @@ returns : tie.Need-returns Inv-loop μ-loop
 returns c =
     let l = c .before .loop in
     let ps = now (c .before .before .before .args .ps) in
-    let end : l .i ≡ 64 = omega (arith, l .inv .0, c .loop-test .left) in
-    λ e. subst (λ (n : ℕ). HomeTo ps n) end (l .inv .1 e)
+    let end : l .k ≡ 64 = omega (arith, l .knv .0, c .loop-test .left) in
+    λ e. subst (λ (n : ℕ). HomeTo ps n) end (l .knv .1 e)
 
 pub any-away-spec : {M : Type 1} → statement M
 any-away-spec =
-    tie.close (tie.spec Inv-loop μ-loop loop-holds record-at-requires add-i loop-less loop-again returns)
+    tie.close (tie.spec Inv-loop μ-loop loop-holds record-at-requires add-k loop-less loop-again returns)
