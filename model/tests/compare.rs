@@ -21,6 +21,7 @@ const SIZES: Sizes = Sizes {
     full: 6,
     words: 10,
     histories: 5,
+    lent: 3,
 };
 
 /// Names are different, the numbers of cases are as asked, and the same seed
@@ -36,6 +37,7 @@ fn cases_of_a_seed() {
         ("state", 12),
         ("sound", 52),
         ("words", 10),
+        ("lent", 3),
     ] {
         assert_eq!(all.iter().filter(|c| c.sort() == sort).count(), count);
     }

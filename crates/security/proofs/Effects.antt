@@ -5,7 +5,7 @@ use mathlib.Core.Bool.{Bool, true, false, _&&_}
 use mathlib.Core.List.{List, [], _∷_, _++_}
 use mathlib.Core.Path.{_≡_, refl, ap, sym, _∙_, subst}
 use lib.Dec.{eqb}
-use lib.ListN.{length}
+use lib.ListN.{length, getD}
 use Rattle.rows.specs.declared.Row.{Row}
 use Rattle.rows.specs.declared.Request.{Request}
 use Rattle.rows.specs.declared.Process.{Process}
@@ -14,7 +14,7 @@ use Rattle.rows.specs.Lists.{if_then_else_, any, member, some}
 use Rattle.rows.specs.Codes.{clientEnd, serverEnd, inNode, inClist, isNode}
 use Rattle.rows.proofs.Places.{clist-not-node}
 use Rattle.rows.proofs.RowSources.{node-there}
-use Rattle.rows.specs.Tables.{State, noRequest, rowOf, processAt, sources, lists}
+use Rattle.rows.specs.Tables.{State, noRequest, noProcess, rowOf, processAt, sources, lists}
 use Rattle.rows.proofs.Bools.{clash, false-of, or-fr, any-none}
 use Rattle.tables.proofs.SoundFacts.{row-number}
 use Rattle.rows.specs.Setters.{inPrimeNode, wentThrough}
@@ -89,7 +89,33 @@ go-is st p e = pick (eqb e 0)
     pick true = refl
     pick false = refl
 
--- nobody stands in a node through a row that is dropped
+-- ---- nobody stands in a node through a row that is dropped
+not-through : (st : State) → Sound st → (p e : ℕ) → DropAllowed st p e → (q : ℕ) → some (processAt (st .processes) q .through) ≡ true → eqb (processAt (st .processes) q .through) e ≡ false
+not-through st s p e a q h =
+    false-of (eqb (processAt (st .processes) q .through) e) λ z.
+    let w = through-at st s q h in
+    let is : processAt (st .processes) q .through ≡ e = eqb-true _ e z in
+    let mine : inClist q ≡ inClist p = sym (w .place) ∙ ap (λ k. rowOf (st .rows) k .place) is ∙ eqb-true _ (inClist p) (a .row .place) in
+    let same : q ≡ p = clist-apart q p mine in
+    clash (eq-eqb (processAt (st .processes) p .through) e (ap (λ k. processAt (st .processes) k .through) (sym same) ∙ is))
+    (or-fr (any (λ r. member e (sources r)) (st .rows)) (eqb (processAt (st .processes) p .through) e) (unfold inUse in a .unused))
+
+none-among : (f : Process → Bool) (ps : List Process) → ((i : ℕ) → f (getD ps i noProcess) ≡ false) → any f ps ≡ false
+unfolding any
+none-among f [] h = refl
+none-among f (x ∷ ps) h = rw (h 0) (none-among f ps (λ i. h (suc i)))
+
+-- (rule drop-13b) the caller's record alone is asked; on sound tables to ask all records would be the same (mutants/refusals.txt)
+pub nobody-through-dropped : (st : State) → Sound st → (p e : ℕ) → DropAllowed st p e → any (λ x. some (x .through) && eqb (x .through) e) (st .processes) ≡ false
+nobody-through-dropped st s p e a = none-among (λ x. some (x .through) && eqb (x .through) e) (st .processes) at
+  where
+    at : (i : ℕ) → some (getD (st .processes) i noProcess .through) && eqb (getD (st .processes) i noProcess .through) e ≡ false
+    at i = pick (some (getD (st .processes) i noProcess .through)) refl
+      where
+        pick : (b : Bool) → some (getD (st .processes) i noProcess .through) ≡ b → b && eqb (getD (st .processes) i noProcess .through) e ≡ false
+        pick true h = unfold processAt in not-through st s p e a (suc i) h
+        pick false h = refl
+
 drop-plain : (st : State) → Sound st → (p e : ℕ) → DropAllowed st p e → Plain st (Drop p e)
 unfolding placeAfter placeBack recordAfter recordHomed fetchedBy takes shuts closedBy some noRequest logged discards
 drop-plain st s p e a = record { placed = stays; homed = home; unfetched = λ v. refl; unnumbered = refl; unlogged = λ log. refl; spares = outside }
@@ -113,10 +139,7 @@ drop-plain st s p e a = record { placed = stays; homed = home; unfetched = λ v.
             false-of (goes st (Drop p e) (x .through)) λ g.
             let w = through-at st s q h in
             let is : x .through ≡ e = sym (row-number (st .rows) (x .through) (w .there)) ∙ eqb-true _ e (drop-goes st p e (x .through) g) in
-            let mine : inClist q ≡ inClist p = sym (w .place) ∙ ap (λ k. rowOf (st .rows) k .place) is ∙ eqb-true _ (inClist p) (a .row .place) in
-            let same : q ≡ p = clist-apart q p mine in
-            clash (eq-eqb (processAt (st .processes) p .through) e (ap (λ k. processAt (st .processes) k .through) (sym same) ∙ is))
-            (or-fr (any (λ r. member e (sources r)) (st .rows)) (eqb (processAt (st .processes) p .through) e) (unfold inUse in a .unused))
+            clash (eq-eqb (x .through) e is) (not-through st s p e a q h)
 
         pick : (b : Bool) → some (x .through) ≡ b → x ≡ (if b && goes st (Drop p e) (x .through) then inPrimeNode x else x)
         pick true h = rw (other h) refl

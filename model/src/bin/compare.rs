@@ -88,6 +88,7 @@ fn sizes(options: &[&str]) -> Result<Sizes, Box<dyn std::error::Error>> {
         full: number("--full")?,
         words: number("--words")?,
         histories: number("--histories")?,
+        lent: number("--lent")?,
     })
 }
 

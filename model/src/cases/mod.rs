@@ -28,8 +28,8 @@ pub struct Case {
     pub at: String,
     pub name: String,
     pub rules: Vec<String>,
-    /// The one clause of soundness that what is lent breaks, 1 to 27.
-    pub breaks: Option<usize>,
+    /// The clauses of soundness, 1 to 27, that what is lent breaks, and no others; none: nothing is said of it.
+    pub breaks: Vec<usize>,
     /// None: words of any content, and the first step is an opening.
     pub start: Option<Lent>,
     pub steps: Vec<Step>,

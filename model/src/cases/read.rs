@@ -119,7 +119,7 @@ fn read_case(at: &str, lines: &[&str], named: &Named) -> Result<Case, String> {
         at: at.to_string(),
         name: name.to_string(),
         rules: Vec::new(),
-        breaks: None,
+        breaks: Vec::new(),
         start: None,
         steps: Vec::new(),
         after: None,
@@ -163,8 +163,8 @@ impl Reading<'_> {
             self.case.steps.push(Step::Open { text, answer });
             return Ok(());
         }
-        if let Some(clause) = line.strip_prefix("breaks: S") {
-            self.case.breaks = Some(clause.parse().map_err(|_| "no clause")?);
+        if let Some(clauses) = line.strip_prefix("breaks: ") {
+            self.case.breaks = read_clauses(clauses).ok_or("no clause")?;
             return Ok(());
         }
         if let Some(name) = line.strip_prefix("from: ") {
@@ -236,6 +236,16 @@ impl Reading<'_> {
             .iter()
             .any(|s| matches!(s, Step::Open { .. }))
     }
+}
+
+/// `S4, S5`: clauses of soundness.
+fn read_clauses(text: &str) -> Option<Vec<usize>> {
+    let number = |clause: &str| clause.strip_prefix('S')?.parse().ok();
+    let clauses: Vec<usize> = text.split(", ").map(number).collect::<Option<_>>()?;
+    clauses
+        .iter()
+        .all(|c| (1..=27).contains(c))
+        .then_some(clauses)
 }
 
 /// Adds a line of what is lent; where it has ranges, rows and requests are put in order.

@@ -64,12 +64,12 @@ fn chosen(test: impl Fn(&cases::Case) -> bool) -> std::io::Result<Vec<Case>> {
     Ok(found)
 }
 
-/// What is told of answers and tables; and where one clause breaks, that no other does.
+/// What is told of answers and tables; and where it is told which clauses break, that these do and no others.
 fn claim(case: &cases::Case) -> Option<String> {
     let told = told(case)?;
-    let Some(clause) = case.breaks else {
+    if case.breaks.is_empty() {
         return Some(told);
-    };
+    }
     let lent = case.start.as_ref()?;
     let state = match lent.changes.is_empty() {
         true => state(&lent.tables)?,
@@ -78,12 +78,12 @@ fn claim(case: &cases::Case) -> Option<String> {
             format!("(stateOf {} {})", runs(&tables), runs(&records))
         }
     };
-    Some(format!("{told} && {}", clause_alone(&state, clause)))
+    Some(format!("{told} && {}", clauses_alone(&state, &case.breaks)))
 }
 
-/// This clause breaks in the state, and no other.
-pub fn clause_alone(state: &str, clause: usize) -> String {
-    let holds = CLAUSES.iter().map(|c| u32::from(*c != clause));
+/// These clauses break in the state, and no others.
+pub fn clauses_alone(state: &str, broken: &[usize]) -> String {
+    let holds = CLAUSES.iter().map(|c| u32::from(!broken.contains(c)));
     same(&format!("clauses {state}"), &list(holds))
 }
 

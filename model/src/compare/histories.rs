@@ -1,5 +1,5 @@
 //! The history of sessions: after every line the rows that stand and the ends
-//! on loan, and the open requests at the end.
+//! on loan, and at the end the open requests with what is noted of them.
 
 use super::antt::{bytes, list};
 use super::case::{name, same, Case};
@@ -37,7 +37,12 @@ fn told(input: &[u8]) -> (Vec<u8>, Vec<u32>) {
         told.extend(moment(&history));
         replies.extend(answer);
     }
-    told.extend(history.now.open_requests.iter().rev());
+    for number in history.now.open_requests.iter().rev() {
+        let noted = &history.notes.requests[number];
+        let ends = noted.ends.len() as u32;
+        told.extend([*number, noted.lender, noted.port, ends]);
+        told.extend(&noted.ends);
+    }
     (replies, told)
 }
 

@@ -9,6 +9,7 @@ pub mod conformance;
 pub mod features;
 pub mod full;
 pub mod histories;
+pub mod lent;
 pub mod limits;
 pub mod pieces;
 pub mod random_tables;
@@ -44,6 +45,8 @@ pub struct Sizes {
     pub single: usize,
     /// Calls on sound tables that no session made.
     pub states: usize,
+    /// Sound tables, of which it is told which rows are lent.
+    pub lent: usize,
     /// Calls on full tables, at most 6.
     pub full: usize,
     pub words: usize,
@@ -80,5 +83,6 @@ pub fn cases(seed: u64, sizes: Sizes) -> std::io::Result<Vec<Case>> {
         sizes.lines,
         sizes.histories,
     )?);
+    cases.extend(lent::lent(&mut rng, sizes.lent));
     Ok(cases)
 }

@@ -1,7 +1,7 @@
 //! States that no words say: too few or too many records (rule S8), lists of another length
 //! than four (rule S20). The definitions find that clause broken and no other.
 
-use super::by_hand::clause_alone;
+use super::by_hand::clauses_alone;
 use super::case::{name, Case};
 
 /// A port from an operation of process 1 to itself, and a request on it with a list.
@@ -31,7 +31,10 @@ pub fn shapes() -> Vec<Case> {
     let broken = each.map(|(at, (about, clause, state))| Case {
         name: name("shape", at),
         about: format!("{about}: S{clause} alone breaks"),
-        claim: format!("not (sound {state}) && {}", clause_alone(&state, clause)),
+        claim: format!(
+            "not (sound {state}) && {}",
+            clauses_alone(&state, &[clause])
+        ),
         files: Vec::new(),
     });
     broken.collect()
