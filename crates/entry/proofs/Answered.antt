@@ -1,7 +1,7 @@
 -- What a line that was read is answered: 5, 6 and the refusals of its text change nothing; a listed caller's call is performed.
 use Prim.Native.Nat.{ℕ}
-use mathlib.Core.Bool.{Bool, true, false, not, _&&_}
-use mathlib.Core.List.{List, [], _∷_}
+use mathlib.Core.Bool.{true, false, not}
+use mathlib.Core.List.{List}
 use mathlib.Core.Path.{_≡_, refl, sym, ap, _∙_}
 use Rattle.rows.specs.declared.Process.{Process}
 use Rattle.rows.specs.Lists.{some}
@@ -13,7 +13,6 @@ use Rattle.rows.specs.contracts.Sizes.{IsRecords}
 use Rattle.rows.proofs.Bools.{and-i, clash, not-f, false-of}
 use Rattle.rows.proofs.LayoutRequests.{records-words}
 use Rattle.calls.specs.declared.Call.{Call}
-use Rattle.calls.specs.declared.Answer.the-variants.{Refused}
 use Rattle.calls.specs.Rules.{Out, judge, lowest, refused}
 use Rattle.calls.specs.Calls.{perform, callerOf}
 use Rattle.calls.specs.contracts.Performs.{RunsAfter, CallerListed}

@@ -8,9 +8,9 @@ use native.Mathlib.Omega.{arith}
 use lib.ListN.{length, replicate, length-replicate}
 use borrow.Author.Tests.{eq-eqb, ne-eqb, eqb-true}
 use Rattle.rows.specs.Lists.{sameList}
-use Rattle.rows.specs.Tables.{State, empty}
+use Rattle.rows.specs.Tables.{empty}
 use Rattle.rows.specs.Sound.{sound}
-use Rattle.rows.specs.Layout.{tablesLength, processesLength, wordsOf, recordsOf, recordsIn, stateOf, rightLengths, soundWords, clearedTables, clearedProcesses}
+use Rattle.rows.specs.Layout.{tablesLength, processesLength, wordsOf, stateOf, rightLengths, soundWords, clearedTables, clearedProcesses}
 use Rattle.rows.specs.Computes.{computes}
 use Rattle.rows.specs.contracts.Represents.{Represents}
 use Rattle.rows.specs.contracts.Sizes.{IsTables, IsRecords}
@@ -23,7 +23,7 @@ use Rattle.calls.specs.declared.Answer.the-variants.{Refused}
 use Rattle.calls.specs.Answers.{refusalOf}
 use Rattle.text.specs.declared.Reply.{Reply}
 use Rattle.text.specs.declared.Verdict.{Verdict}
-use Rattle.text.specs.Answers.{noText, printed}
+use Rattle.text.specs.Answers.{printed}
 use Rattle.text.specs.CallLines.{readingOf}
 use Rattle.text.specs.Opening.{Form, Line, lastLine, formLine, badLine, FirstPass, readTo, stoppedBy, formRefusal, lineOf, firstPass, missingAt, secondPass, Opening, opens, refusedAt, linesOf, openingOf}
 use Rattle.text.specs.Entry.{answered, callOn, replyOf, replyWith, callEntry, openEntry, openedBy}

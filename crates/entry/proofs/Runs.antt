@@ -2,20 +2,18 @@
 use Prim.Native.Nat.{ℕ}
 use mathlib.Core.Bool.{true}
 use mathlib.Core.List.{List, [], _∷_, map}
-use mathlib.Core.Path.{_≡_, refl, ap, sym, subst, _∙_}
-use Rattle.rows.specs.Tables.{State}
-use Rattle.rows.specs.Layout.{stateOf, soundWords}
+use mathlib.Core.Path.{_≡_, refl, ap, subst, _∙_}
+use Rattle.rows.specs.Layout.{stateOf}
 use Rattle.text.specs.declared.Reply.{Reply}
 use Rattle.text.specs.Entry.{Replied, openEntry, callEntry}
 use Rattle.text.specs.contracts.Replies.{inReply}
 use Rattle.text.specs.contracts.Sizes.{REPLY}
 use Rattle.text.proofs.AskLaws.{take-pad}
-use lib.ListN.{length, take}
+use lib.ListN.{length}
 use Prim.Native.Nat.{_≤_}
 use Rattle.history.specs.History.{History}
-use Rattle.history.specs.Reading.{begun, accepts, noteLine, historyAfter}
-use Rattle.history.specs.Demand3.{Holds, Vanished, Returned, Revoked, lentAfter, repliesTo, stateIn, Demand3}
-use Rattle.history.specs.Kept.{Kept}
+use Rattle.history.specs.Reading.{begun, accepts, historyAfter}
+use Rattle.history.specs.Demand3.{Revoked, lentAfter, repliesTo, stateIn, Demand3}
 use Rattle.history.proofs.Demand3.{demand3}
 use Rattle.history.proofs.Kept.{kept}
 use Rattle.entry.specs.contracts.Entries.{Replies}

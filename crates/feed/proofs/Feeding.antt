@@ -2,20 +2,20 @@
 use Prim.Native.Nat.{ℕ, _≤_}
 use native.Mathlib.Omega.{arith}
 use mathlib.Core.Bool.{Bool, true, false, not, cond}
-use mathlib.Core.List.{List, [], _∷_, _++_, map, append-assoc, append-nil}
+use mathlib.Core.List.{List, [], _∷_, _++_, map, append-nil}
 use mathlib.Core.Path.{_≡_, refl, sym, ap, subst, _∙_}
 use lib.Dec.{eqb}
 use lib.ListN.{length}
-use borrow.Author.Tests.{eqb-true, eqb-false, eq-eqb, ne-eqb}
+use borrow.Author.Tests.{eqb-true, eqb-false}
 use Rattle.rows.specs.Lists.{all, sameList, bytes}
 use Rattle.rows.specs.Layout.{rightLengths}
 use Rattle.rows.proofs.LayoutColumns.{list-same}
 use Rattle.text.specs.Opening.{Form, Line, lastLine, formLine, badLine, Opening as Verdict, opens, refusedAt, linesOf, lineOf, formRefusal, openingOf}
 use Rattle.text.specs.Answers.{okText, noText}
-use Rattle.text.specs.Entry.{Replied, replyWith, callEntry, openedBy, openEntry}
+use Rattle.text.specs.Entry.{replyWith, callEntry, openedBy, openEntry}
 use Rattle.feed.specs.declared.Stage.{Stage}
 use Rattle.feed.specs.declared.Stage.the-variants.{Opening, Calls, Over}
-use Rattle.feed.specs.Feeding.{keptOfLine, cut, Session, lineStart, withLine, Step, silent, stageAfter, undecided, opened, openingLine, callLine, lineFed, byteFed, finished}
+use Rattle.feed.specs.Feeding.{keptOfLine, cut, Session, lineStart, withLine, Step, silent, stageAfter, opened, openingLine, callLine, lineFed, byteFed, finished}
 use Rattle.feed.proofs.Lines.{plain, plain-byte, plain-kept, cut-all, cut-length, line-goes-on, line-ends, KeptLine, line-kept, lines-left}
 use Rattle.feed.proofs.Openings.{Waiting, Goes, Stops, withRest, lines-with, line-goes, last-stops, bad-stops, refused-stops, ends-whole, ends-begun}
 use Rattle.feed.proofs.Replies.{answersTo, repliesOn, opening-fits}

@@ -2,7 +2,7 @@
 use Prim.Native.Nat.{ℕ, _≤_}
 use native.Mathlib.Omega.{arith}
 use mathlib.Core.Bool.{true, cond}
-use mathlib.Core.List.{List, [], _∷_, _++_, map, append-assoc, append-nil}
+use mathlib.Core.List.{List, [], _∷_, _++_, append-assoc, append-nil}
 use mathlib.Core.Path.{_≡_, refl, sym, ap, _∙_}
 use lib.Dec.{eqb}
 use lib.ListN.{length}
@@ -14,8 +14,8 @@ use Rattle.text.specs.Session.{session}
 use Rattle.history.specs.Kept.{joined}
 use Rattle.feed.specs.declared.Stage.{Stage}
 use Rattle.feed.specs.declared.Stage.the-variants.{Opening, Calls, Over}
-use Rattle.feed.specs.Feeding.{keptOfLine, cut, Session, begun, Step, silent, followed, byteFed, fed, partsFed, finished, printedOn}
-use Rattle.feed.specs.Prints.{mostText, Reads, Prints}
+use Rattle.feed.specs.Feeding.{Session, begun, Step, silent, followed, byteFed, fed, partsFed, finished, printedOn}
+use Rattle.feed.specs.Prints.{mostText, Prints}
 use Rattle.feed.proofs.Lines.{plain}
 use Rattle.feed.proofs.Openings.{waiting-starts, waiting-short}
 use Rattle.feed.proofs.Replies.{replies-session, replies-cut}

@@ -7,8 +7,8 @@ use lib.Dec.{eqb}
 use Rattle.rows.specs.Layout.{rightLengths, soundWords, stateOf}
 use Rattle.text.specs.declared.Reading.{Reading}
 use Rattle.text.specs.Opening.{Form, Line, lastLine, formLine, badLine, FirstPass, readTo, stoppedBy, Opening, opens, refusedAt, linesOf, lineOf, formRefusal, firstPass, missingAt, secondPass, openingOf}
-use Rattle.text.specs.Answers.{okText, noText}
-use Rattle.text.specs.Entry.{Replied, answered, callOn, replyWith, replyOf, callEntry, stateOpened, openedBy, openEntry}
+use Rattle.text.specs.Answers.{noText}
+use Rattle.text.specs.Entry.{Replied, answered, callOn, replyWith, replyOf, callEntry, openedBy, openEntry}
 use Rattle.text.specs.Session.{sessionOf, session}
 use Rattle.history.specs.Demand3.{repliesTo}
 use Rattle.history.specs.Kept.{joined}

@@ -1,6 +1,6 @@
 -- A session fed its input byte by byte (docs/MANUAL.md, chapter 1): what is kept between two bytes, and what is printed when a line ends.
 use Prim.Native.Nat.{ℕ, suc}
-use mathlib.Core.Bool.{Bool, true, false}
+use mathlib.Core.Bool.{Bool, false}
 use mathlib.Core.List.{List, [], _∷_, _++_}
 use lib.Dec.{ltb, eqb}
 use lib.ListN.{length, take}

@@ -9,7 +9,7 @@ use Rattle.rows.specs.Layout.{rightLengths}
 use Rattle.text.specs.Session.{session}
 use Rattle.history.specs.Kept.{joined}
 use Rattle.feed.specs.declared.Stage.the-variants.{Opening}
-use Rattle.feed.specs.Feeding.{Session, Step, keptOfLine, begun, partsFed, printedOn}
+use Rattle.feed.specs.Feeding.{Step, keptOfLine, begun, partsFed, printedOn}
 
 -- (rules O14, X1) an opening that is not decided has a line for each node and each process at most
 unfoldable pub mostText : ℕ

@@ -1,7 +1,7 @@
 -- Clauses of each row with its source and its second source (`sourced F`): one law for each change of rows. Closing has its own in ClosingRows, copies on top in AskStack.
 use Prim.Native.Nat.{ℕ}
-use mathlib.Core.Bool.{Bool, true, false, not, _||_}
-use mathlib.Core.List.{List, [], _∷_, map}
+use mathlib.Core.Bool.{Bool, true, false, _||_}
+use mathlib.Core.List.{List, _∷_, map}
 use mathlib.Core.Path.{_≡_, refl, ap, _∙_}
 use lib.Dec.{eqb}
 use Rattle.rows.specs.declared.Row.{Row}

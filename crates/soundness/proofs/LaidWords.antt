@@ -13,7 +13,7 @@ use lib.ListN.{length, getD, take, drop, length-take}
 use lib.Seq.{getD-drop, ext-getD}
 use Rattle.rows.specs.declared.Row.{Row}
 use Rattle.rows.specs.declared.Request.{Request}
-use Rattle.rows.specs.Lists.{rises, member, all, each, laid, filter, some, nonzero, slotWith}
+use Rattle.rows.specs.Lists.{rises, member, all, laid, filter, some, nonzero, slotWith}
 use Rattle.rows.specs.Limits.{rowSlots, requestSlots, mostItems}
 use Rattle.rows.specs.Tables.{numbers, sources}
 use Rattle.rows.specs.Sound.{rowsRise, requestsRise, rowsFit, requestsFit, itemsFew}

@@ -15,7 +15,7 @@ use Rattle.rows.specs.declared.Request.{Request}
 use Rattle.rows.specs.Lists.{filter, all, rises, member, distinct, some, nonzero}
 use Rattle.rows.specs.Limits.{rowSlots, requestSlots}
 use Rattle.rows.specs.Codes.{clientEnd, serverEnd, isClient, isServer, isEnd}
-use Rattle.rows.specs.Tables.{State, noRow, rowOf, numbers}
+use Rattle.rows.specs.Tables.{State, noRow, rowOf}
 use Rattle.rows.specs.Sound.{itemsFew, portStands}
 use Rattle.rows.specs.Layout.{rowColumns, requestColumns, requestsAt, requestAt, requestsTo, rowSlot}
 use Rattle.rows.specs.contracts.Represents.{Represents, sourcesOlder}

@@ -1,8 +1,8 @@
 -- The word that packs a row: what it tells of a row whose fields are in range, and the words of all rows.
 use Prim.Native.Nat.{ℕ, zero, suc, _+_, _*_, _/_, _%_, _<_, _≤_}
 use mathlib.Core.Bool.{Bool, true, false, cond, _&&_, _||_}
-use mathlib.Core.List.{List, [], _∷_, _++_}
-use mathlib.Core.Path.{_≡_, refl, ap, sym, subst, _∙_}
+use mathlib.Core.List.{List}
+use mathlib.Core.Path.{_≡_, refl, ap, sym, _∙_}
 use mathlib.Core.Logic.{⊎-elim}
 use native.Mathlib.Decide.{decLt}
 use native.Mathlib.Nat.{eq-or-lt-of-le}
@@ -13,11 +13,11 @@ use lib.ListN.{length, getD, set, List·getD-eq-default}
 use lib.Seq.{getD-set-same, getD-set-other}
 use Rattle.rows.specs.declared.Row.{Row}
 use Rattle.rows.specs.declared.Process.{Process}
-use Rattle.rows.specs.Lists.{all, between, some}
+use Rattle.rows.specs.Lists.{between, some}
 use Rattle.rows.specs.Limits.{nodes, greatestOperation, greatestDepth, allRights}
 use Rattle.rows.specs.Codes.{operation, subdirectory, clientEnd, serverEnd, isOperation, isSubdirectory, isClient, isServer, isEnd, isNode}
 use Rattle.rows.specs.Tables.{noRow, noProcess, processAt, isListed}
-use Rattle.rows.specs.Sound.{objectInRange, rightInRange, placeInRange}
+use Rattle.rows.specs.Sound.{objectInRange, rightInRange}
 use Rattle.rows.specs.Layout.{rawRow}
 use Rattle.soundness_rows.specs.contracts.Clauses.{ownRight}
 use Rattle.soundness_rows.specs.contracts.Packed.{packed, Packs, PacksRows}

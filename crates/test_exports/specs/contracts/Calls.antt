@@ -8,7 +8,7 @@ use lib.ListN.{getD}
 use Rattle.rows.specs.Lists.{if_then_else_, between}
 use Rattle.rows.specs.Tables.{State}
 use Rattle.rows.specs.Sound.{sound}
-use Rattle.rows.specs.Layout.{recordsIn, recordsOf}
+use Rattle.rows.specs.Layout.{recordsIn}
 use Rattle.rows.specs.contracts.Represents.{Represents}
 use Rattle.rows.specs.contracts.Sizes.{PROCESSES, IsTables, IsRecords}
 use Rattle.calls.specs.declared.Item.{Item}
@@ -17,7 +17,6 @@ use Rattle.calls.specs.declared.Answer.{Answer}
 use Rattle.calls.specs.declared.Answer.the-variants.{Done, Made, Fetched, Told, Refused}
 use Rattle.calls.specs.declared.Call.{Call}
 use Rattle.calls.specs.declared.Call.the-variants.{Go, Hold, Register, Drop, Port, Close, Ask, Fetch, Reply, Refuse, Revoke, Comes}
-use Rattle.calls.specs.Rules.{Out}
 use Rattle.calls.specs.Calls.{perform}
 use Rattle.calls.specs.contracts.Performs.{RunsAfter, CallerListed}
 use Rattle.test_exports.specs.contracts.Exports.{Unless}

@@ -1,7 +1,6 @@
 -- `comes::comes`: no such row, no such request, or the answer.
 use borrow.Author.Needs.{needs}
 use native.Mathlib.Omega.{arith}
-use mathlib.Core.Path.{_∙_}
 use Rattle.rows.specs.Layout.{rowSlot}
 use Rattle.rows.specs.contracts.Slots.{requestSlot}
 use Rattle.rows.proofs.Slots.{at-below, found-at, found-nothing}

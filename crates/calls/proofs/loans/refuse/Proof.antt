@@ -1,7 +1,6 @@
 -- `loans::refuse`: no such row, or what the end gives.
 use borrow.Author.Needs.{needs}
 use native.Mathlib.Omega.{arith}
-use mathlib.Core.Path.{_∙_}
 use Rattle.rows.specs.Codes.{inClist}
 use Rattle.rows.proofs.Slots.{at-below}
 use Rattle.calls.proofs.LookedUp.{found-in}

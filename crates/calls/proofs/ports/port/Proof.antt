@@ -1,7 +1,6 @@
 -- `ports::port`: no such row, or what the row gives.
 use borrow.Author.Needs.{needs}
 use native.Mathlib.Omega.{arith}
-use mathlib.Core.Path.{_∙_}
 use Rattle.rows.specs.Codes.{inClist}
 use Rattle.rows.proofs.Slots.{at-below}
 use Rattle.calls.specs.Calls.{refusals}

@@ -1,6 +1,6 @@
 -- `calling::call` meets its contract: 1 for words that are no sound tables, else what the line is answered.
 use borrow.Author.Needs.{needs}
-use mathlib.Core.Path.{ap, sym, subst, _∙_}
+use mathlib.Core.Path.{sym, _∙_}
 use Rattle.rows.proofs.Bools.{not-t, not-f}
 use Rattle.text.proofs.Readings.{reading-in-range}
 use Rattle.entry.proofs.Entered.{sound-lengths, replies-one, replies-answer}

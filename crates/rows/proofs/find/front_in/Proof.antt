@@ -1,8 +1,6 @@
 -- `find::front_in` meets its contract: what is before lo is in use, and what is from hi on is 0.
 use borrow.Author.Needs.{needs}
 use Prim.Native.Nat.{ℕ, _≤_, _-_, _+_, _/_}
-use native.Mathlib.Omega.{arith}
-use denote.Ref.{now}
 use lib.ListN.{length}
 use Rattle.rows.specs.contracts.Searches.{UsedInFront}
 use Rattle.rows.proofs.Searches.{Halved, halved-start, halved-down, halved-up, halved-end}

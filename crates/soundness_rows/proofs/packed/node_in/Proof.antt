@@ -1,5 +1,4 @@
 -- `packed::node_in` meets its contract: the bit of the word.
-use borrow.Author.Needs.{needs}
 use Rattle.soundness_rows.proofs.packed.node_in.Statement.{statement}
 use Rattle.soundness_rows.proofs.packed.node_in.Tie as tie
 

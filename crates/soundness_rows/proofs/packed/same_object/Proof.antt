@@ -1,5 +1,4 @@
 -- `packed::same_object` meets its contract: kind, operation and object as one number.
-use borrow.Author.Needs.{needs}
 use Rattle.soundness_rows.proofs.PackedRows.{object-same}
 use Rattle.soundness_rows.proofs.packed.same_object.Statement.{statement}
 use Rattle.soundness_rows.proofs.packed.same_object.Tie as tie

@@ -1,6 +1,5 @@
 -- `row_clauses::copy_matches` meets its contract: of an end nothing is asked; else kind, operation and object as one number, and the rights.
 use borrow.Author.Needs.{needs}
-use mathlib.Core.Path.{refl}
 use Rattle.rows.specs.Tables.{rowOf}
 use Rattle.soundness_rows.proofs.RowClauses.{copy-split}
 use Rattle.soundness_rows.proofs.row_clauses.copy_matches.Statement.{statement}

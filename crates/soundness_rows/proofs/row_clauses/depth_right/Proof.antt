@@ -2,7 +2,6 @@
 use borrow.Author.Needs.{needs}
 use Prim.Native.Nat.{suc, max}
 use mathlib.Core.Logic.{⊎-elim}
-use mathlib.Core.Path.{refl}
 use Rattle.rows.specs.Tables.{rowOf}
 use Rattle.rows.proofs.Bools.{eqb-sym}
 use Rattle.soundness_rows.specs.contracts.Clauses.{depthNext}
