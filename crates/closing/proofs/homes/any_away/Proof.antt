@@ -44,7 +44,7 @@ loop-again c =
     let away : Bool = not (eqb (x .result .through) 0) in (
       search needs,
       (λ e.
-          below-more (λ k. getD (recordsIn ps) k noProcess .through ≡ 0) (l .k) (l .knv .1 (or-fr away (l .away) e))
+          below-more (λ k. getD (recordsIn ps) k noProcess .through ≡ 0) (l .k) (l .inv .1 (or-fr away (l .away) e))
           (ap (λ (y : Process). y .through) (sym (x .ensures)) ∙ eqb-true (x .result .through) 0 (not-f (eqb (x .result .through) 0) (or-fl away (l .away) e)))),
     )
 
@@ -52,8 +52,8 @@ returns : tie.Need-returns Inv-loop μ-loop
 returns c =
     let l = c .before .loop in
     let ps = now (c .before .before .before .args .ps) in
-    let end : l .k ≡ 64 = omega (arith, l .knv .0, c .loop-test .left) in
-    λ e. subst (λ (n : ℕ). HomeTo ps n) end (l .knv .1 e)
+    let end : l .k ≡ 64 = omega (arith, l .inv .0, c .loop-test .left) in
+    λ e. subst (λ (n : ℕ). HomeTo ps n) end (l .inv .1 e)
 
 pub any-away-spec : {M : Type 1} → statement M
 any-away-spec =
