@@ -71,6 +71,15 @@ module _ (t : List ℕ) (i : ℕ) where
   unfolding firstLine
   line-none h = rw (drop-of-length-le t h)
 
+-- past bytes that are no line feed the line ends where it ended
+pub line-past : (n : ℕ) (t : List ℕ) (i e : ℕ) → e ≡ i + n → e ≤ length t → ((k : ℕ) → i ≤ k → k < e → getD t k 0 ≡ 10 → ⊥)
+    → i + firstLine (drop i t) ≡ e + firstLine (drop e t)
+line-past zero t i e q h none = let same : i ≡ e = omega arith in ap (λ (k : ℕ). k + firstLine (drop k t)) same
+line-past (suc n) t i e q h none =
+    let here = line-more t i (omega arith) (none i (omega arith) (omega arith)) in
+    let on = line-past n t (i + 1) e (omega arith) h (λ k g l. none k (omega arith) l) in
+    omega arith
+
 -- ---- entries: those read, then those left
 abbrev entriesJoined : Entries → Entries → Entries
 entriesJoined g h = record { entries = g .entries ++ h .entries; next = h .next }

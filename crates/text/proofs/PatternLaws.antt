@@ -4,8 +4,8 @@ use Prim.Native.String.{String}
 use native.Mathlib.Numerals.{add-one}
 use native.Mathlib.Omega.{arith}
 use mathlib.Core.Bool.{true, false, Bool}
-use mathlib.Core.List.{List}
-use mathlib.Core.Path.{_≡_, ap}
+use mathlib.Core.List.{List, [], _∷_}
+use mathlib.Core.Path.{_≡_, refl, ap}
 use lib.Dec.{leb}
 use lib.ListN.{length, getD, drop, drop-of-length-le, List·getD-eq-default}
 use lib.Seq.{drop-cons}
@@ -135,6 +135,12 @@ pieces-more s r t k h = rw (add-one, drop-cons t k 0 h)
 pub pieces-end : (s : List ℕ) (r : Read) (t : List ℕ) (k : ℕ) → length t ≤ k → pieces s r (drop k t) ≡ r
 unfolding pieces
 pieces-end s r t k h = rw (drop-of-length-le t h)
+
+-- after a piece that is not found nothing more is read
+pub pieces-bad : (s : List ℕ) (r : Read) (t : List ℕ) → r .good ≡ false → pieces s r t ≡ r
+unfolding pieces
+pieces-bad s r [] e = refl
+pieces-bad s r (p ∷ ps) e = rw (piece-bad s r p e) (pieces-bad s r ps e)
 
 -- a pattern in a local
 pub form-of : (s : List ℕ) (i : ℕ) (t : List ℕ) (p : String) → t ≡ bytes p → pieces s (began i) t ≡ form s i p

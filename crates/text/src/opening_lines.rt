@@ -17,15 +17,45 @@ use rows::codes::AN_OPERATION;
 use rows::codes::LAST_OPERATION;
 use rows::codes::is_node;
 ghost use mathlib.Core.Path.{_≡_};
+ghost use mathlib.Core.Bool.{true};
 ghost use Prim.Native.Nat.{_+_, _≤_};
 ghost use lib.ListN.{length, drop};
 ghost use Rattle.text.specs.Patterns.{form};
 ghost use Rattle.text.specs.Opening.{entriesFrom, entryRanged, nodeLine, lineOf, openLine, badLine};
 ghost use Rattle.text.specs.contracts.Sizes.{GROUPS};
 ghost use Rattle.text.specs.contracts.Openings.{firstLine, entryRead, entriesRead, otherLine, lineRead};
-ghost use Rattle.text.specs.contracts.Openings.{JudgesNode};
+ghost use Rattle.text.specs.contracts.Openings.{lineEnd, JudgesNode};
 
 // ---- lines
+// Whether none of eight bytes is a line feed: without a branch, so that the processor looks at all of them at once.
+fn eight_in_line(text: &[u8], i: usize) -> bool
+    requires { ⌜ i + 8 ≤ length (now text) ⌝ }
+    ensures { λ r. ⌜ (r ≡ true → lineEnd (now (text .entry)) i ≡ lineEnd (now (text .entry)) (i + 8)) ⌝ }
+{
+    let low = (text[i] == b'\n')
+        | ((text[i + 1] == b'\n') | ((text[i + 2] == b'\n') | (text[i + 3] == b'\n')));
+    let high = (text[i + 4] == b'\n')
+        | ((text[i + 5] == b'\n') | ((text[i + 6] == b'\n') | (text[i + 7] == b'\n')));
+    !(low | high)
+}
+
+// Passes bytes that are no line feed, eight at a time.
+fn skip_in_line(text: &[u8], at: usize) -> usize
+    requires { ⌜ at ≤ length (now text) ⌝ }
+    ensures within { λ r. ⌜ (at ≤ r) × (r ≤ length (now (text .entry))) ⌝ }
+    ensures ends { λ r. ⌜ lineEnd (now (text .entry)) r ≡ lineEnd (now (text .entry)) at ⌝ }
+{
+    let mut i = at;
+    while 8 <= text.len() - i {
+        let goes_on = eight_in_line(text, i);
+        if !goes_on {
+            return i;
+        }
+        i += 8;
+    }
+    i
+}
+
 // The position after the line that begins at a position, its line feed with it.
 // Ruled out: the position of the line feed; the end of the text where a line feed comes before it.
 pub fn line_end(text: &[u8], at: usize) -> usize
@@ -33,7 +63,7 @@ pub fn line_end(text: &[u8], at: usize) -> usize
     ensures ends { λ r. ⌜ r ≡ at + firstLine (drop at (now (text .entry))) ⌝ }
     ensures within { λ r. ⌜ r ≤ length (now (text .entry)) ⌝ }
 {
-    let mut i = at;
+    let mut i = skip_in_line(text, at);
     while i < text.len() {
         if text[i] == b'\n' {
             return i + 1;

@@ -214,7 +214,7 @@ fn read_piece(s: &[u8], r: Read, p: u8) -> Read
 }
 
 // ---- whole patterns
-// What the pattern t reads of s from a position on.
+// What the pattern t reads of s from a position on, up to a piece that is not found.
 // Ruled out: `01` read for `#` and a `)`; a form read from bytes past the end of s.
 pub fn read_form(s: &[u8], at: usize, t: &[u8]) -> Read
     ensures { λ r. ⌜ r ≡ pieces (now (s .entry)) (began at) (now (t .entry)) ⌝ }
@@ -229,6 +229,9 @@ pub fn read_form(s: &[u8], at: usize, t: &[u8]) -> Read
     };
     for k in 0..t.len() {
         r = read_piece(s, r, t[k]);
+        if !r.good {
+            return r;
+        }
     }
     r
 }

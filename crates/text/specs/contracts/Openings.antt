@@ -4,7 +4,7 @@ use mathlib.Core.Path.{_≡_}
 use mathlib.Core.Bool.{Bool, true, false, _&&_, _||_}
 use mathlib.Core.List.{List, [], _∷_}
 use lib.Dec.{eqb}
-use lib.ListN.{length, getD}
+use lib.ListN.{length, getD, drop}
 use Rattle.rows.specs.Lists.{if_then_else_, all, any}
 use Rattle.text.specs.declared.Read.{Read}
 use Rattle.text.specs.declared.Entry.{Entry}
@@ -28,6 +28,10 @@ use Rattle.rows.specs.contracts.Sizes.{PROCESSES}
 unfoldable pub firstLine : List ℕ → ℕ
 firstLine [] = 0
 firstLine (b ∷ bs) = if eqb b 10 then 1 else suc (firstLine bs)
+
+-- where the line that a position stands in ends
+abbrev pub lineEnd : List ℕ → ℕ → ℕ
+lineEnd t i = i + firstLine (drop i t)
 
 -- ---- entries
 -- the entry at a position

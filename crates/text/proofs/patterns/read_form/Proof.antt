@@ -1,11 +1,12 @@
 -- `patterns::read_form` meets its contract: what is left of the pattern decides the whole.
 use borrow.Author.Needs.{needs}
-use Prim.Native.Nat.{_-_}
+use Prim.Native.Nat.{_+_, _-_}
 use native.Mathlib.Omega.{arith}
 use mathlib.Core.Path.{_≡_, refl, sym, _∙_}
 use lib.ListN.{length, drop}
+use borrow.Author.Tests.{not-true}
 use Rattle.text.specs.Patterns.{pieces, began}
-use Rattle.text.proofs.PatternLaws.{pieces-more, pieces-end}
+use Rattle.text.proofs.PatternLaws.{pieces-more, pieces-end, pieces-bad}
 use Rattle.text.proofs.patterns.read_form.Statement.{statement}
 use Rattle.text.proofs.patterns.read_form.Tie as tie
 
@@ -25,6 +26,15 @@ shared-slice-read-read-piece c = search needs
 read-piece-requires : tie.Need-read-piece-requires Inv-loop μ-loop
 read-piece-requires c κs = search needs
 
+returns : tie.Need-returns Inv-loop μ-loop
+returns c =
+    let d = c .before .before in
+    let l = d .before .before .before in
+    let a = l .before .before .before .args in
+    let more = pieces-more (a .s .now) (l .loop .r) (a .t .now) (l .loop .k) (omega arith) in
+    let stays = pieces-bad (a .s .now) (d .read-piece .result) (drop (l .loop .k + 1) (a .t .now)) (not-true _ (c .if1 .taken)) in
+    sym stays ∙ rw (d .read-piece .ensures) (sym more ∙ l .loop .inv .1)
+
 add-k : tie.Need-add-k Inv-loop μ-loop
 add-k c = search needs
 
@@ -33,12 +43,13 @@ loop-less c = search needs
 
 loop-again : tie.Need-loop-again Inv-loop μ-loop
 loop-again c =
-    let l = c .before .before .before in
+    let d = c .before .before in
+    let l = d .before .before .before in
     let a = l .before .before .before .args in
-    (l .loop .inv .0, rw (c .read-piece .ensures) (sym (pieces-more (a .s .now) (l .loop .r) (a .t .now) (l .loop .k) (omega arith)) ∙ l .loop .inv .1))
+    (l .loop .inv .0, rw (d .read-piece .ensures) (sym (pieces-more (a .s .now) (l .loop .r) (a .t .now) (l .loop .k) (omega arith)) ∙ l .loop .inv .1))
 
-returns : tie.Need-returns Inv-loop μ-loop
-returns c =
+returns-2 : tie.Need-returns-2 Inv-loop μ-loop
+returns-2 c =
     let l = c .before in
     let a = l .before .before .before .args in
     sym (pieces-end (a .s .now) (l .loop .r) (a .t .now) (l .loop .k) (omega arith)) ∙ l .loop .inv .1
@@ -52,7 +63,8 @@ read-form-spec =
     loop-holds
     shared-slice-read-read-piece
     read-piece-requires
+    returns
     add-k
     loop-less
     loop-again
-    returns)
+    returns-2)
