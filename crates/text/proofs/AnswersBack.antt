@@ -2,7 +2,7 @@
 use Prim.Native.Nat.{ℕ, zero, suc, _+_, _≤_}
 use native.Mathlib.Omega.{arith}
 use mathlib.Core.Path.{_≡_, refl, sym, ap, subst, _∙_}
-use mathlib.Core.Bool.{Bool, true, false, cond, _&&_}
+use mathlib.Core.Bool.{Bool, true, false, cond}
 use mathlib.Core.List.{List, [], _∷_, _++_, append-assoc}
 use lib.Dec.{leb, eqb}
 use lib.ListN.{length, getD}
@@ -17,7 +17,7 @@ use Rattle.calls.specs.Answers.{refusalOf, valuesOf}
 use Rattle.text.specs.declared.Read.{Read}
 use Rattle.text.specs.Patterns.{isDigit, bad, began, form, whole}
 use Rattle.text.specs.Answers.{digitsOf, spaced, okText, noText, printed}
-use Rattle.text.specs.ReadBack.{Answered, valuesAt, answeredBy, saying, answerInRange}
+use Rattle.text.specs.ReadBack.{valuesAt, answeredBy, saying, answerInRange}
 use Rattle.text.proofs.Cursor.{At, at-start, at-skip, at-next, reading, takes-byte, other-byte, takes-number, then-reads, reads-all, then-bad}
 
 -- ---- the values

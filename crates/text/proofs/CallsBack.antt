@@ -1,14 +1,13 @@
 -- A call whose numbers are in range, written as a line, reads back as itself.
 use Prim.Native.Nat.{ℕ, zero, suc, _+_, _*_, _/_, _%_, _^_, _≤_, _<_}
-use Prim.Native.String.{String}
 use native.Mathlib.Omega.{arith}
 use mathlib.Core.Path.{_≡_, refl, sym, ap, subst, _∙_}
-use mathlib.Core.Bool.{Bool, true, false, not, cond, _&&_}
+use mathlib.Core.Bool.{Bool, true, false, cond, _&&_}
 use mathlib.Core.List.{List, [], _∷_, _++_, map, append-assoc}
 use lib.Dec.{leb, eqb}
 use lib.ListN.{length, getD, length-append}
 use borrow.Author.Tests.{leb-true, le-ltb, eq-eqb, ne-eqb}
-use Rattle.rows.specs.Lists.{bytes, between, all, filter, some, distinct}
+use Rattle.rows.specs.Lists.{bytes, between, all, some, distinct}
 use Rattle.rows.specs.Limits.{greatestNumber, processes, mostBytes, mostItems, allRights}
 use Rattle.rows.proofs.Bools.{and-l, and-r, clash}
 use Rattle.calls.specs.declared.Item.{Item}
@@ -24,7 +23,7 @@ use Rattle.text.specs.Patterns.{isDigit, isLetter, spelt, bad, began, fo
 use Rattle.text.specs.CallLines.{isProcess, isNumber, ranged, simple, simpleForm, comesForm, Gathered, itemOf, addItem, gathered, itemRanged, packed, judged, askForm, readingOf}
 use Rattle.text.specs.Answers.{decimal, digitsOf}
 use Rattle.text.proofs.Answers.{leads-decimal}
-use Rattle.text.specs.ReadBack.{simpleText, itemsText, askText, comesText, callText, AskInRange, InRange}
+use Rattle.text.specs.ReadBack.{simpleText, itemsText, askText, comesText, callText, InRange}
 use Rattle.text.proofs.Cursor.{At, at-start, at-skip, at-next, reading, takes-byte, other-byte, no-number, takes-number, takes-word, then-reads, reads-all, then-bad}
 
 -- ---- numbers as text

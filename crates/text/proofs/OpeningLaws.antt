@@ -13,9 +13,9 @@ use Rattle.rows.proofs.Bools.{clash}
 use Rattle.rows.specs.Lists.{all, any}
 use Rattle.rows.specs.Sound.{same}
 use Rattle.text.specs.CallLines.{ranged}
-use Rattle.text.specs.Opening.{linesOf, withByte, Entries, entriesFrom, addEntry, entryRanged, Form, entryListed, nodeForm, givesNode, givesProcess, processForm}
+use Rattle.text.specs.Opening.{linesOf, withByte, Entries, entriesFrom, addEntry, entryRanged, Form, nodeForm, givesNode, givesProcess, processForm}
 use Rattle.text.specs.Patterns.{counted}
-use Rattle.text.specs.contracts.Openings.{firstLine, entriesRead, entryRead, listedFrom, Gives}
+use Rattle.text.specs.contracts.Openings.{firstLine, entriesRead, entryRead, Gives}
 use Rattle.text.specs.contracts.Sizes.{NODES}
 use Rattle.rows.specs.contracts.Sizes.{PROCESSES}
 use Rattle.text.specs.declared.EntriesRead.{EntriesRead}

@@ -2,26 +2,21 @@
 use Prim.Native.Nat.{ℕ, suc, _<_, _+_, _-_, _≤_}
 use native.Mathlib.Numerals.{add-one}
 use native.Mathlib.Omega.{arith}
-use mathlib.Core.Bool.{true, false, Bool, cond, _&&_}
+use mathlib.Core.Bool.{true, false, Bool}
 use mathlib.Core.List.{List, _∷_, []}
-use mathlib.Core.Path.{_≡_, refl, ap, subst, _∙_, sym}
-use lib.Dec.{eqb, ltb}
+use mathlib.Core.Path.{_≡_, refl, ap, subst, _∙_}
+use lib.Dec.{eqb}
 use lib.ListN.{drop, length, take, drop-of-length-le}
-use borrow.Author.Tests.{eq-eqb, ne-eqb, eqb-true, eqb-false, lt-ltb}
+use borrow.Author.Tests.{eq-eqb, ne-eqb, eqb-true, eqb-false}
 use Rattle.rows.proofs.Bools.{clash}
-use Rattle.rows.specs.Limits.{mostBytes}
-use Rattle.rows.specs.Lists.{any}
 use Rattle.rows.specs.Sound.{same}
-use Rattle.text.specs.Opening.{Form, Line, FirstPass, lastLine, readTo, formLine, formRefusal, firstPass, stoppedBy, badLine, lineOf, nodeForm, processForm, linesOf, processLine, openLine, entriesFrom, nodeLine, Entries, formListed, givesNode, missingAt, secondPass}
-use Rattle.text.specs.Patterns.{whole, form, mostGroups}
-use Rattle.text.specs.contracts.Openings.{lineRead, NodeTold, FormSteps, Steps, Gives, gone-on, stopped, firstLine, Ends, entriesAt, naming, namingOf, listedFrom, ReadTo, verdictOf}
-use Rattle.text.specs.contracts.Sizes.{GROUPS}
+use Rattle.text.specs.Opening.{Form, Line, FirstPass, lastLine, readTo, formLine, formRefusal, firstPass, stoppedBy, badLine, lineOf, nodeForm, processForm, linesOf}
+use Rattle.text.specs.Patterns.{whole}
+use Rattle.text.specs.contracts.Openings.{lineRead, NodeTold, FormSteps, Steps, Gives, gone-on, stopped, firstLine, Ends}
 use Rattle.text.specs.declared.Entry.{Entry}
 use Rattle.text.specs.declared.Given.{Given}
 use Rattle.text.specs.declared.LineRead.the-variants.{Node, Process, Last, Bad}
-use Rattle.text.specs.declared.Naming.the-variants.{Ended, Listed, Missing}
 use Rattle.text.specs.declared.Passed.{Passed}
-use Rattle.text.specs.declared.Read.{Read}
 use Rattle.text.specs.declared.Step.{Step}
 use Rattle.text.proofs.OpeningLaws.{line-split}
 

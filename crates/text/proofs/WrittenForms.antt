@@ -2,19 +2,17 @@
 use Prim.Native.Nat.{ℕ, suc, _<_, _+_, _-_, _≤_}
 use native.Mathlib.Numerals.{add-one}
 use native.Mathlib.Omega.{arith}
-use mathlib.Core.Bool.{true, false, Bool, cond, _&&_}
+use mathlib.Core.Bool.{true, false, Bool, cond}
 use mathlib.Core.List.{List, _∷_, []}
 use mathlib.Core.Path.{_≡_, refl, ap, subst, _∙_, sym}
 use lib.Dec.{eqb}
 use lib.ListN.{drop, length, take, set, drop-of-length-le}
 use borrow.Author.Tests.{eq-eqb, ne-eqb, eqb-true, eqb-false, lt-ltb}
-use Rattle.rows.specs.Lists.{all, each, topOf}
+use Rattle.rows.specs.Lists.{all, each}
 use Rattle.rows.specs.Limits.{processes}
 use Rattle.rows.specs.Tables.{State, empty}
-use Rattle.rows.specs.Setters.{withRows, withNext, withProcesses}
-use Rattle.rows.specs.Layout.{recordsOf}
+use Rattle.rows.specs.Setters.{withNext, withProcesses}
 use Rattle.rows.specs.contracts.Represents.{Represents}
-use Rattle.rows.specs.contracts.Sizes.{ROWS}
 use Rattle.rows.proofs.Bools.{and-i}
 use Rattle.rows.proofs.Places.{between-range}
 use Rattle.changes.specs.contracts.Changes.{SetsNext}

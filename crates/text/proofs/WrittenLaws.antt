@@ -6,9 +6,8 @@ use native.Mathlib.Omega.{arith}
 use mathlib.Core.Bool.{Bool, true, false, _&&_}
 use mathlib.Core.List.{List, [], _∷_, _++_}
 use mathlib.Core.Path.{_≡_, refl, ap, sym, subst, _∙_}
-use lib.Dec.{eqb}
-use lib.ListN.{length, getD, set, length-set, replicate, length-replicate, getD-replicate}
-use lib.Seq.{getD-set-same, getD-set-other, ext-getD}
+use lib.ListN.{length, getD, set, replicate, length-replicate, getD-replicate}
+use lib.Seq.{ext-getD}
 use borrow.Author.Tests.{ne-eqb}
 use Rattle.rows.specs.declared.Row.{Row}
 use Rattle.rows.specs.declared.Process.{Process}
@@ -16,7 +15,7 @@ use Rattle.rows.specs.Lists.{pad, laid, topOf, all}
 use Rattle.rows.specs.Limits.{processes, rowSlots, requestSlots}
 use Rattle.rows.specs.Tables.{State, noProcess, empty}
 use Rattle.rows.specs.Setters.{withRows, withNext, withSources}
-use Rattle.rows.specs.Layout.{rowColumns, requestColumns, requestsAt, nextAt, tablesLength, rowWords, requestWords, wordsOf, recordsOf, recordsIn}
+use Rattle.rows.specs.Layout.{rowColumns, requestColumns, requestsAt, nextAt, tablesLength, rowWords, requestWords, wordsOf, recordsOf}
 use Rattle.rows.specs.Computes.{computes}
 use Rattle.rows.specs.contracts.Represents.{laidWell, sourcesOlder, Represents}
 use Rattle.rows.specs.contracts.Slots.{numberOfSlot, withSourceNumbers}

@@ -1,9 +1,7 @@
 -- `opening_words::clear_tables` meets its contract.
 use borrow.Author.Needs.{needs}
-use mathlib.Core.Path.{_≡_, subst, sym}
+use mathlib.Core.Path.{subst, sym}
 use mathlib.Core.List.{List}
-use lib.ListN.{length-replicate}
-use native.Mathlib.Omega.{arith}
 use Prim.Native.Nat.{ℕ}
 use Rattle.rows.specs.Setters.{withNext}
 use Rattle.rows.specs.Tables.{empty}

@@ -1,7 +1,6 @@
 -- `opening_words::entry_row` meets its contract.
 use borrow.Author.Needs.{needs}
-use Prim.Native.Nat.{ℕ, _≤_, _<_, _-_, _+_}
-use native.Mathlib.Omega.{arith}
+use Prim.Native.Nat.{_-_}
 use Rattle.rows.specs.Codes.{inNode}
 use Rattle.text.specs.Opening.{entryRow}
 use Rattle.text.proofs.opening_words.entry_row.Statement.{statement}

@@ -1,9 +1,8 @@
 -- `opening_words::write_entries` meets its contract: the entries written, then those left.
 use borrow.Author.Needs.{needs}
-use Prim.Native.Nat.{ℕ, _≤_, _<_, _-_, _+_}
+use Prim.Native.Nat.{_≤_, _-_}
 use native.Mathlib.Omega.{arith}
 use mathlib.Core.Path.{_≡_, refl, ap}
-use lib.ListN.{length}
 use borrow.Author.Tests.{not-true, not-false}
 use Rattle.rows.specs.declared.Row.{Row}
 use Rattle.rows.specs.contracts.Sizes.{IsTables}

@@ -2,12 +2,9 @@
 use borrow.Author.Needs.{needs}
 use Prim.Native.Nat.{ℕ, _≤_, _-_, _+_}
 use native.Mathlib.Omega.{arith}
-use mathlib.Core.Path.{_≡_, ap, sym, subst, _∙_}
-use mathlib.Core.List.{List}
+use mathlib.Core.Path.{_≡_, sym, _∙_}
 use lib.ListN.{length}
 use Rattle.rows.specs.contracts.Sizes.{IsTables, IsRecords}
-use Rattle.rows.proofs.Slots.{represented-length}
-use Rattle.text.specs.declared.Naming.the-variants.{Listed, Ended}
 use Rattle.text.proofs.OpeningLaws.{line-some}
 use Rattle.text.proofs.WrittenForms.{Forming, forming-starts, forming-few, forming-fits, forming-goes-on, forming-missing, forming-stops, forming-ends, missing-told, written-told}
 use Rattle.text.proofs.opening_words.write_forms.Statement.{statement}

@@ -1,8 +1,7 @@
 -- `opening_words::write_record` meets its contract: three stores.
 use borrow.Author.Needs.{needs}
-use Prim.Native.Nat.{ℕ, _≤_, _<_, _-_, _+_}
+use Prim.Native.Nat.{_-_}
 use native.Mathlib.Omega.{arith}
-use mathlib.Core.Path.{ap, _∙_}
 use lib.ListN.{length-set}
 use Rattle.text.specs.contracts.Written.{atHome}
 use Rattle.text.proofs.WrittenLaws.{record-set}
