@@ -8,7 +8,7 @@ ghost use Rattle.text.specs.Opening.{linesOf};
 ghost use Rattle.feed.specs.contracts.Buffers.{HasRoom, KeepsByte};
 
 // One more byte of the line begun, if it has room.
-// Ruled out: 256 bytes kept, so that a line of 256 bytes is a call; a byte over the opening's text.
+// Ruled out: 255 bytes kept, so that the longest call line is refused; a byte over the opening's text.
 pub fn keep_byte(kept: &mut [u8], k: Kept, b: u8) -> Kept
     requires { ⌜ HasRoom k (now kept) ⌝ }
     ensures { λ r. ⌜ KeepsByte b k (now (kept .entry)) r (now (kept .exit)) ⌝ }
