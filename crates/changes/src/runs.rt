@@ -1,4 +1,4 @@
-// Marked slots taken out of columns: each run of slots that are not marked moves down, in all columns, and 0 comes after.
+// Marked slots taken out of columns: each run of slots that are not marked moves down, in all columns; 0 comes after.
 ghost use mathlib.Core.Bool.{true};
 ghost use mathlib.Core.Path.{_≡_};
 ghost use Prim.Native.Nat.{_+_, _*_, _≤_};

@@ -29,7 +29,8 @@ fn take_out(t: &mut [u32], n: usize, s: Seed, removed: &RowMarks)
 // The closing from its seeds.
 fn close(t: &mut [u32], ps: &mut [u32], s: Seed)
     requires { ⌜ IsTables (now t) × IsRecords (now ps) ⌝ }
-    ensures closed { λ _. ⌜ Takes (closingFrom s) (now (t .entry)) (now (ps .entry)) (now (t .exit)) (now (ps .exit)) ⌝ }
+    ensures closed { λ _. ⌜ Takes (closingFrom s) (now (t .entry)) (now (ps .entry)) (now (t .exit))
+        (now (ps .exit)) ⌝ }
     ensures long { λ _. ⌜ IsTables (now (t .exit)) × IsRecords (now (ps .exit)) ⌝ }
 {
     let n = find::count_rows(t);
@@ -43,7 +44,8 @@ fn close(t: &mut [u32], ps: &mut [u32], s: Seed)
 // a cascade that stops after one port; a process left in a removed directory.
 pub fn close_request(t: &mut [u32], ps: &mut [u32], q: u32)
     requires { ⌜ IsTables (now t) × IsRecords (now ps) ⌝ }
-    ensures closed { λ _. ⌜ Takes (closeRequest q) (now (t .entry)) (now (ps .entry)) (now (t .exit)) (now (ps .exit)) ⌝ }
+    ensures closed { λ _. ⌜ Takes (closeRequest q) (now (t .entry)) (now (ps .entry)) (now (t .exit))
+        (now (ps .exit)) ⌝ }
     ensures long { λ _. ⌜ IsTables (now (t .exit)) × IsRecords (now (ps .exit)) ⌝ }
 {
     close(t, ps, Seed::Bearing(q));

@@ -26,7 +26,7 @@ fn clear_runs(tables: &mut [u32], processes: &mut [u32])
 
 // ---- the entry point
 // An opening text of any bytes, whatever the words held.
-// Ruled out: rows of a text that is refused; a row from before the opening; a run of another length that is not cleared.
+// Ruled out: rows of a text that is refused; a row from before the opening; a run of another length not cleared.
 pub fn open(tables: &mut [u32], processes: &mut [u32], text: &[u8]) -> Reply
     ensures { λ r. ⌜ Replies (openEntry (now (tables .entry)) (now (processes .entry)) (now (text .entry))) r
         (now (tables .exit)) (now (processes .exit)) ⌝ }

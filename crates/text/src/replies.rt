@@ -1,5 +1,5 @@
-// Answers printed: the text of an answer in a reply (specs/Answers.antt). Texts are put into the bytes of one reply, each
-// where the one before it ends; a function that puts a text gives the place after it.
+// Answers printed: the text of an answer in a reply (specs/Answers.antt). Texts are put into the bytes of one reply,
+// each where the one before it ends; a function that puts a text gives the place after it.
 use crate::REPLY;
 use crate::Reply;
 use calls::Answer;
