@@ -22,9 +22,6 @@ use Rattle.rows.proofs.LayoutColumns.{columns, laid-at}
 use Rattle.rows.proofs.RowSources.{Among, shape, shape-sources}
 
 -- ---- the order of the columns, there and back
-pub row-from-words : (r : Row) → rowFrom (λ c. getD (wordsOfRow r) c 0) ≡ r
-row-from-words r = refl
-
 pub row-word-from : (word : ℕ → ℕ) (c : ℕ) → c < 10 → getD (wordsOfRow (rowFrom word)) c 0 ≡ word c
 row-word-from word zero h = refl
 row-word-from word (suc zero) h = refl

@@ -1,21 +1,21 @@
 -- The words of a request's slot, found by its number or by its port.
 use Prim.Native.Nat.{ℕ, suc, _+_, _*_, _<_}
-use mathlib.Core.Bool.{Bool, true, _&&_, _||_}
+use mathlib.Core.Bool.{Bool, true}
 use mathlib.Core.List.{List, [], _∷_, _++_, map}
 use mathlib.Core.Path.{_≡_, refl, ap, sym, subst, _∙_}
 use native.Mathlib.Omega.{arith}
 use borrow.Author.Tests.{eqb-true}
-use lib.Dec.{eqb, ltb}
+use lib.Dec.{eqb}
 use lib.ListN.{length, getD, length-append}
 use Rattle.rows.specs.declared.Request.{Request}
-use Rattle.rows.specs.Lists.{firstWith, all, laid, member, slotWith, some}
+use Rattle.rows.specs.Lists.{firstWith, all, laid, member, slotWith}
 use Rattle.rows.specs.Limits.{rowSlots, requestSlots, mostItems}
-use Rattle.rows.specs.Tables.{State, noRequest, requestOf, openOn, lists}
+use Rattle.rows.specs.Tables.{State, noRequest, requestOf, openOn}
 use Rattle.rows.specs.Sound.{itemsFew}
 use Rattle.rows.specs.Layout.{rowColumns, requestsAt, requestWord, requestField, requestAt}
 use Rattle.rows.specs.contracts.Represents.{Represents}
 use Rattle.rows.specs.contracts.Slots.{requestSlot, openSlot}
-use Rattle.rows.proofs.Bools.{and-l, and-r, or-false}
+use Rattle.rows.proofs.Bools.{and-l, and-r}
 use Rattle.rows.proofs.Keyed.{olderOf, first-none}
 use Rattle.rows.proofs.LayoutColumns.{laid-at}
 use Rattle.rows.proofs.KeySlots.{slot-none, slot-member, slot-older, slot-found, newerOf, cut-first}
@@ -145,13 +145,3 @@ pub request-read : (t : List ℕ) (j : ℕ)
 request-read t j =
     sym
     (request-of-words t j _ record { number = refl; port = refl; asker = refl; fetched = refl; item1 = refl; item2 = refl; item3 = refl; item4 = refl; items = refl })
-
--- the four items one by one
-pub lists-words : (t : List ℕ) (j e : ℕ)
-    → ltb 0 e && (eqb e (getD t (10752 + j) 0) || (eqb e (getD t (10880 + j) 0) || (eqb e (getD t (11008 + j) 0) || eqb e (getD t (11136 + j) 0))))
-    ≡ lists e (requestAt t j)
-unfolding lists member some
-lists-words t j e =
-    ap (λ (b : Bool). ltb 0 e && (eqb e (getD t (10752 + j) 0) || (eqb e (getD t (10880 + j) 0) || (eqb e (getD t (11008 + j) 0) || b))))
-    (sym (or-false (eqb e (getD t (11136 + j) 0))))
-    ∙ ap (lists e) (request-read t j)

@@ -23,7 +23,6 @@ use crate::layout::VIA;
 ghost use mathlib.Core.Path.{_≡_};
 ghost use Prim.Native.Nat.{_<_};
 ghost use lib.ListN.{getD};
-ghost use Rattle.rows.specs.Tables.{lists};
 ghost use Rattle.rows.specs.Layout.{requestAt, rawRow};
 ghost use Rattle.rows.specs.contracts.Sizes.{ROWS, REQUESTS, NEXT, IsTables};
 
@@ -66,18 +65,6 @@ pub fn request_at(t: &[u32], j: usize) -> Request
         fetched: t[Q_FETCHED + j],
         items: items,
     }
-}
-
-// Whether the request in slot j lists e. Ruled out: three of the four items decide; 0 is listed.
-pub fn lists_at(t: &[u32], j: usize, e: u32) -> bool
-    requires { ⌜ IsTables (now t) × (j < REQUESTS) ⌝ }
-    ensures { λ r. ⌜ r ≡ lists e (requestAt (now (t .entry)) j) ⌝ }
-{
-    let a = t[Q_ITEMS + j];
-    let b = t[Q_ITEM_2 + j];
-    let c = t[Q_ITEM_3 + j];
-    let d = t[Q_ITEM_4 + j];
-    (0 < e) & ((e == a) | ((e == b) | ((e == c) | (e == d))))
 }
 
 // The next number.

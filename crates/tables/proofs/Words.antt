@@ -8,13 +8,12 @@ use lib.Dec.{eqb}
 use lib.ListN.{length}
 use Rattle.rows.specs.Lists.{sameList, each}
 use Rattle.rows.specs.Limits.{processes, rowSlots, requestSlots}
-use Rattle.rows.specs.Tables.{State, empty}
+use Rattle.rows.specs.Tables.{State}
 use Rattle.rows.specs.Sound.{rowsRise, requestsRise, rowsFit, requestsFit, recordsFit, sourcesRight, itemsFew, sourced}
 use Rattle.rows.specs.Layout.{tablesLength, processesLength, wordsOf, recordsOf, rowsIn, requestsIn, rowsTo, requestsTo, stateOf, rightLengths, soundWords}
 use Rattle.rows.specs.contracts.Represents.{laidWell, Represents}
-use Rattle.rows.specs.Computes.{computes}
 use Rattle.rows.proofs.Bools.{and-l, and-r}
-use Rattle.tables.proofs.Sound.{Sound, sound-open, sound-close}
+use Rattle.tables.proofs.Sound.{Sound, sound-close}
 use Rattle.tables.proofs.Standing.{sources-older}
 use Rattle.rows.proofs.LayoutColumns.{same-list, list-same}
 use Rattle.rows.proofs.LayoutRows.{rows-back}
@@ -67,7 +66,3 @@ words-state t p e =
     let lengths : eqb (length t) tablesLength && eqb (length p) (3 * processes) ≡ true = search and-l in
     let same : sameList (wordsOf (stateOf t p)) t ≡ true = search (and-l, and-r) in
     (same-list (wordsOf (stateOf t p)) t same, records-words processes p (eqb-true (length p) (3 * processes) (and-r (eqb (length t) tablesLength) (eqb (length p) (3 * processes)) lengths)))
-
-pub empty-words : soundWords (wordsOf empty) (recordsOf (empty .processes)) ≡ true
-unfolding computes
-empty-words = sound-words empty (sound-open empty refl)

@@ -112,10 +112,6 @@ Ends (stoppedBy k n) r = (r .refusal ≡ k) × (r .line ≡ n) × (0 < k)
 unfoldable pub listedFrom : List Form → ℕ → List ℕ → ℕ → Bool
 listedFrom fs n s i = all (entryListed fs) (entriesFrom n s i .entries)
 
--- where the entries of a node form begin
-unfoldable pub entriesAt : List ℕ → ℕ
-entriesAt s = form s 0 "(node #" .next
-
 -- the entries from a position on
 abbrev pub entriesHere : List ℕ → ℕ → List Entry
 entriesHere s at = entriesFrom GROUPS s at .entries
