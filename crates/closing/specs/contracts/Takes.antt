@@ -44,11 +44,11 @@ HomesAll t n ps removed r =
 abbrev pub HomeTo : List ℕ → ℕ → Type 0
 HomeTo p i = (k : ℕ) → k < i → getD (recordsIn p) k noProcess .through ≡ 0
 
--- r says yes if a record has gone through a row
+-- where r says no, none of the records has
 abbrev pub AwayIfAny : List ℕ → Bool → Type 0
 AwayIfAny p r = r ≡ false → HomeTo p PROCESSES
 
--- the same of the records in their words
+-- if the rows g are marked, the records in the words v are those in p, gone home
 abbrev pub HomesWords : List ℕ → ℕ → List ℕ → List Bool → List ℕ → Type 0
 HomesWords t n p removed v = HomesAll t n (recordsIn p) removed (recordsIn v)
 

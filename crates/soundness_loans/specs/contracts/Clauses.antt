@@ -24,15 +24,15 @@ wordAt t c (suc i) = getD t (c + i) 0
 
 -- ---- numbers of rows
 -- the number of the row at a slot
-abbrev pub numberAt : List ℕ → ℕ → ℕ
-numberAt t i = getD t (0 + i) 0
+abbrev pub slotNumber : List ℕ → ℕ → ℕ
+slotNumber t i = getD t (0 + i) 0
 
 -- s is the first of n slots, from a slot on, whose number is not below q, or n
 pub record FirstNotBelow (t : List ℕ) (n from q s : ℕ) : Type 0 where
   pub past : from ≤ s
   pub within : s ≤ n
-  pub below : (i : ℕ) → from ≤ i → i < s → numberAt t i < q
-  pub reached : s < n → q ≤ numberAt t s
+  pub below : (i : ℕ) → from ≤ i → i < s → slotNumber t i < q
+  pub reached : s < n → q ≤ slotNumber t s
 
 -- ---- one request
 -- r is F of the rows and of the request in slot j, in every state that t represents, n rows standing

@@ -3,13 +3,13 @@ use borrow.Author.Needs.{needs}
 use Prim.Native.Nat.{ℕ, _-_, _<_, _≤_}
 use native.Mathlib.Omega.{arith}
 use denote.Ref.{now}
-use Rattle.soundness_loans.specs.contracts.Clauses.{numberAt}
+use Rattle.soundness_loans.specs.contracts.Clauses.{slotNumber}
 use Rattle.soundness_loans.proofs.NumbersApart.{below-none, below-more}
 use Rattle.soundness_loans.proofs.request_clauses.first_not_below.Statement.{statement}
 use Rattle.soundness_loans.proofs.request_clauses.first_not_below.Tie as tie
 
 abbrev Inv-loop : tie.InvT-loop
-Inv-loop t n from q s₀ s = (from ≤ s) × (s ≤ n) × ((i : ℕ) → from ≤ i → i < s → numberAt t i < q)
+Inv-loop t n from q s₀ s = (from ≤ s) × (s ≤ n) × ((i : ℕ) → from ≤ i → i < s → slotNumber t i < q)
 
 abbrev μ-loop : tie.MeasureT-loop
 μ-loop t n from q s₀ s = n - s
