@@ -1,5 +1,5 @@
-//! Random sessions, damaged texts, altered tables and sound tables, from a seed; all of them at
-//! any numbers.
+//! Random sessions, damaged texts, altered tables and sound tables, from a seed; `shifted`
+//! raises their numbers.
 
 pub mod aimed;
 pub mod alter;
