@@ -3,7 +3,7 @@
 use crate::limits::LINE_BYTES;
 
 /// A part of a form: a number, a word of small letters or a form in brackets.
-/// A number too great for 32 bits is the greatest one, out of every range.
+/// (rule T4) 4,294,967,295 stands for itself and for all above it: out of every range.
 #[derive(Clone, PartialEq, Eq, Debug)]
 pub enum Part<'a> {
     Number(u32),

@@ -130,7 +130,7 @@ impl History {
     fn note_ask(&mut self, lender: u32, port: u32, items: &[Item], v: u32) {
         let rows = items.iter().map(|i| i.row);
         let (ends, others): (Vec<u32>, Vec<u32>) = rows.partition(|row| self.notes.is_end(*row));
-        for (row, number) in others.into_iter().zip(v + 1..) {
+        for (row, number) in others.into_iter().zip(v + 1..=u32::MAX) {
             let copy = NotedRow {
                 sources: vec![row, port],
                 bears: Some(v),

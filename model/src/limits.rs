@@ -11,8 +11,9 @@ pub const HOLD: u32 = 1;
 pub const TRANSFER: u32 = 2;
 pub const REGISTER: u32 = 4;
 pub const ALL_RIGHTS: u32 = 7;
-/// (rules R5, X9) Rows and requests take numbers from one counter, 1 to 1,000,000.
-pub const LAST_NUMBER: u32 = 1_000_000;
+/// (rules R5, X9) Rows and requests take numbers from one counter, 1 to 4,294,967,294. The next
+/// number is then 4,294,967,295, the greatest word.
+pub const LAST_NUMBER: u32 = 4_294_967_294;
 /// (rules X7, X8) At most 1,024 rows stand and 128 requests are open.
 pub const ROWS: usize = 1024;
 pub const REQUESTS: usize = 128;

@@ -2,6 +2,7 @@
 
 use crate::notes::{NotedRow, Notes};
 use std::collections::{BTreeMap, BTreeSet};
+use std::ops::Bound::{Excluded, Unbounded};
 
 /// What holds after a call: the rows that stand, the ports and requests that
 /// are not closed, and which request has which end on loan.
@@ -86,8 +87,8 @@ fn candidates<'a, T>(
     notes: &'a BTreeMap<u32, T>,
     old: &'a BTreeSet<u32>,
 ) -> impl Iterator<Item = (u32, &'a T)> + 'a {
-    let after = old.last().map_or(0, |last| last + 1);
+    let after = old.last().map_or(Unbounded, |last| Excluded(*last));
     let kept = old.iter().filter_map(|n| notes.get_key_value(n));
-    let all = kept.chain(notes.range(after..));
+    let all = kept.chain(notes.range((after, Unbounded)));
     all.map(|(number, note)| (*number, note))
 }

@@ -57,7 +57,7 @@ fn input_tests(tables: &Tables, call: &Call) -> Tests {
     ]
 }
 
-/// (rule F4) Rows and requests are 1 to 1,000,000, but for `go 0`.
+/// (rule F4) Rows and requests are 1 to 4,294,967,294, but for `go 0`.
 fn out_of_range(call: &Call) -> bool {
     let caller = |p: u32| (1..=PROCESSES).contains(&p);
     let number = |n: u32| (1..=LAST_NUMBER).contains(&n);

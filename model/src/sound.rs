@@ -14,7 +14,7 @@ pub const CLAUSES: [Clause; 26] = [
     ("numbers rise", numbers_rise),
     ("numbers are never shared", numbers_not_shared),
     ("numbers are below the next", numbers_below_next),
-    ("the next number is 1 to 1,000,001", next_in_range),
+    ("the next number is 1 to 4,294,967,295", next_in_range),
     ("at most 1,024 rows and 128 requests", counts),
     ("only opening and registered rows in nodes", nodes),
     ("row fields in range", row_fields),
@@ -77,7 +77,7 @@ fn numbers_below_next(t: &Tables) -> bool {
     every_row(t, |r| r.number < t.next) && every_request(t, |q| q.number < t.next)
 }
 
-/// (rule S5) The next number is 1 to 1,000,001.
+/// (rule S5) The next number is 1 to 4,294,967,295.
 fn next_in_range(t: &Tables) -> bool {
     (1..=LAST_NUMBER + 1).contains(&t.next)
 }

@@ -6,7 +6,7 @@ use model::check::{self, Tally};
 use model::history::History;
 use model::random::{self, Profile, PROFILES};
 use model::run_session;
-use model::session::Session;
+use model::session::{call, Session};
 use std::sync::OnceLock;
 
 fn variable(name: &str, default: u64) -> u64 {
@@ -153,21 +153,28 @@ fn rows_run_out_in_a_session() {
     assert_eq!(String::from_utf8(printed).unwrap(), expected);
 }
 
-/// (rules X9, X13, ask-18) 1,000,000 is given, then 18: four copies and a request take 5
+/// (rules X9, X13, ask-18) 4,294,967,294 is given, then 18: three copies and a request take 4
 /// numbers.
 #[test]
-fn numbers_run_out_in_a_session() {
-    let mut session = ONE.to_string() + &"(1 hold 1)\n".repeat(4) + "(1 port 2)\n";
-    let mut next = 8;
-    while next + 5 <= 999_999 {
-        session += &format!("(1 ask 6 (2 7) (3 7) (4 7) (5 7))\n(1 revoke {next})\n");
-        next += 5;
+fn numbers_run_out() {
+    let session = ONE.to_string() + &"(1 hold 1)\n".repeat(4) + "(1 port 2)\n";
+    let mut session = Session::begin(session.as_bytes());
+    while session.step().is_some() {}
+    let mut tables = session.tables;
+    tables.next = 4_294_967_292;
+    for (line, expected) in [
+        ("(1 ask 6 (2 7) (3 7) (4 7))\n", "(no 18)\n"),
+        ("(1 ask 6 (2 7))\n", "(ok 4294967292)\n"),
+        ("(1 port 2)\n", "(no 18)\n"),
+        ("(1 ask 6)\n", "(no 10)\n"),
+        ("(1 hold 1)\n", "(ok 4294967294)\n"),
+        ("(1 hold 1)\n", "(no 18)\n"),
+        ("(1 register 2)\n", "(no 18)\n"),
+        ("(1 port 2)\n", "(no 18)\n"),
+        ("(1 revoke 4294967292)\n", "(ok 0)\n"),
+        ("(1 ask 6)\n", "(no 18)\n"),
+    ] {
+        let printed = call(&mut tables, line.as_bytes()).print();
+        assert_eq!(String::from_utf8(printed).unwrap(), expected, "{line}");
     }
-    assert_eq!(next, 999_998);
-    session += "(1 ask 6 (2 7) (3 7) (4 7))\n(1 ask 6 (2 7))\n(1 port 2)\n(1 ask 6)\n";
-    session += "(1 hold 1)\n(1 hold 1)\n(1 register 2)\n(1 port 2)\n(1 revoke 999998)\n(1 ask 6)\n";
-    let printed = String::from_utf8(run_session(session.as_bytes())).unwrap();
-    let end = "(no 18)\n(ok 999998)\n(no 18)\n(no 10)\n\
-        (ok 1000000)\n(no 18)\n(no 18)\n(no 18)\n(ok 0)\n(no 18)\n";
-    assert!(printed.ends_with(end));
 }

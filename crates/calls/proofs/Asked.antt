@@ -10,6 +10,7 @@ use lib.ListN.{length}
 use lib.Dec.{eqb}
 use Rattle.rows.specs.Lists.{any, filter, some, rises}
 use Rattle.rows.specs.Limits.{greatestNumber, rowSlots, requestSlots}
+use Rattle.rows.specs.contracts.Sizes.{LAST-NEXT}
 use Rattle.rows.specs.Codes.{isClient, inClist, mayTransfer, within}
 use Rattle.rows.specs.Tables.{State, rowOf, numbers}
 use Rattle.rows.specs.Layout.{rowSlot}
@@ -277,12 +278,12 @@ module _ (st : State) (n m next k : ℕ) (rows : n ≡ length (st .rows)) (reque
     no-requests h = rw (le-ltb 1024 (length (st .rows) + k) (omega arith), le-leb 128 (length (st .requests)) (omega arith)) refl
 
     module _ (few : m < 128) where
-      pub no-numbers : 1000001 < next + 1 + k → 18 ≡ lowest (spaceTests st k)
+      pub no-numbers : LAST-NEXT < next + 1 + k → 18 ≡ lowest (spaceTests st k)
       unfolding lowest rowsFull rowSlots requestsFull requestSlots numbersSpent greatestNumber
       no-numbers h =
-          rw (le-ltb 1024 (length (st .rows) + k) (omega arith), lt-leb 128 (length (st .requests)) (omega arith), lt-ltb 1000001 (st .next + suc k) (omega arith)) refl
+          rw (le-ltb 1024 (length (st .rows) + k) (omega arith), lt-leb 128 (length (st .requests)) (omega arith), lt-ltb LAST-NEXT (st .next + suc k) (omega arith)) refl
 
-      pub has-space : next + 1 + k ≤ 1000001 → 0 ≡ lowest (spaceTests st k)
+      pub has-space : next + 1 + k ≤ LAST-NEXT → 0 ≡ lowest (spaceTests st k)
       unfolding lowest rowsFull rowSlots requestsFull requestSlots numbersSpent greatestNumber
       has-space h =
-          rw (le-ltb 1024 (length (st .rows) + k) (omega arith), lt-leb 128 (length (st .requests)) (omega arith), le-ltb 1000001 (st .next + suc k) (omega arith)) refl
+          rw (le-ltb 1024 (length (st .rows) + k) (omega arith), lt-leb 128 (length (st .requests)) (omega arith), le-ltb LAST-NEXT (st .next + suc k) (omega arith)) refl

@@ -9,6 +9,7 @@ use lib.Dec.{eqb}
 use lib.ListN.{length}
 use Rattle.rows.specs.Lists.{any, member, some}
 use Rattle.rows.specs.Limits.{greatestNumber, rowSlots, greatestDepth}
+use Rattle.rows.specs.contracts.Sizes.{LAST-NEXT}
 use Rattle.rows.specs.Codes.{subdirectory, clientEnd, serverEnd, isSubdirectory, isOperation, isClient, isServer, isEnd, inClist, inNode, mayHold, mayRegister}
 use Rattle.rows.specs.Tables.{State, noRow, noRequest, rowOf, requestOf, openOn, numbers, processAt, sources, onLoan, isLent}
 use Rattle.rows.specs.Sound.{isFetched}
@@ -37,13 +38,13 @@ module _ (st : State) (n next d k : ℕ) (count : n ≡ length (st .rows)) (nx :
     rows-full h = rw (le-ltb 12 d deep, lt-ltb 1024 (length (st .rows) + k) (omega arith)) refl
 
     module _ (free : n + k ≤ 1024) where
-      pub numbers-spent : 1000001 < next + k → 18 ≡ lowest (roomTests st d k)
+      pub numbers-spent : LAST-NEXT < next + k → 18 ≡ lowest (roomTests st d k)
       unfolding lowest tooDeep greatestDepth rowsFull rowSlots numbersSpent greatestNumber
-      numbers-spent h = rw (le-ltb 12 d deep, le-ltb 1024 (length (st .rows) + k) (omega arith), lt-ltb 1000001 (st .next + k) (omega arith)) refl
+      numbers-spent h = rw (le-ltb 12 d deep, le-ltb 1024 (length (st .rows) + k) (omega arith), lt-ltb LAST-NEXT (st .next + k) (omega arith)) refl
 
-      pub has-room : next + k ≤ 1000001 → 0 ≡ lowest (roomTests st d k)
+      pub has-room : next + k ≤ LAST-NEXT → 0 ≡ lowest (roomTests st d k)
       unfolding lowest tooDeep greatestDepth rowsFull rowSlots numbersSpent greatestNumber
-      has-room h = rw (le-ltb 12 d deep, le-ltb 1024 (length (st .rows) + k) (omega arith), le-ltb 1000001 (st .next + k) (omega arith)) refl
+      has-room h = rw (le-ltb 12 d deep, le-ltb 1024 (length (st .rows) + k) (omega arith), le-ltb LAST-NEXT (st .next + k) (omega arith)) refl
 
 -- ---- 7
 pub held : (st : State) (p e : ℕ) → eqb (rowOf (st .rows) e .place) (inClist p) ≡ true → notHeld st p e ≡ false

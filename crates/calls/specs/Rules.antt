@@ -72,7 +72,7 @@ rowsFull st k = ltb rowSlots (length (st .rows) + k)
 unfoldable pub requestsFull : State → Bool
 requestsFull st = leb requestSlots (length (st .requests))
 
--- (rules X9, X13) 18: fewer than k numbers are left; 1,000,000 is given
+-- (rules X9, X13) 18: fewer than k numbers are left; 4,294,967,294 is given
 unfoldable pub numbersSpent : State → ℕ → Bool
 numbersSpent st k = ltb (suc greatestNumber) (st .next + k)
 

@@ -23,11 +23,11 @@ use rows::read;
 use rows::records::record_at;
 use rows::records::set_record;
 ghost use Prim.Native.Nat.{_≤_, _<_};
-ghost use Rattle.rows.specs.contracts.Sizes.{ROWS, IsTables, IsRecords};
+ghost use Rattle.rows.specs.contracts.Sizes.{ROWS, LAST-NUMBER, IsTables, IsRecords};
 ghost use Rattle.calls.specs.declared.Call.{Call};
 ghost use Rattle.calls.specs.contracts.Performs.{Performs, HasRoom, RefusesHold, HoldsRow, RefusesRegister};
 ghost use Rattle.calls.specs.contracts.Performs.{RegistersRow, IsSourceOfSome, RefusesDrop};
-ghost use Rattle.calls.specs.contracts.Effects.{LAST-NUMBER, IsProcess, GoesHome, GoesThrough, HeldBy};
+ghost use Rattle.calls.specs.contracts.Effects.{IsProcess, GoesHome, GoesThrough, HeldBy};
 ghost use Rattle.calls.specs.contracts.Effects.{RegisteredBy};
 
 // The record of p in its prime node.

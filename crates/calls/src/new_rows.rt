@@ -8,9 +8,9 @@ use rows::codes::A_SERVER_END;
 use rows::read;
 ghost use mathlib.Core.Path.{_≡_};
 ghost use Prim.Native.Nat.{_≤_, _<_, _+_};
-ghost use Rattle.rows.specs.contracts.Sizes.{ROWS, IsTables};
+ghost use Rattle.rows.specs.contracts.Sizes.{ROWS, LAST-NUMBER, IsTables};
 ghost use Rattle.calls.specs.Calls.{portEnd};
-ghost use Rattle.calls.specs.contracts.Effects.{LAST-NUMBER, Copied, EndsAdded};
+ghost use Rattle.calls.specs.contracts.Effects.{Copied, EndsAdded};
 
 // Appends a copy of the row in slot i.
 // Ruled out: a copy with another row's object; a source that is not the row at its word.

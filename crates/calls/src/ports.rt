@@ -16,11 +16,11 @@ use rows::layout::KIND;
 use rows::layout::OBJECT;
 use rows::read;
 ghost use Prim.Native.Nat.{_≤_, _<_, _+_};
-ghost use Rattle.rows.specs.contracts.Sizes.{ROWS, IsTables, IsRecords};
+ghost use Rattle.rows.specs.contracts.Sizes.{ROWS, LAST-NUMBER, IsTables, IsRecords};
 ghost use Rattle.calls.specs.declared.Call.{Call};
 ghost use Rattle.calls.specs.contracts.Performs.{Performs, PerformsApart, HasRoom, RefusesPort, MakesPort};
 ghost use Rattle.calls.specs.contracts.Performs.{RefusesClose};
-ghost use Rattle.calls.specs.contracts.Effects.{LAST-NUMBER, IsProcess, PortMade};
+ghost use Rattle.calls.specs.contracts.Effects.{IsProcess, PortMade};
 
 // A port from the operation row in slot i: the client end to p, the server end to the row's manager.
 // Ruled out: both ends to p; ends that come from no row.

@@ -4,6 +4,7 @@ use questions::question;
 use rows::Found;
 use rows::codes::A_SUBDIRECTORY;
 use rows::codes::GREATEST_DEPTH;
+use rows::codes::LAST_NEXT;
 use rows::layout::KIND;
 use rows::layout::REQUESTS;
 use rows::layout::ROWS;
@@ -11,9 +12,6 @@ ghost use Prim.Native.Nat.{_≤_, _<_};
 ghost use Rattle.rows.specs.contracts.Sizes.{ROWS, REQUESTS, ITEMS, IsTables};
 ghost use Rattle.calls.specs.contracts.Performs.{RefusesRows, HasRoom, IsLentWord, TakesLent};
 ghost use Rattle.calls.specs.contracts.Asks.{TellsOpen, RefusesRequest, SpaceUnless};
-
-// the greatest next number
-pub const LAST_NEXT: u32 = 1000001;
 
 // What refuses k new rows of depth d: 15, 16, 18; 0 for nothing.
 // Ruled out: full, with a slot free; a row of depth 13.

@@ -1,4 +1,4 @@
--- Every answer to a call line on sound tables: an accepted one has a value of at most 1,000,000; a refusal has a number from 2 to 18 and leaves the state.
+-- Every answer to a call line on sound tables: an accepted one has a value of at most 4,294,967,294; a refusal has a number from 2 to 18 and leaves the state.
 use Prim.Native.Nat.{ℕ, suc, _+_, _<_, _≤_}
 use native.Mathlib.Omega.{arith}
 use mathlib.Core.Bool.{Bool, true, false, cond}

@@ -136,10 +136,10 @@ pub record Promises : Type 0 where
       let rows = stateIn (lentAfter (openEntry t p text) lines) .rows in
       member n (numbers rows) ≡ true → isEnd (rowOf rows n .kind) ≡ false → some (rowOf rows n .source) ≡ true
       → (member (rowOf rows n .source) (numbers rows) ≡ true) × (within (rowOf rows n .rights) (rowOf rows (rowOf rows n .source) .rights) ≡ true)
-  -- (rule P10) digits are worth their value, with no bound on it, or 1,000,001 for all above 1,000,000
+  -- (rule P10) digits are worth their value, with no bound on it, up to 4,294,967,295, which stands for all above it
   pub never-wrapped : (s : List ℕ) (i : ℕ) →
       let n = run isDigit (λ v b. v * 10 + (b - 48)) 0 i (drop i s) .value in
-      digits s i .value ≡ (if leb n greatestNumber then n else suc greatestNumber)
+      digits s i .value ≡ (if leb n (suc greatestNumber) then n else suc greatestNumber)
   -- (rule P28) every call whose numbers are in range can be written as a line, and that line asks for it
   pub call-read : (c : Call) → InRange c → readingOf (callText c) ≡ Asks c
   -- (rule P29) the text of an answer tells its refusal, or its values

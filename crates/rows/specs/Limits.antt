@@ -15,9 +15,9 @@ greatestOperation = 255
 unfoldable pub allRights : ℕ
 allRights = 7
 
--- (rules R5, X9) one counter, from 1 to 1,000,000, numbers rows and requests alike; a number is given once
+-- (rules R5, X9) one counter, from 1 to 4,294,967,294, numbers rows and requests alike; a number is given once
 unfoldable pub greatestNumber : ℕ
-greatestNumber = 1000000
+greatestNumber = 4294967294
 
 -- (rules X7, X8) at most 1,024 rows stand, and at most 128 requests are open
 unfoldable pub rowSlots : ℕ

@@ -29,7 +29,7 @@ numbersApart rows requests = all (λ v. not (member (v .number) (numbers rows)))
 unfoldable pub belowNext : ℕ → List Row → List Request → Bool
 belowNext next rows requests = ltb (topOf (λ r. r .number) rows) next && ltb (topOf (λ v. v .number) requests) next
 
--- (rule S5) the next number is 1 to 1,000,001
+-- (rule S5) the next number is 1 to 4,294,967,295
 unfoldable pub nextInRange : ℕ → Bool
 nextInRange next = between 1 (suc greatestNumber) next
 

@@ -31,6 +31,11 @@ pub const ALL_RIGHTS: u32 = 7;
 
 pub const GREATEST_DEPTH: u32 = 12;
 
+// the greatest number of a row or a request, and the greatest next number
+pub const LAST_NUMBER: u32 = 4294967294;
+
+pub const LAST_NEXT: u32 = LAST_NUMBER + 1;
+
 // ---- kinds
 // Whether a kind is that of an end of a port.
 // Ruled out: yes for the client end alone; yes for an operation.

@@ -1,28 +1,31 @@
 -- Soundness of the process records and of the next number, as the loops and look-ups of the code say it.
-use Prim.Native.Nat.{ℕ, zero, suc, _+_, _-_, _<_, _≤_}
+use Prim.Native.Nat.{ℕ, zero, suc, _+_, _-_, _^_, _<_, _≤_}
 use mathlib.Core.Bool.{Bool, true, false, _&&_}
 use mathlib.Core.List.{List, [], _∷_}
 use mathlib.Core.Path.{_≡_, refl, ap, sym, _∙_}
 use native.Mathlib.Nat.{le-of-suc-le-suc}
 use native.Mathlib.Numerals.{add-one}
 use native.Mathlib.Omega.{arith}
-use borrow.Author.Tests.{ne-eqb}
-use lib.Dec.{eqb}
+use borrow.Author.Tests.{ne-eqb, ltb-true}
+use lib.Dec.{eqb, ltb}
 use lib.ListN.{length, getD, take, drop}
 use lib.Seq.{getD-take, getD-drop, take-all}
 use Rattle.rows.specs.declared.Row.{Row}
+use Rattle.rows.specs.declared.Request.{Request}
 use Rattle.rows.specs.declared.Process.{Process}
 use Rattle.rows.specs.Lists.{all, topOf, some}
 use Rattle.rows.specs.Codes.{subdirectory, isSubdirectory, inClist}
 use Rattle.rows.specs.Tables.{State, noRow, rowOf}
-use Rattle.rows.specs.Sound.{processPlaced, placedFrom}
+use Rattle.rows.specs.Limits.{greatestNumber}
+use Rattle.rows.specs.Sound.{belowNext, nextInRange, processPlaced, placedFrom}
 use Rattle.rows.specs.contracts.Represents.{Represents}
 use Rattle.rows.specs.Layout.{rowSlot, rawRow}
 use Rattle.rows.specs.Setters.{withSources}
 use Rattle.rows.specs.contracts.Slots.{slotted}
 use Rattle.soundness.specs.contracts.Laid.{before}
-use Rattle.rows.proofs.Bools.{and-true, or-false, pos-some}
+use Rattle.rows.proofs.Bools.{and-true, and-i, and-l, and-r, bool-eq, or-false, pos-some}
 use Rattle.rows.proofs.Keyed.{first-none}
+use Rattle.rows.proofs.Places.{range-between}
 use Rattle.rows.proofs.Slots.{slot-none, represented-well, row-words-at, raw-row, request-words-at}
 
 -- ---- the next number
@@ -50,6 +53,20 @@ module _ {st : State} {t : List ℕ} (rep : Represents t st) where
   pub top-request : (m : ℕ) → m ≡ length (st .requests) → before (take 128 (drop 10240 t)) m ≡ topOf (λ v. v .number) (st .requests)
   top-request m e =
       top-before (λ v. v .number) (st .requests) 10240 128 m e (omega (arith, represented-well rep .requests-fit)) (λ v older d. request-words-at rep [] v older d .number)
+
+-- what is above a number is not 0, and no word is above the greatest next number
+pub below-in-range : (next : ℕ) (rows : List Row) (requests : List Request) → next < 2 ^ 32 → belowNext next rows requests ≡ nextInRange next && belowNext next rows requests
+unfolding belowNext nextInRange greatestNumber
+below-in-range next rows requests word = bool-eq below (nextInRange next && below) (λ b. and-i (nextInRange next) below (in-range b) b) (and-r (nextInRange next) below)
+  where
+    top : ℕ
+    top = topOf (λ r. r .number) rows
+
+    below : Bool
+    below = belowNext next rows requests
+
+    in-range : below ≡ true → nextInRange next ≡ true
+    in-range b = let above = ltb-true top next (and-l (ltb top next) (ltb (topOf (λ v. v .number) requests) next) b) in range-between 1 (suc greatestNumber) next (omega arith) (omega arith)
 
 -- ---- records one after the other
 and-assoc : (a b c : Bool) → a && (b && c) ≡ (a && b) && c

@@ -24,9 +24,6 @@ ghost use Rattle.rows.specs.contracts.OfState.{OfRows, TestsTables};
 ghost use Rattle.soundness.specs.contracts.Laid.{before};
 ghost use Rattle.soundness.specs.contracts.Clauses.{allOfNext};
 
-// The greatest next number: one more than the greatest number of a row or a request.
-const LAST_NEXT: u32 = 1000001;
-
 // ---- the next number
 // The last of the first k words of a column, 0 for none. Ruled out: the word after it; the first word.
 pub fn last_of(column: &[u32], k: usize) -> u32
@@ -39,7 +36,8 @@ pub fn last_of(column: &[u32], k: usize) -> u32
     column[k - 1]
 }
 
-// Ruled out: a next number of 1,000,002; one that a row or a request has.
+// In range is every word but 0, and what is above another word is not 0.
+// Ruled out: a next number that a row or a request has; 0 in tables without rows and requests.
 pub fn next_sound(t: &[u32], n: usize, m: usize) -> bool
     requires { ⌜ IsTables (now t) × (n ≤ ROWS) × (m ≤ REQUESTS) ⌝ }
     ensures { λ r. ⌜ TestsTables (now (t .entry)) n m r allOfNext ⌝ }
@@ -47,8 +45,7 @@ pub fn next_sound(t: &[u32], n: usize, m: usize) -> bool
     let next = t[NEXT];
     let row = last_of(&t[NUMBER..KIND], n);
     let request = last_of(&t[Q_NUMBER..Q_PORT], m);
-    let in_range = (1 <= next) & (next <= LAST_NEXT);
-    in_range & ((row < next) & (request < next))
+    (row < next) & (request < next)
 }
 
 // ---- the process records

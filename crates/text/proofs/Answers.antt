@@ -11,8 +11,9 @@ use borrow.Author.Tests.{ltb-true, ltb-false, lt-ltb, le-leb, eq-eqb, ne-eqb, eq
 use Rattle.rows.specs.Lists.{bytes, between}
 use Rattle.rows.specs.Limits.{greatestNumber}
 use Rattle.rows.proofs.Bools.{bool-eq}
+use Rattle.text.specs.declared.Run.{Run}
 use Rattle.text.specs.declared.Read.{Read}
-use Rattle.text.specs.Patterns.{isDigit, grown, run, digits, began, counted, passed, number, itself, piece, pieces, form, bad}
+use Rattle.text.specs.Patterns.{isDigit, grownTo, grown, run, digits, began, counted, passed, number, itself, piece, pieces, form, bad}
 use Rattle.text.specs.Answers.{decimal, digitsOf, spaced, okText, noText}
 
 -- ---- digits
@@ -20,38 +21,41 @@ digit-is : (k : ℕ) → k < 10 → isDigit (48 + k) ≡ true
 unfolding isDigit between
 digit-is k h = rw (le-leb 48 (48 + k) (omega arith), le-leb (48 + k) 57 (omega arith)) refl
 
--- one more digit
-grown-digit : (n : ℕ) → n ≤ greatestNumber → grown (n / 10) (48 + n % 10) ≡ n
-unfolding grown greatestNumber
-grown-digit n h = let e : n / 10 * 10 + (48 + n % 10 - 48) ≡ n = omega arith in rw (e, le-leb n 1000000 h) refl
+-- one more digit, of any limit
+module _ (limit : ℕ) where
+  abbrev worth : ℕ → ℕ → List ℕ → Run
+  worth = run isDigit (grownTo limit)
 
-one-more : (v k i : ℕ) (t : List ℕ) → k < 10 → run isDigit grown v i ((48 + k) ∷ t) ≡ run isDigit grown (grown v (48 + k)) (suc i) t
-unfolding run
-one-more v k i t h = rw (digit-is k h) refl
+  grown-digit : (n : ℕ) → n ≤ limit → grownTo limit (n / 10) (48 + n % 10) ≡ n
+  unfolding grownTo
+  grown-digit n h = let e : n / 10 * 10 + (48 + n % 10 - 48) ≡ n = omega arith in rw (e, le-leb n limit h) refl
 
--- the digits of n are worth n
-pub run-decimal : (d n i : ℕ) (t : List ℕ) → n < 10 ^ d → n ≤ greatestNumber → run isDigit grown 0 i (decimal d n ++ t) ≡ run isDigit grown n (i + length (decimal d n)) t
-unfolding decimal greatestNumber
-run-decimal zero n i t h l = let z : n ≡ 0 = omega arith in let y : i + 0 ≡ i = omega arith in rw (z, y) refl
-run-decimal (suc d) n i t h l = pick (ltb n 10) refl (run-decimal d (n / 10) i ((48 + n % 10) ∷ t))
-  where
-    pick : (b : Bool) → ltb n 10 ≡ b
-        → (n / 10 < 10 ^ d → n / 10 ≤ greatestNumber
-        → run isDigit grown 0 i (decimal d (n / 10) ++ ((48 + n % 10) ∷ t))
-        ≡ run isDigit grown (n / 10) (i + length (decimal d (n / 10))) ((48 + n % 10) ∷ t))
-        → run isDigit grown 0 i (cond b ((48 + n) ∷ []) (decimal d (n / 10) ++ ((48 + n % 10) ∷ [])) ++ t)
-        ≡ run isDigit grown n (i + length (cond b ((48 + n) ∷ []) (decimal d (n / 10) ++ ((48 + n % 10) ∷ [])))) t
-    pick true e ih =
-        let lt : n < 10 = ltb-true n 10 e in
-        let q : n / 10 ≡ 0 = omega arith in
-        let m : n % 10 ≡ n = omega arith in
-        let g : grown 0 (48 + n) ≡ n = rw (q, m) at (grown-digit n l) in
-        let j : suc i ≡ i + 1 = omega arith in
-        one-more 0 n i t lt ∙ (rw (g, j) refl)
-    pick false e ih =
-        let j : suc (i + length (decimal d (n / 10))) ≡ i + (length (decimal d (n / 10)) + 1) = omega arith in
-        rw (append-snoc, length-append)
-        (ih (omega arith) (omega arith) ∙ one-more (n / 10) (n % 10) (i + length (decimal d (n / 10))) t (omega arith) ∙ (rw (grown-digit n l, j) refl))
+  one-more : (v k i : ℕ) (t : List ℕ) → k < 10 → worth v i ((48 + k) ∷ t) ≡ worth (grownTo limit v (48 + k)) (suc i) t
+  unfolding run
+  one-more v k i t h = rw (digit-is k h) refl
+
+  -- the digits of n are worth n
+  pub run-decimal : (d n i : ℕ) (t : List ℕ) → n < 10 ^ d → n ≤ limit → worth 0 i (decimal d n ++ t) ≡ worth n (i + length (decimal d n)) t
+  unfolding decimal
+  run-decimal zero n i t h l = let z : n ≡ 0 = omega arith in let y : i + 0 ≡ i = omega arith in rw (z, y) refl
+  run-decimal (suc d) n i t h l = pick (ltb n 10) refl (run-decimal d (n / 10) i ((48 + n % 10) ∷ t))
+    where
+      pick : (b : Bool) → ltb n 10 ≡ b
+          → (n / 10 < 10 ^ d → n / 10 ≤ limit
+          → worth 0 i (decimal d (n / 10) ++ ((48 + n % 10) ∷ t)) ≡ worth (n / 10) (i + length (decimal d (n / 10))) ((48 + n % 10) ∷ t))
+          → worth 0 i (cond b ((48 + n) ∷ []) (decimal d (n / 10) ++ ((48 + n % 10) ∷ [])) ++ t)
+          ≡ worth n (i + length (cond b ((48 + n) ∷ []) (decimal d (n / 10) ++ ((48 + n % 10) ∷ [])))) t
+      pick true e ih =
+          let lt : n < 10 = ltb-true n 10 e in
+          let q : n / 10 ≡ 0 = omega arith in
+          let m : n % 10 ≡ n = omega arith in
+          let g : grownTo limit 0 (48 + n) ≡ n = rw (q, m) at (grown-digit n l) in
+          let j : suc i ≡ i + 1 = omega arith in
+          one-more 0 n i t lt ∙ (rw (g, j) refl)
+      pick false e ih =
+          let j : suc (i + length (decimal d (n / 10))) ≡ i + (length (decimal d (n / 10)) + 1) = omega arith in
+          rw (append-snoc, length-append)
+          (ih (omega arith) (omega arith) ∙ one-more (n / 10) (n % 10) (i + length (decimal d (n / 10))) t (omega arith) ∙ (rw (grown-digit n l, j) refl))
 
 -- s begins with a digit, with 0 only if n is 0
 pub record Leads (s : List ℕ) (n : ℕ) : Type 0 where
@@ -90,14 +94,14 @@ pub record Gives (f : Read) (n : ℕ) : Type 0 where
   pub value : f .c ≡ n
 
 number-printed : (s : List ℕ) (r : Read) (n : ℕ) (t : List ℕ) → drop (r .next) s ≡ digitsOf n ++ t → n ≤ greatestNumber → isDigit (getD t 0 0) ≡ false → Gives (number s r) n
-unfolding number counted digits digitsOf greatestNumber
+unfolding number counted digits digitsOf grown greatestNumber
 number-printed s r n t e h z =
     let lt : n < 10 ^ 10 = omega arith in
     let l = leads-decimal 9 n t lt in
     let there : r .next ≡ r .next + 0 = omega arith in
     let begins : getD s (r .next) 0 ≡ getD (decimal 10 n ++ t) 0 0 = ap (λ k. getD s k 0) there ∙ sym (getD-drop (r .next) s 0 0) ∙ ap (λ x. getD x 0 0) e in
     let worth : run isDigit grown 0 (r .next) (drop (r .next) s) .value ≡ n =
-    ap (λ x. run isDigit grown 0 (r .next) x .value) e ∙ ap (λ x. x .value) (run-decimal 10 n (r .next) t lt h) ∙ ap (λ x. x .value) (run-ends isDigit grown n (r .next + length (decimal 10 n)) t z) in
+    ap (λ x. run isDigit grown 0 (r .next) x .value) e ∙ ap (λ x. x .value) (run-decimal (suc greatestNumber) 10 n (r .next) t lt (omega arith)) ∙ ap (λ x. x .value) (run-ends isDigit grown n (r .next + length (decimal 10 n)) t z) in
     rw (begins, l .zeros, l .digit) (pick worth (eqb n 0) refl)
   where
     pick : run isDigit grown 0 (r .next) (drop (r .next) s) .value ≡ n → (b : Bool) → eqb n 0 ≡ b

@@ -65,12 +65,12 @@ module _ (s : List ℕ) (i w x y z : ℕ) where
   -- the digits of a number, and no digit after them
   pub takes-number : (n : ℕ) (u : List ℕ) → At s i (digitsOf n ++ u) → n ≤ greatestNumber → isDigit (getD u 0 0) ≡ false
       → piece s (reading i w x y z) 35 ≡ reading (i + length (digitsOf n)) w y z n
-  unfolding piece number counted digits digitsOf decimal greatestNumber
+  unfolding piece number counted digits grown digitsOf decimal greatestNumber
   takes-number n u a h e =
       let lt : n < 10 ^ 10 = omega arith in
       let l = leads-decimal 9 n u lt in
       let worth : run isDigit grown 0 i (drop i s) ≡ record { value = n; next = i + length (decimal 10 n) } =
-      ap (λ (t : List ℕ). run isDigit grown 0 i t) (a .rest) ∙ run-decimal 10 n i u lt h ∙ run-ends isDigit grown n (i + length (decimal 10 n)) u e in
+      ap (λ (t : List ℕ). run isDigit grown 0 i t) (a .rest) ∙ run-decimal (suc greatestNumber) 10 n i u lt (omega arith) ∙ run-ends isDigit grown n (i + length (decimal 10 n)) u e in
       rw (at-first s i (decimal 10 n ++ u) a, l .zeros, l .digit) (pick worth (eqb n 0) refl)
     where
       pick : run isDigit grown 0 i (drop i s) ≡ record { value = n; next = i + length (decimal 10 n) } → (t : Bool) → eqb n 0 ≡ t

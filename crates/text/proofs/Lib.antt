@@ -19,7 +19,7 @@ pub mod OpeningCount
 pub mod OpeningRecords
 -- an accepted opening text opens sound tables
 pub mod Opening
--- a number of any length is read as its exact value, or as 1,000,001
+-- a number of any length is read as its exact value, or as the limit for all above it
 pub mod Numbers
 -- runs, pieces and whole patterns, step by step as the reader takes them
 pub mod PatternLaws

@@ -1,5 +1,5 @@
 -- An accepted opening text opens sound tables; so are the empty tables.
-use Prim.Native.Nat.{ℕ}
+use Prim.Native.Nat.{ℕ, suc}
 use native.Mathlib.Omega.{arith}
 use mathlib.Core.Path.{_≡_, refl, sym, subst}
 use mathlib.Core.Bool.{Bool, true, _&&_}
@@ -124,7 +124,7 @@ module _ (fs : List Form) (g : Good fs) where
         requests-rise = refl;
         numbers-apart = refl;
         below-next = rw (lt-ltb (topOf (λ r. r .number) rows) next (omega arith), lt-ltb 0 next (omega arith)) refl;
-        next-in-range = range-between 1 1000001 next (omega arith) (omega arith);
+        next-in-range = range-between 1 (suc greatestNumber) next (omega arith) (omega arith);
         rows-fit = le-leb (length rows) 1024 (omega arith);
         requests-fit = refl;
       }

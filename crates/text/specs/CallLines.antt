@@ -15,7 +15,7 @@ use Rattle.text.specs.declared.Reading.{Reading}
 use Rattle.text.specs.declared.Reading.the-variants.{Asks, Crowded, Refused}
 use Rattle.text.specs.Patterns.{form, whole, wordOf, mostGroups}
 
--- (rule F4) the caller is 1 to 64; row and request numbers are 1 to 1,000,000
+-- (rule F4) the caller is 1 to 64; row and request numbers are 1 to 4,294,967,294
 unfoldable pub isProcess : ℕ → Bool
 isProcess p = between 1 processes p
 

@@ -18,9 +18,13 @@ isDigit b = between 48 57 b
 unfoldable pub isLetter : ℕ → Bool
 isLetter b = between 97 122 b
 
--- (rules T4, P10) what v is worth with one more digit; 1,000,001 stands for all above 1,000,000, so that nothing wraps
+-- (rules T4, P10) what v is worth with one more digit, up to the limit, which stands for all above it: nothing wraps
+unfoldable pub grownTo : ℕ → ℕ → ℕ → ℕ
+grownTo limit v b = let n = v * 10 + (b - 48) in if leb n limit then n else limit
+
+-- (rule T4) numbers are read as they are up to 4,294,967,295, one above the greatest number
 unfoldable pub grown : ℕ → ℕ → ℕ
-grown v b = let n = v * 10 + (b - 48) in if leb n greatestNumber then n else suc greatestNumber
+grown = grownTo (suc greatestNumber)
 
 -- (rule T2) the same of a word: a letter is worth 1 to 26 in base 32; 2 ^ 40 stands for all words of more than 8 letters
 unfoldable pub spelt : ℕ → ℕ → ℕ

@@ -10,6 +10,7 @@ use calls::Call;
 use calls::Item;
 use calls::Items;
 use rows::codes::ALL_RIGHTS;
+use rows::codes::LAST_NUMBER;
 use rows::codes::LAST_PROCESS;
 ghost use mathlib.Core.Path.{_≡_};
 ghost use Prim.Native.Nat.{_+_, _<_};
@@ -20,8 +21,6 @@ ghost use Rattle.text.specs.CallLines.{isProcess, isNumber, ranged, simp
 ghost use Rattle.text.specs.CallLines.{packed, judged, askForm, readingOf};
 ghost use Rattle.text.specs.contracts.Sizes.{GROUPS};
 ghost use Rattle.text.specs.contracts.Asks.{askedFrom, withItem, otherCall, JudgesAsk};
-
-const GREATEST_NUMBER: u32 = 1000000;
 
 const MOST_ITEMS: usize = 4;
 
@@ -63,7 +62,7 @@ pub fn is_process(p: u32) -> bool
 fn is_number(e: u32) -> bool
     ensures { λ r. ⌜ r ≡ isNumber e ⌝ }
 {
-    (1 <= e) & (e <= GREATEST_NUMBER)
+    (1 <= e) & (e <= LAST_NUMBER)
 }
 
 // A call whose numbers are in range, or 3.
@@ -85,7 +84,7 @@ fn simple_call(w: u64, p: u32, e: u32) -> Reading
     let caller = is_process(p);
     let good = caller & is_number(e);
     match w {
-        GO => if_ranged(caller & (e <= GREATEST_NUMBER), Call::Go(p, e)),
+        GO => if_ranged(caller & (e <= LAST_NUMBER), Call::Go(p, e)),
         HOLD => if_ranged(good, Call::Hold(p, e)),
         REGISTER => if_ranged(good, Call::Register(p, e)),
         DROP => if_ranged(good, Call::Drop(p, e)),

@@ -1,16 +1,15 @@
 // Bytes read by a pattern: `#` stands for a number, `@` for a word, any other byte for itself (specs/Patterns.antt).
 use crate::Read;
 use crate::Run;
+use rows::codes::LAST_NEXT;
 ghost use mathlib.Core.Path.{_≡_};
 ghost use Prim.Native.Nat.{_≤_};
 ghost use Rattle.text.specs.Patterns.{isDigit, isLetter, grown, spelt, digits, letters, bad, began, counted};
 ghost use Rattle.text.specs.Patterns.{number, word, itself, piece, pieces, form, whole};
-ghost use Rattle.text.specs.contracts.Sizes.{ABOVE, LONG-WORD};
+ghost use Rattle.text.specs.contracts.Sizes.{GREATEST-READ, LONG-WORD};
 
-const GREATEST_NUMBER: u64 = 1000000;
-
-// stands for all numbers above the greatest
-const ABOVE: u64 = 1000001;
+// the greatest number that is read: it stands for all above it
+const GREATEST_READ: u64 = LAST_NEXT as u64;
 
 // stands for all words of more than 8 letters
 const LONG_WORD: u64 = 1099511627776;
@@ -43,15 +42,15 @@ fn wide(b: u8) -> u64
 
 // What v is worth with one more digit. The bound stands in the step, so a number of any length never wraps.
 fn grow(v: u64, b: u8) -> u64
-    requires { ⌜ (v ≤ ABOVE) × (48 ≤ b) ⌝ }
+    requires { ⌜ (v ≤ GREATEST-READ) × (48 ≤ b) ⌝ }
     ensures worth { λ r. ⌜ r ≡ grown v b ⌝ }
-    ensures most { λ r. ⌜ r ≤ ABOVE ⌝ }
+    ensures most { λ r. ⌜ r ≤ GREATEST-READ ⌝ }
 {
     let n = v * 10 + (wide(b) - 48);
-    if n <= GREATEST_NUMBER {
+    if n <= GREATEST_READ {
         return n;
     }
-    ABOVE
+    GREATEST_READ
 }
 
 // What the word v is worth with one more letter.
@@ -70,7 +69,7 @@ fn spell(v: u64, b: u8) -> u64
 // The digits from a position on, and the position after them.
 fn digits_at(s: &[u8], at: usize) -> Run
     ensures worth { λ r. ⌜ r ≡ digits (now (s .entry)) at ⌝ }
-    ensures most { λ r. ⌜ r .value ≤ ABOVE ⌝ }
+    ensures most { λ r. ⌜ r .value ≤ GREATEST-READ ⌝ }
 {
     let mut v = 0;
     let mut i = at;
@@ -119,7 +118,7 @@ fn no_form() -> Read
 
 // One more number read: it is the last of the three kept.
 fn with_number(r: Read, n: Run) -> Read
-    requires { ⌜ n .value ≤ ABOVE ⌝ }
+    requires { ⌜ n .value ≤ GREATEST-READ ⌝ }
     ensures { λ q. ⌜ q ≡ counted r n ⌝ }
 {
     Read {

@@ -6,8 +6,8 @@ use super::case::{same, Case};
 use crate::session::{call, run_session};
 use crate::tables::Tables;
 
-/// An answer is read up to its line feed or to so many bytes.
-const BYTES: usize = 40;
+/// An answer is read up to its line feed. The longest has five numbers of ten digits.
+const BYTES: usize = 60;
 
 /// The bits of a byte of ASCII.
 const BITS: u32 = 7;

@@ -13,7 +13,7 @@ pub const AIMS: [(&str, Aim); 26] = [
     ("numbers rise", numbers_rise),
     ("numbers are never shared", numbers_not_shared),
     ("numbers are below the next", numbers_below_next),
-    ("the next number is 1 to 1,000,001", next_in_range),
+    ("the next number is 1 to 4,294,967,295", next_in_range),
     ("at most 1,024 rows and 128 requests", counts),
     ("only opening and registered rows in nodes", nodes),
     ("row fields in range", row_fields),
@@ -115,8 +115,14 @@ fn numbers_below_next(rng: &mut Rng, t: &mut Tables) -> Option<()> {
     Some(())
 }
 
+/// A word can say 0 alone. It is not above any row, so now and then there are no rows.
 fn next_in_range(rng: &mut Rng, t: &mut Tables) -> Option<()> {
-    t.next = rng.pick(&[0, LAST_NUMBER + 2, u32::MAX])?;
+    if rng.percent(30) {
+        t.rows.clear();
+        t.requests.clear();
+        t.processes = t.processes.map(|p| Process::in_prime_node(p.prime));
+    }
+    t.next = 0;
     Some(())
 }
 
@@ -127,6 +133,9 @@ fn counts(rng: &mut Rng, t: &mut Tables) -> Option<()> {
         return Some(());
     }
     let mut row = *t.rows.iter().find(|r| r.source == 0)?;
+    if LAST_NUMBER + 1 - t.next <= ROWS as u32 {
+        return None;
+    }
     while t.rows.len() <= ROWS {
         row.number = t.next;
         t.next += 1;

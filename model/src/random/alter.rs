@@ -86,9 +86,7 @@ fn value(rng: &mut Rng, t: &Tables) -> u32 {
     match rng.below(8) {
         0 | 1 => rng.pick(&rows).unwrap_or(0),
         2 => rng.pick(&requests).unwrap_or(0),
-        3 => rng
-            .pick(&[LAST_NUMBER, LAST_NUMBER + 1, u32::MAX])
-            .unwrap_or(0),
+        3 => rng.between(LAST_NUMBER - 1, LAST_NUMBER + 1),
         4 => t.next,
         _ => rng.between(0, 9),
     }

@@ -136,12 +136,11 @@ impl<'a> Maker<'a> {
     }
 
     fn any_number(&mut self) -> u32 {
-        let limits = [LAST_NUMBER, LAST_NUMBER + 1, u32::MAX];
         let rows = self.tables.rows.iter().map(|r| r.number);
         let requests = self.tables.requests.iter().map(|q| q.number);
         match self.rng.below(24) {
             0 => 0,
-            1 => self.rng.pick(&limits).unwrap_or(0),
+            1 => self.rng.between(LAST_NUMBER - 1, LAST_NUMBER + 1),
             2 => self.rng.between(1, self.tables.next.max(1)),
             3..=6 => self.rng.pick(&requests.collect::<Vec<_>>()).unwrap_or(1),
             _ => self.rng.pick(&rows.collect::<Vec<_>>()).unwrap_or(1),
@@ -234,7 +233,7 @@ impl<'a> Maker<'a> {
         }
         let near = self.near;
         let request = self.some_request(|q| near || test(q))?;
-        let server = self.tables.row(request.port + 1)?;
+        let server = self.tables.row(request.port.checked_add(1)?)?;
         Some((holder(server)?, server.number))
     }
 

@@ -10,7 +10,7 @@ use Rattle.rows.specs.Setters.{withRows, withPlace}
 use Rattle.rows.specs.Sound.{sound}
 use Rattle.rows.specs.Layout.{rowSlot}
 use Rattle.rows.specs.contracts.Represents.{Represents}
-use Rattle.rows.specs.contracts.Sizes.{ROWS, REQUESTS, PROCESSES, ITEMS}
+use Rattle.rows.specs.contracts.Sizes.{ROWS, REQUESTS, PROCESSES, ITEMS, LAST-NEXT}
 use Rattle.calls.specs.declared.Item.{Item}
 use Rattle.calls.specs.declared.Items.{Items}
 use Rattle.calls.specs.declared.ItemRow.{ItemRow}
@@ -26,7 +26,6 @@ use Rattle.calls.specs.Loans.{itemsOf, moves, copies, copyDepth, Lending
 use Rattle.calls.specs.Calls.{lacksRight, isBusy, refusalsAsk, perform}
 use Rattle.calls.specs.contracts.Lookups.{HasRows, HasRequests, StandsAt}
 use Rattle.calls.specs.contracts.Performs.{Answers, HeldAt}
-use Rattle.calls.specs.contracts.Effects.{LAST-NEXT}
 use Rattle.calls.specs.contracts.Replies.{HasBoth}
 
 -- ---- an item with its row looked up

@@ -24,14 +24,6 @@ use Rattle.calls.specs.contracts.Lookups.{HasRows, StandsAt}
 abbrev pub IsProcess : ℕ → Type 0
 IsProcess p = (0 < p) × (p ≤ PROCESSES)
 
--- the greatest number of a row or a request
-abbrev pub LAST-NUMBER : ℕ
-LAST-NUMBER = 1000000
-
--- the greatest next number
-abbrev pub LAST-NEXT : ℕ
-LAST-NEXT = 1000001
-
 -- ---- go
 -- the records ps become the records left
 abbrev pub GoesHome : List ℕ → ℕ → List ℕ → Type 0

@@ -14,7 +14,7 @@ use Rattle.rows.specs.Sound.{sound}
 use Rattle.rows.specs.Layout.{rowSlot, recordsIn, recordsOf}
 use Rattle.rows.specs.contracts.Represents.{Represents}
 use Rattle.rows.specs.contracts.Slots.{foundSlot, openSlot}
-use Rattle.rows.specs.contracts.Sizes.{ROWS, PROCESSES}
+use Rattle.rows.specs.contracts.Sizes.{ROWS, PROCESSES, LAST-NEXT}
 use Rattle.calls.specs.declared.Answer.{Answer}
 use Rattle.calls.specs.declared.Answer.the-variants.{Refused}
 use Rattle.calls.specs.declared.Call.{Call}
@@ -22,7 +22,7 @@ use Rattle.calls.specs.declared.Call.the-variants.{Go, Hold, Register, D
 use Rattle.calls.specs.Rules.{Out, _when_, lowest, tooDeep, rowsFull, numbersSpent}
 use Rattle.calls.specs.Calls.{refusalsHold, heldDepth, refusalsRegister, registeredDepth, refusalsPort, portDepth, refusalsClose, refusalsDrop, perform, callerOf}
 use Rattle.calls.specs.contracts.Lookups.{HasRows, HasRequests, StandsAt}
-use Rattle.calls.specs.contracts.Effects.{IsProcess, LAST-NEXT}
+use Rattle.calls.specs.contracts.Effects.{IsProcess}
 
 -- ---- a call
 -- the answer, and the words after, are those of the definition

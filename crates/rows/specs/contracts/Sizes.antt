@@ -1,12 +1,12 @@
 -- Sizes and columns of the lent words, named in contracts as in code (src/layout.rt; an underscore there is a hyphen here), and that they are those of the definitions.
-use Prim.Native.Nat.{ℕ, _*_}
+use Prim.Native.Nat.{ℕ, suc, _*_}
 use mathlib.Core.List.{List}
 use mathlib.Core.Path.{_≡_, refl}
 use lib.ListN.{length}
-use Rattle.rows.specs.Limits.{processes, rowSlots, requestSlots, mostItems}
+use Rattle.rows.specs.Limits.{processes, greatestNumber, rowSlots, requestSlots, mostItems}
 use Rattle.rows.specs.Layout.{rowColumns, requestColumns, requestsAt, nextAt, tablesLength, processesLength}
 
--- ---- slots, processes, items; columns of rows and of requests
+-- ---- slots, processes, items; numbers; columns of rows and of requests
 abbrev pub ROWS : ℕ
 ROWS = 1024
 
@@ -18,6 +18,13 @@ PROCESSES = 64
 
 abbrev pub ITEMS : ℕ
 ITEMS = 4
+
+-- the greatest number of a row or a request, and the greatest next number
+abbrev pub LAST-NUMBER : ℕ
+LAST-NUMBER = 4294967294
+
+abbrev pub LAST-NEXT : ℕ
+LAST-NEXT = suc LAST-NUMBER
 
 abbrev pub ROW-COLUMNS : ℕ
 ROW-COLUMNS = 10
@@ -64,6 +71,7 @@ pub record SizesMeant : Type 0 where
   pub requests : REQUESTS ≡ requestSlots
   pub processes : PROCESSES ≡ processes
   pub items : ITEMS ≡ mostItems
+  pub last-number : LAST-NUMBER ≡ greatestNumber
   pub row-columns : ROW-COLUMNS ≡ rowColumns
   pub request-columns : REQUEST-COLUMNS ≡ requestColumns
   pub source : SOURCE ≡ 6 * rowSlots
@@ -76,13 +84,14 @@ pub record SizesMeant : Type 0 where
   pub records : RECORDS ≡ processesLength
 
 pub sizes-meant : SizesMeant
-unfolding processes rowSlots requestSlots mostItems rowColumns requestColumns requestsAt nextAt tablesLength processesLength
+unfolding processes greatestNumber rowSlots requestSlots mostItems rowColumns requestColumns requestsAt nextAt tablesLength processesLength
 sizes-meant =
     record {
       rows = refl;
       requests = refl;
       processes = refl;
       items = refl;
+      last-number = refl;
       row-columns = refl;
       request-columns = refl;
       source = refl;

@@ -2,12 +2,14 @@
 use Prim.Native.Nat.{ℕ, suc}
 use mathlib.Core.Path.{_≡_, refl}
 use Rattle.rows.specs.Limits.{nodes, greatestNumber}
+use Rattle.rows.specs.contracts.Sizes.{LAST-NEXT}
 use Rattle.text.specs.Patterns.{mostGroups}
 
--- what stands for all numbers above the greatest; for all words of more than 8 letters
-abbrev pub ABOVE : ℕ
-ABOVE = 1000001
+-- the greatest number that is read: it stands for all above it
+abbrev pub GREATEST-READ : ℕ
+GREATEST-READ = LAST-NEXT
 
+-- what stands for all words of more than 8 letters
 abbrev pub LONG-WORD : ℕ
 LONG-WORD = 1099511627776
 
@@ -29,10 +31,10 @@ VALUE = 11
 
 -- ---- they are those of the definitions
 pub record TextSizesMeant : Type 0 where
-  pub above : ABOVE ≡ suc greatestNumber
+  pub greatest-read : GREATEST-READ ≡ suc greatestNumber
   pub groups : GROUPS ≡ mostGroups
   pub nodes : NODES ≡ nodes
 
 pub text-sizes-meant : TextSizesMeant
 unfolding greatestNumber mostGroups nodes
-text-sizes-meant = record { above = refl; groups = refl; nodes = refl }
+text-sizes-meant = record { greatest-read = refl; groups = refl; nodes = refl }

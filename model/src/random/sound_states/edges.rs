@@ -31,7 +31,7 @@ pub const EDGES: [Edge; 45] = [
         t.requests.last().is_some_and(|q| q.number + 1 == t.next)
     }),
     ("S5", "next 1", |t| t.next == 1),
-    ("S5", "next 1,000,001", |t| t.next == LAST_NUMBER + 1),
+    ("S5", "next 4,294,967,295", |t| t.next == LAST_NUMBER + 1),
     ("S6", "1,024 rows", |t| t.rows.len() == ROWS),
     ("S7", "128 requests", |t| t.requests.len() == REQUESTS),
     ("S8", "process 64 is listed", |t| t.listed(PROCESSES)),

@@ -81,7 +81,7 @@ fn copy_kinds(t: &Tables, row: &Row, request: u32) -> Vec<String> {
     if !source.in_c_list_of(asker) {
         found.push("a lent copy of a row that its asker has not".to_string());
     }
-    if row.number > request + 4 {
+    if row.number - request > 4 {
         found.push("a lent copy much newer than its request".to_string());
     }
     found

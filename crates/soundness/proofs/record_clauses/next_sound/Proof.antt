@@ -1,11 +1,9 @@
 -- `record_clauses::next_sound` meets its contract: the last word of each column is the newest number.
 use borrow.Author.Needs.{needs}
 use mathlib.Core.Path.{_∙_}
-use Rattle.rows.specs.Lists.{between}
-use Rattle.rows.specs.Limits.{greatestNumber}
-use Rattle.rows.specs.Sound.{belowNext, nextInRange}
+use Rattle.rows.specs.Sound.{belowNext}
 use Rattle.rows.proofs.Slots.{represented-next}
-use Rattle.soundness.proofs.RecordClauses.{top-row, top-request}
+use Rattle.soundness.proofs.RecordClauses.{top-row, top-request, below-in-range}
 use Rattle.soundness.proofs.record_clauses.next_sound.Statement.{statement}
 use Rattle.soundness.proofs.record_clauses.next_sound.Tie as tie
 
@@ -37,11 +35,13 @@ last-of-requires-2 : tie.Need-last-of-requires-2
 last-of-requires-2 c κs = search needs
 
 returns : tie.Need-returns
-unfolding nextInRange belowNext between greatestNumber
+unfolding belowNext
 returns c =
     let b = c .before .before in
-    let s = b .before .before .before .before in
+    let read = b .before .before .before in
+    let s = read .before in
     λ st rep e d. rw (b .last-of .ensures ∙ top-row rep (s .args .n) e, c .last-of2 .ensures ∙ top-request rep (s .args .m) d, represented-next rep)
+    (below-in-range (st .next) (st .rows) (st .requests) (rw (represented-next rep) at (read .shared-slice-known .given 11264 .fits)))
 
 pub next-sound-spec : {M : Type 1} → statement M
 next-sound-spec =

@@ -6,12 +6,13 @@ use mathlib.Core.Path.{_≡_, refl, sym, _∙_}
 use lib.ListN.{drop, length}
 use borrow.Author.Tests.{not-true, not-false}
 use Rattle.text.specs.Patterns.{run, isDigit, grown, digits}
+use Rattle.text.specs.contracts.Sizes.{GREATEST-READ}
 use Rattle.text.proofs.PatternLaws.{run-stops, digit-low, run-more, run-ends}
 use Rattle.text.proofs.patterns.digits_at.Statement.{statement}
 use Rattle.text.proofs.patterns.digits_at.Tie as tie
 
 abbrev Inv-loop : tie.InvT-loop
-Inv-loop s at v₀ i₀ v i = (v ≤ 1000001) × (run isDigit grown v i (drop i s) ≡ digits s at)
+Inv-loop s at v₀ i₀ v i = (v ≤ GREATEST-READ) × (run isDigit grown v i (drop i s) ≡ digits s at)
 
 abbrev μ-loop : tie.MeasureT-loop
 μ-loop s at v₀ i₀ v i = length s - i
