@@ -21,7 +21,7 @@ digit-is : (k : ℕ) → k < 10 → isDigit (48 + k) ≡ true
 unfolding isDigit between
 digit-is k h = rw (le-leb 48 (48 + k) (omega arith), le-leb (48 + k) 57 (omega arith)) refl
 
--- one more digit, of any limit
+-- what digits are worth, up to any limit
 module _ (limit : ℕ) where
   abbrev worth : ℕ → ℕ → List ℕ → Run
   worth = run isDigit (grownTo limit)

@@ -1,4 +1,4 @@
--- (rule P10) A number of any length is never wrapped: what is read is its exact value, or the limit for all above it. Of any limit.
+-- (rule P10) A number of any length is never wrapped, whatever the limit: what is read is its exact value, or the limit for all above it.
 use Prim.Native.Nat.{ℕ, suc, _+_, _*_, _-_, _<_, _≤_}
 use native.Mathlib.Omega.{arith}
 use mathlib.Core.Path.{_≡_, refl}
@@ -6,7 +6,7 @@ use mathlib.Core.Bool.{Bool, true, false, cond}
 use mathlib.Core.List.{List, [], _∷_}
 use lib.ListN.{drop}
 use lib.Dec.{leb}
-use borrow.Author.Tests.{le-leb, lt-leb, leb-true, leb-false}
+use borrow.Author.Tests.{lt-leb, leb-true, leb-false}
 use Rattle.rows.specs.Lists.{if_then_else_}
 use Rattle.rows.specs.Limits.{greatestNumber}
 use Rattle.text.specs.Patterns.{isDigit, grownTo, grown, run, digits}
@@ -15,10 +15,11 @@ use Rattle.text.specs.Patterns.{isDigit, grownTo, grown, run, digits}
 unfoldable pub exact : ℕ → ℕ → ℕ
 exact v b = v * 10 + (b - 48)
 
--- the limit for all above it
+-- n, or the limit for all above it
 unfoldable pub capped : ℕ → ℕ → ℕ
 capped limit n = if leb n limit then n else limit
 
+-- what is not below the limit is the limit
 at-most : (limit n : ℕ) → (n ≤ limit → n ≡ limit) → capped limit n ≡ limit
 unfolding capped
 at-most limit n h = pick (leb n limit) refl

@@ -1,4 +1,4 @@
--- Sizes and columns of the lent words, named in contracts as in code (src/layout.rt; an underscore there is a hyphen here), and that they are those of the definitions.
+-- Sizes and columns of the lent words, named in contracts as in code (src/layout.rt, src/codes.rt; an underscore there is a hyphen here), and that they are those of the definitions.
 use Prim.Native.Nat.{ℕ, suc, _*_}
 use mathlib.Core.List.{List}
 use mathlib.Core.Path.{_≡_, refl}

@@ -2,6 +2,7 @@
 use borrow.Author.Needs.{needs}
 use mathlib.Core.Path.{_∙_}
 use Rattle.rows.specs.Sound.{belowNext}
+use Rattle.rows.specs.contracts.Sizes.{NEXT}
 use Rattle.rows.proofs.Slots.{represented-next}
 use Rattle.soundness.proofs.RecordClauses.{top-row, top-request, below-in-range}
 use Rattle.soundness.proofs.record_clauses.next_sound.Statement.{statement}
@@ -41,7 +42,7 @@ returns c =
     let read = b .before .before .before in
     let s = read .before in
     λ st rep e d. rw (b .last-of .ensures ∙ top-row rep (s .args .n) e, c .last-of2 .ensures ∙ top-request rep (s .args .m) d, represented-next rep)
-    (below-in-range (st .next) (st .rows) (st .requests) (rw (represented-next rep) at (read .shared-slice-known .given 11264 .fits)))
+    (below-in-range (st .next) (st .rows) (st .requests) (rw (represented-next rep) at (read .shared-slice-known .given NEXT .fits)))
 
 pub next-sound-spec : {M : Type 1} → statement M
 next-sound-spec =
