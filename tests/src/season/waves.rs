@@ -16,13 +16,13 @@ const FALL: usize = 4;
 /// At its most a wave falls with the next call, so many times in 100.
 const TURN_PERCENT: u32 = 5;
 
-/// So many of 100 lines that are refused are taken.
+/// So many of 100 lines that are refused are taken, and where rows fall of `go` and `comes`.
 const ODD_PERCENT: u32 = 20;
 
 /// The calls after which another profile begins.
 const PROFILE_CALLS: u64 = 500;
 
-/// Lines that are drawn before one is taken as it is.
+/// After so many lines that did not fit the next is taken as it is.
 const DRAWS: usize = 64;
 
 pub struct Waves {
@@ -53,15 +53,18 @@ impl Waves {
         self.drawn += 1;
         let in_nodes = tables.rows.iter().filter(|r| r.in_node()).count();
         self.turn(tables.rows.len(), in_nodes);
-        let full = in_nodes >= most_in_nodes;
-        let mut line = Vec::new();
-        for _ in 0..DRAWS {
-            line = lines::line(&mut self.rng, self.profile, tables);
-            if self.fits(&line, tables, full) {
-                break;
+        let mut draws = 0;
+        loop {
+            let line = lines::line(&mut self.rng, self.profile, tables);
+            let call = read_call(&line).filter(|call| refusal(tables, call).is_none());
+            draws += 1;
+            if registers(&call) && in_nodes >= most_in_nodes {
+                continue;
+            }
+            if draws >= DRAWS || self.fits(&call) {
+                return line;
             }
         }
-        line
     }
 
     /// Rows rise to the most of the wave, stay there for some calls, then fall.
@@ -76,24 +79,29 @@ impl Waves {
         }
     }
 
-    /// Most lines that are refused are drawn again; where rows are to fall, so are those that
-    /// add some, and most that remove none.
-    fn fits(&mut self, line: &[u8], tables: &Tables, nodes_full: bool) -> bool {
-        let Some(call) = read_call(line) else {
-            return self.rng.percent(ODD_PERCENT);
-        };
-        if refusal(tables, &call).is_some() {
-            return self.rng.percent(ODD_PERCENT);
-        }
-        match call {
-            Call::One { word, .. } => match word {
-                Word::Register => !nodes_full && !self.falling,
-                Word::Hold | Word::Port => !self.falling,
-                Word::Go => !self.falling || self.rng.percent(ODD_PERCENT),
+    /// Most lines that are refused, of which there is no call here, are drawn again; where rows
+    /// are to fall, so are those that add some, and most that remove none.
+    fn fits(&mut self, accepted: &Option<Call>) -> bool {
+        match accepted {
+            None => self.rng.percent(ODD_PERCENT),
+            Some(_) if !self.falling => true,
+            Some(Call::Ask { .. }) => false,
+            Some(Call::Comes { .. }) => self.rng.percent(ODD_PERCENT),
+            Some(Call::One { word, .. }) => match word {
+                Word::Hold | Word::Register | Word::Port => false,
+                Word::Go => self.rng.percent(ODD_PERCENT),
                 _ => true,
             },
-            Call::Ask { .. } => !self.falling,
-            Call::Comes { .. } => !self.falling || self.rng.percent(ODD_PERCENT),
         }
     }
+}
+
+fn registers(call: &Option<Call>) -> bool {
+    matches!(
+        call,
+        Some(Call::One {
+            word: Word::Register,
+            ..
+        })
+    )
 }
