@@ -30,18 +30,19 @@ fn passes(points: Points, calls: u64, seed: u64) -> Report {
         lively(report);
     }
     let [first, second] = reports;
+    assert_eq!(first.accepted.len(), 12, "{first}");
     assert!(u64::from(first.greatest) >= calls * 2 / 5, "{first}");
     assert_eq!(second.greatest, LAST_NUMBER);
     assert!(second.refused[18] > 0 && first.refused[18] == 0);
     first
 }
 
-/// Four of five calls are accepted, and each of the twelve at times.
+/// Four of five calls are accepted, each of the twelve at times; near the end a register may be none.
 fn lively(report: &Report) {
     let calls: u64 = report.refused.iter().sum();
     assert_eq!(calls, report.calls);
     assert!(5 * report.refused[0] >= 4 * calls, "{report}");
-    assert_eq!(report.accepted.len(), 12, "{report}");
+    assert!(report.accepted.len() >= 11, "{report}");
     assert!(4 * report.compared >= calls, "{report}");
 }
 
