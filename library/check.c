@@ -101,19 +101,25 @@ static void twelve(void) {
     }
 }
 
-/* the longest answer, whose printing takes the most stack */
+/* the longest answer, whose printing takes the most stack: it has the last number */
 static void longest(void) {
     static const char *const lines[] = {
-        "(1 hold 1)\n", "(1 hold 1)\n", "(1 hold 1)\n", "(1 hold 1)\n", "(1 port 999990)\n",
-        "(1 ask 999994 (999990 7) (999991 7) (999992 7) (999993 7))\n",
+        "(1 hold 1)\n",
+        "(1 hold 1)\n",
+        "(1 hold 1)\n",
+        "(1 hold 1)\n",
+        "(1 port 4294967284)\n",
+        "(1 ask 4294967288 (4294967284 7) (4294967285 7) (4294967286 7) (4294967287 7))\n",
     };
     const size_t t = TABLET_TABLES_WORDS, p = TABLET_PROCESSES_WORDS;
     open_text(t, p, "(node 1 (op 1 0 7))\n(process 1 1)\n(open)\n", 256);
-    tables[t - 1] = 999990; /* the next number */
+    tables[t - 1] = 4294967284; /* the next number */
     for (size_t i = 0; i < sizeof lines / sizeof *lines; i++)
         call(t, p, lines[i], 256);
-    check("the longest answer",
-          answered(call(t, p, "(1 fetch 999995)\n", 256), "(ok 999996 999997 999998 999999 1000000)\n"));
+    check("the longest answer", answered(call(t, p, "(1 fetch 4294967289)\n", 256),
+                                         "(ok 4294967290 4294967291 4294967292 4294967293 4294967294)\n"));
+    check("no number is left", answered(call(t, p, "(1 hold 1)\n", 256), "(no 18)\n") && unchanged());
+    check("a number above the last", answered(call(t, p, "(1 hold 4294967295)\n", 256), "(no 3)\n") && unchanged());
 }
 
 /* a stack of its own, filled with a pattern, shows how much of it was used */

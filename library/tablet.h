@@ -5,7 +5,11 @@
  *
  * Reply. Each function writes its answer, one line with its line feed, to the front of `reply` and returns its length.
  * The bytes after the answer stay as they were; there is no zero byte at its end. Lend TABLET_REPLY_BYTES or more. If
- * `reply_len` is less, 0 is returned and nothing is read or written.
+ * `reply_len` is less, 0 is returned and nothing is read or written. The longest answer is that of a fetch with five
+ * numbers of ten digits, 60 bytes.
+ *
+ * Numbers. Rows and requests have numbers from 1 to 4,294,967,294, each given once. A number in a line may have any
+ * length: none wraps, and every one above the last is (no 3). When the last is given, what wants another is (no 18).
  *
  * What is answered. Any words, any bytes and any lengths are answered; nothing is asked of what the words hold. A run
  * of another length is (no 1), and (no 1 0) of an opening, which sets that run to 0. A refused call changes no word. A

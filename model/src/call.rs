@@ -124,6 +124,23 @@ impl Call {
         }
     }
 
+    /// The call with other numbers of rows and requests.
+    pub fn renumbered(&self, number: impl Fn(u32) -> u32) -> Call {
+        let mut call = self.clone();
+        match &mut call {
+            Call::One { number: n, .. } => *n = number(*n),
+            Call::Ask { client, items, .. } => {
+                *client = number(*client);
+                items.iter_mut().for_each(|i| i.row = number(i.row));
+            }
+            Call::Comes { row, request } => {
+                *row = number(*row);
+                *request = number(*request);
+            }
+        }
+        call
+    }
+
     /// The line of the call, with its line feed.
     pub fn print(&self) -> Vec<u8> {
         let text = match self {

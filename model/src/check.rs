@@ -4,7 +4,7 @@ use crate::answer::Answer;
 use crate::call::{read_call, Call};
 use crate::demand3::demand3;
 use crate::history::History;
-use crate::limits::LAST_NUMBER;
+use crate::random::shifted::near_limit;
 use crate::random::{lines, openings, Profile, Rng};
 use crate::session::{call, open};
 use crate::sound::broken;
@@ -15,26 +15,59 @@ use std::collections::BTreeMap;
 /// How often each answer was seen: 0 for accepted, else the refusal's number.
 pub type Tally = BTreeMap<u32, u64>;
 
-/// Runs one random session. Every few sessions the next number is raised so
-/// that the numbers run out. An error says what failed, with the lines so far.
+/// Runs one random session; one in 25 is late. An error says what failed, with the lines so far.
 pub fn session(seed: u64, profile: Profile, calls: usize, tally: &mut Tally) -> Result<(), String> {
-    let mut rng = Rng::new(seed);
-    let text = openings::opening(&mut rng, profile);
-    let (mut tables, answer, _) = open(&text);
-    let mut history = History::begin(&text, &answer.print());
-    let mut lines = String::from_utf8_lossy(&text).into_owned();
-    check(&history, &tables).map_err(|e| format!("{e}\n{lines}"))?;
-    if rng.percent(4) {
-        tables.next = LAST_NUMBER - rng.below(60) as u32;
-        lines += &format!("next number {}\n", tables.next);
-    }
+    let mut session = Checked::begin(seed, profile, seed % 25 == 7)?;
     for _ in 0..calls {
-        let line = lines::line(&mut rng, profile, &tables);
-        lines += &String::from_utf8_lossy(&line);
-        let answer = step(&mut history, &mut tables, &line).map_err(|e| format!("{e}\n{lines}"))?;
+        let (_, answer) = session.step()?;
         *tally.entry(answer.refusal().unwrap_or(0)).or_insert(0) += 1;
     }
-    words_agree(&tables).map_err(|e| format!("{e}\n{lines}"))
+    words_agree(&session.tables).map_err(|e| session.error(e))
+}
+
+/// A random session under way, with its history and what was said so far.
+pub struct Checked {
+    rng: Rng,
+    profile: Profile,
+    pub tables: Tables,
+    history: History,
+    said: String,
+}
+
+impl Checked {
+    /// On the tables of an opening. If the session is late, all numbers are raised so that the
+    /// next is at most 60 below the last that it can be: the numbers run out.
+    pub fn begin(seed: u64, profile: Profile, late: bool) -> Result<Checked, String> {
+        let mut rng = Rng::new(seed);
+        let text = openings::opening(&mut rng, profile);
+        let (opened, answer, _) = open(&text);
+        let tables = match late {
+            true => near_limit(&opened, rng.between(0, 60)),
+            false => opened.clone(),
+        };
+        let raised = tables.next - opened.next;
+        let session = Checked {
+            rng,
+            profile,
+            tables,
+            history: History::begin_at(raised, &text, &answer.print()),
+            said: String::from_utf8_lossy(&text).into_owned() + &format!("raised by {raised}\n"),
+        };
+        check(&session.history, &session.tables).map_err(|e| session.error(e))?;
+        Ok(session)
+    }
+
+    /// One more call, with all that is claimed of it: its line and the answer.
+    pub fn step(&mut self) -> Result<(Vec<u8>, Answer), String> {
+        let line = lines::line(&mut self.rng, self.profile, &self.tables);
+        self.said += &String::from_utf8_lossy(&line);
+        let answer = step(&mut self.history, &mut self.tables, &line).map_err(|e| self.error(e))?;
+        Ok((line, answer))
+    }
+
+    fn error(&self, said: String) -> String {
+        format!("{said}\n{}", self.said)
+    }
 }
 
 /// One call, with all that is claimed of it.

@@ -32,6 +32,11 @@ fn accepted_number(answer: &[u8]) -> Option<u32> {
 impl History {
     /// (rule H1) At first the rows of the text, numbered as there.
     pub fn begin(text: &[u8], answer: &[u8]) -> History {
+        History::begin_at(0, text, answer)
+    }
+
+    /// The same where the rows of the text have numbers raised by so much.
+    pub fn begin_at(raised: u32, text: &[u8], answer: &[u8]) -> History {
         let mut history = History::default();
         let (Some(_), Ok(opening)) = (accepted_number(answer), read_opening(text)) else {
             return history;
@@ -41,7 +46,8 @@ impl History {
             _ => 0,
         });
         for number in 1..=entries.sum::<usize>() as u32 {
-            history.notes.rows.insert(number, NotedRow::default());
+            let row = NotedRow::default();
+            history.notes.rows.insert(raised + number, row);
         }
         history.now = Moment::after(&history.notes, &Moment::default(), None);
         history

@@ -53,7 +53,7 @@ fn cases_on_tables() {
             compared += 1;
         }
     }
-    assert!(compared >= 650, "{compared} compared");
+    assert!(compared >= 790, "{compared} compared");
 }
 
 /// The calls of a case one after the other on its tables.

@@ -103,7 +103,7 @@ fn every_kind_and_every_edge() {
     for at in 0..6_000 {
         let tables = match at {
             0..20 => sound_state_of(&mut rng, Shape::FullRows),
-            20..40 => sound_state_of(&mut rng, Shape::FullRequests),
+            20..50 => sound_state_of(&mut rng, Shape::FullRequests),
             _ => sound_state(&mut rng),
         };
         assert_sound(&tables);

@@ -2,6 +2,7 @@
 //! leave sound tables.
 
 use model::random::aimed::{aimed, AIMS};
+use model::random::shifted::near_limit;
 use model::random::{self, alter, lines, Profile, Rng, PROFILES};
 use model::session::{call, Session};
 use model::sound::CLAUSES;
@@ -9,7 +10,7 @@ use model::words::{call_entry, encode};
 use model::{broken, sound, Tables};
 use std::collections::BTreeMap;
 
-/// The tables at the end of a random session.
+/// The tables at the end of a random session, one in four raised to the limit.
 fn tables(seed: u64, calls: usize) -> Tables {
     let profile = match seed % 2 {
         0 => PROFILES[seed as usize / 2 % 5],
@@ -18,7 +19,10 @@ fn tables(seed: u64, calls: usize) -> Tables {
     let input = random::session(seed, profile, calls);
     let mut session = Session::begin(&input);
     while session.step().is_some() {}
-    session.tables
+    match seed % 4 {
+        3 => near_limit(&session.tables, (seed / 4 % 6) as u32),
+        _ => session.tables,
+    }
 }
 
 #[test]

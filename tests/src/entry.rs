@@ -1,7 +1,13 @@
 //! The product's two entry points: both lent runs of words, any bytes, and a
-//! lent reply. They answer the reply's length, 0 if fewer than 256 bytes are lent for it.
+//! lent reply. They answer the reply's length, 0 if too few bytes are lent for it.
 
 use crate::raw::{self, EntryPoint};
+
+/// An entry point: both runs, the bytes, the lent reply; the reply's length.
+pub type Point = fn(&mut [u32], &mut [u32], &[u8], &mut [u8]) -> usize;
+
+/// The bytes that a lent reply has at least.
+pub const REPLY_BYTES: usize = 256;
 
 #[inline]
 pub fn open(t: &mut [u32], p: &mut [u32], text: &[u8], reply: &mut [u8]) -> usize {

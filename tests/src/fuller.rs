@@ -1,6 +1,7 @@
 //! Sound tables made fuller: rows in a node, ports with a request each, deep rows, numbers given.
 
 use model::limits::{ALL_RIGHTS, DEEPEST, LAST_NUMBER, REQUESTS, ROWS};
+use model::random::shifted::room;
 use model::tables::{Kind, Place, Request, Row};
 use model::Tables;
 
@@ -46,7 +47,7 @@ fn operation(manager: u32, node: u32) -> Row {
 /// Rows in node 1 until there are so many, or the numbers run out.
 pub fn with_rows(mut tables: Tables, rows: usize) -> Tables {
     let row = operation(a_process(&tables), 1);
-    while tables.rows.len() < rows && tables.next <= LAST_NUMBER {
+    while tables.rows.len() < rows && room(&tables) > 0 {
         add(&mut tables, row);
     }
     tables
@@ -58,7 +59,7 @@ pub fn with_deep_rows(mut tables: Tables) -> Tables {
     let process = a_process(&tables);
     let active = tables.process(process).map_or(1, |record| record.active);
     let rows = 4 * DEEPEST as usize;
-    if tables.rows.len() + rows > ROWS || tables.next + rows as u32 > LAST_NUMBER {
+    if tables.rows.len() + rows > ROWS || room(&tables) < rows as u32 {
         return tables;
     }
     let mut source = 0;
@@ -118,7 +119,7 @@ pub fn with_requests(mut tables: Tables, requests: usize) -> Tables {
     let Some((asker, operation)) = held_operation(&tables) else {
         return tables;
     };
-    while tables.requests.len() < requests.min(REQUESTS) && tables.next + 2 <= LAST_NUMBER {
+    while tables.requests.len() < requests.min(REQUESTS) && room(&tables) >= 3 {
         let port = add_port(&mut tables, asker, &operation);
         tables.requests.push(Request {
             number: tables.next,
@@ -132,7 +133,7 @@ pub fn with_requests(mut tables: Tables, requests: usize) -> Tables {
     tables
 }
 
-/// So many numbers are left.
+/// So many numbers are left; the others are given.
 pub fn with_numbers_left(mut tables: Tables, left: u32) -> Tables {
     tables.next = tables.next.max(LAST_NUMBER + 1 - left);
     tables

@@ -13,6 +13,7 @@ pub mod performing;
 pub mod plain;
 pub mod reading;
 pub mod rights;
+pub mod season;
 
 /// A row as the words of its columns, in their order.
 pub type RowFields = [u32; layout::ROW_COLUMNS];

@@ -39,7 +39,7 @@ fn request_129() {
 }
 
 #[test]
-fn number_1000000() {
+fn the_last_number_is_given() {
     the_last_number(&PERFORM);
 }
 

@@ -2,10 +2,10 @@
 
 mod common;
 
-use common::{full, small, words};
+use common::{at_the_end, full, small, words};
 use kernel::reading::*;
 use kernel::rights;
-use model::limits::{ALL_RIGHTS, PROCESSES, REQUESTS, ROWS};
+use model::limits::{ALL_RIGHTS, LAST_NUMBER, PROCESSES, REQUESTS, ROWS};
 use model::random::Rng;
 use model::relations::request_on;
 use model::tables::Row;
@@ -19,10 +19,10 @@ fn the_layout_has_one_version() {
 
 /// Numbers to look up: each that is used, and others near and far.
 fn numbers(rng: &mut Rng, tables: &Tables) -> Vec<u32> {
-    let mut numbers = vec![0, 1, tables.next, tables.next + 1, u32::MAX];
+    let mut numbers = vec![0, 1, tables.next, LAST_NUMBER, u32::MAX];
     numbers.extend(tables.rows.iter().map(|r| r.number));
     numbers.extend(tables.requests.iter().map(|q| q.number));
-    numbers.extend((0..20).map(|_| rng.between(0, tables.next)));
+    numbers.extend((0..20).map(|_| rng.between(1, tables.next)));
     numbers
 }
 
@@ -48,7 +48,8 @@ fn look_ups_agree(rng: &mut Rng, tables: &Tables) {
 #[test]
 fn look_ups_and_counts() {
     let mut rng = Rng::new(1);
-    for tables in small(400, 90).chain(full()) {
+    let moved = at_the_end(100, 90);
+    for tables in small(400, 90).chain(moved).chain(full()) {
         look_ups_agree(&mut rng, &tables);
     }
 }

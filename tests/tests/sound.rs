@@ -2,7 +2,7 @@
 
 mod common;
 
-use common::{full, small, words, Lent};
+use common::{at_the_end, full, small, words, Lent};
 use kernel::reading;
 use model::limits::{REQUESTS, ROWS};
 use model::random::aimed::{aimed, AIMS};
@@ -47,10 +47,11 @@ impl Counts {
 #[test]
 fn tables_of_sessions_are_sound() {
     let mut counts = Counts::default();
-    for tables in small(1_000, 120).chain(full()) {
+    let random = small(1_000, 120).chain(at_the_end(200, 120));
+    for tables in random.chain(full()) {
         counts.compare(&words(&tables), "a session");
     }
-    assert_eq!((counts.sound, counts.not), (1_005, 0));
+    assert_eq!((counts.sound, counts.not), (1_205, 0));
 }
 
 /// Words have no room for more rows and requests.
@@ -67,7 +68,7 @@ fn each_clause_is_tested() {
     let mut rng = Rng::new(6);
     let mut counts = Counts::default();
     let mut times: BTreeMap<&str, (u32, u32)> = BTreeMap::new();
-    for tables in small(600, 120) {
+    for tables in small(600, 120).chain(at_the_end(100, 120)) {
         for (clause, _) in AIMS {
             let Some(altered) = aimed(&mut rng, &tables, clause) else {
                 continue;
@@ -113,7 +114,7 @@ fn clauses_on_full_tables() {
 fn altered_tables() {
     let mut rng = Rng::new(8);
     let mut counts = Counts::default();
-    for tables in small(600, 90) {
+    for tables in small(600, 90).chain(at_the_end(100, 90)) {
         for _ in 0..10 {
             let gently = alter_gently(&mut rng, &tables);
             let anyhow = alter(&mut rng, &tables);
@@ -139,7 +140,7 @@ fn any_word(rng: &mut Rng, tables: &Tables) -> usize {
 fn words_with_one_changed() {
     let mut rng = Rng::new(9);
     let mut counts = Counts::default();
-    for tables in small(800, 90) {
+    for tables in small(800, 90).chain(at_the_end(100, 90)) {
         let lent = words(&tables);
         for way in 0..12 {
             let mut changed = lent.clone();

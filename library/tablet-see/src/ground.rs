@@ -4,6 +4,7 @@
 use crate::call::{read_call, Call, Item, Verb};
 use crate::form::{Number, Span};
 use crate::{grounds_ask, grounds_one};
+use tablet::layout::LAST_NUMBER;
 use tablet::State;
 
 /// The ground of a refusal.
@@ -21,7 +22,6 @@ pub struct Ground {
     pub text: String,
 }
 
-const LAST_NUMBER: u32 = 1_000_000;
 const LAST_PROCESS: u32 = 64;
 const ALL_RIGHTS: u32 = 7;
 const ITEMS: usize = 4;

@@ -3,14 +3,13 @@
 use crate::ground::{of_state, Ground};
 use crate::relations::{listing, request_on, Reasons};
 use crate::wording::{at, numbers, rights, short};
-use tablet::layout::{REQUESTS, ROWS};
+use tablet::layout::{LAST_NUMBER, REQUESTS, ROWS};
 use tablet::{Kind, Place, Row, State};
 
 pub const HOLD: u32 = 1;
 pub const TRANSFER: u32 = 2;
 pub const REGISTER: u32 = 4;
 const DEEPEST: u32 = 12;
-const NUMBERS: u32 = 1_000_001;
 
 /// (rule F11) 7: what a number in range names instead of a row that stands.
 pub fn no_row(state: &State, number: u32) -> String {
@@ -114,7 +113,7 @@ pub fn requests(state: &State, rule: &'static str) -> Option<Ground> {
 
 /// 18: too few numbers are left.
 pub fn numbers_left(state: &State, wanted: usize, rule: &'static str) -> Option<Ground> {
-    let left = NUMBERS.saturating_sub(state.next);
+    let left = (LAST_NUMBER + 1).saturating_sub(state.next);
     if wanted <= left as usize {
         return None;
     }

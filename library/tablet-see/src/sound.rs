@@ -150,8 +150,12 @@ fn numbers(s: &State) -> Option<Fault> {
             )
         })
         .or_else(|| {
-            let next = (!(1..=1_000_001).contains(&s.next)).then_some(s.next)?;
-            fault("S5", format!("the next number is {next}, not 1 to 1000001"))
+            let greatest = LAST_NUMBER + 1;
+            let next = (!(1..=greatest).contains(&s.next)).then_some(s.next)?;
+            fault(
+                "S5",
+                format!("the next number is {next}, not 1 to {greatest}"),
+            )
         })
 }
 

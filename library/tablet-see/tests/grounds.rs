@@ -2,7 +2,10 @@
 
 use model::call::{read_call, Call, Word};
 use model::compare::full::{with_requests, with_rows};
-use model::random::{session, Rng, PROFILES};
+use model::limits::LAST_NUMBER;
+use model::random::lines::line;
+use model::random::shifted::{near_limit, room};
+use model::random::{session, tables, Rng, PROFILES, SMALL};
 use model::refusals::refusal;
 use model::relations::{lent, listed_ends, request_on};
 use model::session::{call_sound, Session};
@@ -186,9 +189,9 @@ fn holds(t: &Tables, call: &Call, (rule, n): Candidate) -> bool {
         "port-16" => t.rows.len() + 2 > 1024,
         _ if number(rule) == 16 => t.rows.len() + 1 > 1024,
         "ask-17" => t.requests.len() >= 128,
-        "ask-18" => t.next as usize + 1 + copies > 1_000_001,
-        "port-18" => t.next + 2 > 1_000_001,
-        _ if number(rule) == 18 => t.next + 1 > 1_000_001,
+        "ask-18" => room(t) < 1 + copies as u32,
+        "port-18" => room(t) < 2,
+        _ if number(rule) == 18 => room(t) < 1,
         _ => panic!("{rule} is no rule of a call"),
     }
 }
@@ -332,13 +335,31 @@ fn grounds_in_the_manual() {
     }
 }
 
+/// Tables whose numbers are the last: the same grounds, and 18 for want of numbers.
+#[test]
+fn grounds_near_the_last_number() {
+    let mut seen = BTreeSet::new();
+    for seed in 0..48 {
+        let profile = SMALL[seed as usize % SMALL.len()];
+        let mut t = near_limit(&tables(seed, profile, 60), seed as u32 % 8);
+        let mut rng = Rng::new(seed);
+        for _ in 0..40 {
+            let line = line(&mut rng, profile, &t);
+            check(&t, &line, &mut seen);
+            aimed(&t, seed, &mut seen);
+            call_sound(&mut t, &line);
+        }
+    }
+    assert!(seen.len() > 40, "{seen:?}");
+}
+
 #[test]
 fn no_number_is_left() {
     let text = b"(node 1 (op 1 0 7))\n(process 1 1)\n(open)\n(1 hold 1)\n(1 port 2)\n(1 port 2)\n";
     let mut model = Session::begin(text);
     while model.step().is_some() {}
     let mut seen = BTreeSet::new();
-    for next in 999_999..=1_000_001 {
+    for next in LAST_NUMBER - 1..=LAST_NUMBER + 1 {
         model.tables.next = next;
         for line in [
             "(1 hold 1)\n",

@@ -1,7 +1,9 @@
 //! Damaged openings and unsound words: what is wrong is found where the model finds it.
 
+use model::limits::ROWS;
 use model::opening::read_opening;
 use model::random::aimed::aimed;
+use model::random::shifted::near_limit;
 use model::random::{alter, damage::damage, openings, session, Rng, SMALL};
 use model::words::{decode, encode};
 use std::collections::BTreeSet;
@@ -84,6 +86,10 @@ fn unsound_words_have_a_clause() {
     for seed in 0..6000u64 {
         let mut rng = Rng::new(seed);
         let base = model::random::tables(seed / 20, SMALL[(seed / 20) as usize % SMALL.len()], 25);
+        let base = match seed / 20 % 4 {
+            0 => near_limit(&base, (seed / 80) as u32 % 4),
+            _ => base,
+        };
         let clauses = model::sound::CLAUSES;
         let (clause, _) = clauses[seed as usize % clauses.len()];
         let altered = match seed % 3 {
@@ -97,6 +103,11 @@ fn unsound_words_have_a_clause() {
         if seed % 7 == 0 {
             let at = rng.below(words.len());
             words[at] = rng.between(0, 250);
+        }
+        // a number, a port, a source or the like of a slot in use becomes the greatest word
+        if seed % 5 == 0 {
+            let at = rng.pick(&[0, 2, 6, 7, 9]).expect("a column") * ROWS + rng.below(4);
+            words[at] = u32::MAX;
         }
         if seed % 11 == 0 {
             let at = rng.below(12);

@@ -11,6 +11,8 @@ pub const REPLY_BYTES: usize = 256;
 /// (rule X3) A line has at most so many bytes before its line feed.
 pub const LINE_BYTES: usize = 255;
 
+/// (rules R5, X9) The last number of a row or a request; the next number is at most one more.
+pub const LAST_NUMBER: u32 = 4_294_967_294;
 /// (rule X7) The slots of rows.
 pub const ROWS: usize = 1024;
 /// (rule X8) The slots of requests.

@@ -171,6 +171,7 @@ fn sizes_are_those_of_the_model() {
     ];
     assert_eq!([ROWS, REQUESTS, ITEMS, LINE_BYTES], limits);
     assert_eq!(PROCESSES, limits::PROCESSES as usize);
+    assert_eq!(LAST_NUMBER, limits::LAST_NUMBER);
 }
 
 #[test]

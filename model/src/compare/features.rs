@@ -3,7 +3,7 @@
 
 use crate::answer::Answer;
 use crate::call::{read_call, Call};
-use crate::limits::LAST_NUMBER;
+use crate::random::shifted::near_limit;
 use crate::random::{lines, openings, Profile, Rng, SMALL};
 use crate::refusals;
 use crate::session::{call_sound, open};
@@ -180,7 +180,7 @@ pub fn calls(rng: &mut Rng, count: usize) -> Vec<(Tables, Vec<u8>)> {
         let profile = rng.pick(&SMALL).unwrap_or(Profile::Loans);
         let mut run = Run::begin(rng.word(), profile);
         if rng.percent(10) {
-            run.tables.next = LAST_NUMBER - rng.below(60) as u32;
+            run.tables = near_limit(&run.tables, rng.between(0, 60));
         }
         for _ in 0..150 {
             let (before, line, features) = run.step();

@@ -2,7 +2,7 @@
 
 use super::case::{name, Case};
 use super::{histories, sessions};
-use crate::call::{read_call, Call, Item};
+use crate::call::read_call;
 use crate::form::split_lines;
 use crate::opening::{read_opening, Form};
 use crate::session::Session;
@@ -114,44 +114,10 @@ fn lowered(lines: &[&[u8]], gone: &[Taken]) -> Vec<u8> {
         number - gone.iter().map(below).sum::<u32>()
     };
     let each = lines.iter().map(|line| match read_call(line) {
-        Some(call) => lowered_call(call, &lower).print(),
+        Some(call) => call.renumbered(lower).print(),
         None => line.to_vec(),
     });
     each.collect::<Vec<_>>().concat()
-}
-
-fn lowered_call(call: Call, lower: &impl Fn(u32) -> u32) -> Call {
-    match call {
-        Call::One {
-            caller,
-            word,
-            number,
-        } => Call::One {
-            caller,
-            word,
-            number: lower(number),
-        },
-        Call::Ask {
-            caller,
-            client,
-            items,
-        } => Call::Ask {
-            caller,
-            client: lower(client),
-            items: items.iter().map(|i| lowered_item(i, lower)).collect(),
-        },
-        Call::Comes { row, request } => Call::Comes {
-            row: lower(row),
-            request: lower(request),
-        },
-    }
-}
-
-fn lowered_item(item: &Item, lower: &impl Fn(u32) -> u32) -> Item {
-    Item {
-        row: lower(item.row),
-        rights: item.rights,
-    }
 }
 
 /// The session with one entry of a node's line left out, later numbers

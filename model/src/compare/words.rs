@@ -5,6 +5,7 @@ use super::case::{name, same, Case};
 use super::conformance::conformance_calls;
 use super::random_tables::sound_call;
 use super::states::state_call;
+use crate::limits::LAST_NUMBER;
 use crate::random::damage::damage;
 use crate::random::{openings, Calls, Profile, Rng, Shape, SMALL};
 use crate::sound::sound;
@@ -113,7 +114,10 @@ fn of_tables(rng: &mut Rng, at: usize) -> Option<Case> {
 fn changed(rng: &mut Rng, at: usize) -> Option<Case> {
     let (tables, line) = small_call(rng);
     let (mut words, mut processes) = encode(&tables)?;
-    let value = rng.between(0, 40);
+    let value = match rng.percent(25) {
+        true => rng.between(LAST_NUMBER, LAST_NUMBER + 1),
+        false => rng.between(0, 40),
+    };
     let column = rng.below(10) * 1024;
     let slot = rng.below(tables.rows.len());
     match at % 4 {

@@ -1,4 +1,5 @@
-//! Random sessions, damaged texts, altered tables and sound tables, from a seed.
+//! Random sessions, damaged texts, altered tables and sound tables, from a seed; `shifted`
+//! raises their numbers.
 
 pub mod aimed;
 pub mod alter;
@@ -7,6 +8,7 @@ pub mod lines;
 pub mod openings;
 pub mod prng;
 pub mod profile;
+pub mod shifted;
 pub mod sound_states;
 
 pub use prng::Rng;

@@ -3,11 +3,10 @@
 use super::calls::{Call, Item, Records};
 use super::reader::Reader;
 use super::view::listed;
-use crate::layout::ITEMS;
+use crate::layout::{ITEMS, LAST_NUMBER};
 
 /// More items than these have no room on a line.
 const MOST_ITEMS: usize = 48;
-const LAST_NUMBER: u32 = 1_000_000;
 
 /// What a line says, whatever its numbers.
 struct Line {

@@ -5,10 +5,8 @@ use super::calls::{made, Records, Words};
 use super::opening::{clear, read_opening};
 use super::printed::Printed;
 use super::sound;
+use crate::entry::REPLY_BYTES;
 use crate::layout::{NEXT, TABLES_WORDS};
-
-/// A lent reply has at least so many bytes.
-pub const REPLY_BYTES: usize = 256;
 
 /// Opens the tables with a text. The length of the reply, 0 if there is no room for one.
 #[inline(never)]

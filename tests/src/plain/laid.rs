@@ -1,7 +1,7 @@
 //! The words are laid as tables, the next number and the process records are in range.
 
 use super::view::View;
-use crate::layout::PROCESS_WORDS;
+use crate::layout::{LAST_NUMBER, PROCESS_WORDS};
 
 /// Numbers rise, sources are older, unused slots are 0.
 pub fn laid(t: &View) -> bool {
@@ -32,7 +32,7 @@ fn unused(words: &[u32]) -> bool {
 pub fn next_sound(t: &View) -> bool {
     let last_row = t.rows[0][..t.row_count].last();
     let last_request = t.requests[0][..t.request_count].last();
-    (1..=1_000_001).contains(&t.next)
+    (1..=LAST_NUMBER + 1).contains(&t.next)
         && last_row.is_none_or(|n| *n < t.next)
         && last_request.is_none_or(|n| *n < t.next)
 }

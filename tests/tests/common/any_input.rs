@@ -1,12 +1,14 @@
 //! What the entry points are given: damaged texts, any bytes, altered tables,
 //! random words, runs of other lengths.
 
-use super::entries::{Entry, REPLY};
+use super::entries::Entry;
 use super::{small, words, Lent};
+use kernel::entry::REPLY_BYTES;
 use model::call::WORDS;
 use model::compare::conformance::{conformance_calls, conformance_inputs};
 use model::compare::limits::{crowded, stretched};
 use model::form::split_lines;
+use model::limits::LAST_NUMBER;
 use model::random::aimed::{aimed, AIMS};
 use model::random::alter::{alter, alter_gently};
 use model::random::damage::damage;
@@ -128,7 +130,7 @@ fn many_items(rng: &mut Rng, tables: &Tables) -> Vec<u8> {
         let row = match rng.below(60) {
             0 => 1,
             1 => 0,
-            2 => 1_000_001,
+            2 => LAST_NUMBER + 1,
             _ => row,
         };
         line += &format!(" ({row} 7)");
@@ -207,13 +209,22 @@ pub fn lent_replies(entry: &Entry) {
     let lent = words(&tables);
     let text = b"(node 1 (op 1 0 7))\n(process 1 1)\n(open)\n";
     for (point, bytes) in [(entry.open, &text[..]), (entry.call, b"(1 go 0)\n")] {
-        for length in [0, 1, 7, 8, REPLY - 1, REPLY, REPLY + 1, 10_000] {
+        for length in [
+            0,
+            1,
+            7,
+            8,
+            REPLY_BYTES - 1,
+            REPLY_BYTES,
+            REPLY_BYTES + 1,
+            10_000,
+        ] {
             let mut after = lent.clone();
             let mut reply = vec![0xa5; length];
             let said = point(&mut after.0, &mut after.1, bytes, &mut reply);
             let (front, rest) = reply.split_at(said);
             assert!(rest.iter().all(|byte| *byte == 0xa5), "{length} bytes");
-            match length < REPLY {
+            match length < REPLY_BYTES {
                 true => assert!(after == lent && said == 0, "{length} bytes"),
                 false => assert_eq!(front, b"(ok 0)\n", "{length} bytes"),
             }
@@ -224,7 +235,7 @@ pub fn lent_replies(entry: &Entry) {
 /// All conformance cases: what a session prints, what a call answers and leaves.
 pub fn conformance(entry: &Entry) {
     let sessions = conformance_inputs(usize::MAX).expect("the sessions");
-    assert_eq!(sessions.len(), 93);
+    assert_eq!(sessions.len(), 101);
     for (name, input) in sessions {
         let mut lent = (vec![3; TABLES_WORDS], vec![3; PROCESS_WORDS]);
         let mut printed = entry.open(&mut lent, &input);
@@ -240,7 +251,7 @@ pub fn conformance(entry: &Entry) {
         assert!(printed == case_file(&name, "answers"), "{name}");
     }
     let calls = conformance_calls().expect("the tables");
-    assert_eq!(calls.len(), 214);
+    assert_eq!(calls.len(), 304);
     let mut compared = 0;
     for (name, tables, line) in calls {
         let Some(mut lent) = encode(&tables) else {

@@ -12,6 +12,7 @@ use model::call::{Call, Word};
 use model::compare::full;
 use model::limits::{LAST_NUMBER, REQUESTS, ROWS};
 use model::random::alter::alter_gently;
+use model::random::shifted::near_limit;
 use model::random::{lines, openings, sound_state, Calls, Profile, Rng, SMALL};
 use model::session::open;
 use model::words::{PROCESS_WORDS, TABLES_WORDS};
@@ -58,8 +59,10 @@ pub fn calls_of_round(made: &dyn Made, round: u64, seen: &mut Refused) {
 fn played(made: &dyn Made, rng: &mut Rng, profile: Profile, count: usize, seen: &mut Refused) {
     let (tables, _, _) = open(&openings::opening(rng, profile));
     let mut pair = Pair::new(tables);
-    if rng.percent(4) {
-        pair = Pair::new(with_numbers_left(pair.tables, rng.between(0, 60)));
+    match rng.below(50) {
+        0 | 1 => pair = Pair::new(with_numbers_left(pair.tables, rng.between(0, 60))),
+        2 | 3 => pair = Pair::new(near_limit(&pair.tables, rng.between(0, 60))),
+        _ => {}
     }
     for at in 1..=count {
         let line = lines::line(rng, profile, &pair.tables);
@@ -88,6 +91,7 @@ fn tried(made: &dyn Made, rng: &mut Rng, tables: &Tables, seen: &mut Refused) {
         0 => with_rows(tables.clone(), ROWS - rng.below(4) / 3),
         1 | 4 => with_requests(tables.clone(), REQUESTS - rng.below(2)),
         2 => with_numbers_left(tables.clone(), rng.between(0, 5)),
+        5 => near_limit(tables, rng.between(0, 5)),
         3 => with_deep_rows(tables.clone()),
         _ => altered(rng, tables),
     };
@@ -163,7 +167,7 @@ pub fn the_last_request(made: &dyn Made) {
     assert_eq!(pair.tables.requests.len(), REQUESTS);
 }
 
-/// Number 1,000,000 is given; then there is none.
+/// The last number is given; then there is none.
 pub fn the_last_number(made: &dyn Made) {
     let start = with_numbers_left(full::with_requests(1), 2);
     for (call, given) in [

@@ -2,11 +2,12 @@
 
 use super::built::built;
 use super::features::Features;
-use super::{full, small, words, Lent};
+use super::{at_the_end, full, small, words, Lent};
 use kernel::reading;
 use model::call::{Call, Word};
 use model::closing::{close_port, close_request};
 use model::effects::perform;
+use model::limits::LAST_NUMBER;
 use model::words::{PROCESS_WORDS, TABLES_WORDS};
 use model::Tables;
 
@@ -91,7 +92,8 @@ pub fn agrees(closer: &Closer, tables: &Tables, lent: &Lent, closing: Closing) -
 /// Every closing of random and of built tables, and what these did.
 pub fn compare(closer: &Closer) -> Features {
     let mut features = Features::default();
-    for tables in small(1_000, 160).chain(built()).chain(full()) {
+    let random = small(1_000, 160).chain(at_the_end(200, 160));
+    for tables in random.chain(built()).chain(full()) {
         let lent = words(&tables);
         for closing in all_of(&tables) {
             let after = agrees(closer, &tables, &lent, closing);
@@ -105,7 +107,7 @@ pub fn compare(closer: &Closer) -> Features {
 pub fn numbers_of_none(closer: &Closer) {
     for tables in small(40, 90).chain(full()) {
         let lent = words(&tables);
-        for number in [tables.next, 1_000_000, u32::MAX] {
+        for number in [tables.next, LAST_NUMBER, u32::MAX] {
             for closing in [Closing::Request, Closing::Port, Closing::Row] {
                 let mut after = lent.clone();
                 closing(number).on_words(closer, &mut after);

@@ -3,15 +3,10 @@
 
 use super::performed::{about, Asked, Made};
 use super::Lent;
+use kernel::entry::{Point, REPLY_BYTES};
 use model::words::{call_entry, open_entry};
 use model::Answer;
 use std::cell::RefCell;
-
-/// An entry point: both runs, the bytes, the lent reply; the reply's length.
-pub type Point = fn(&mut [u32], &mut [u32], &[u8], &mut [u8]) -> usize;
-
-/// The bytes that a lent reply has at least.
-pub const REPLY: usize = 256;
 
 /// How often calls and openings were refused with each number; at 0 those accepted.
 #[derive(Default)]
@@ -105,11 +100,14 @@ fn shown(bytes: &[u8]) -> String {
 
 const PAINT: u8 = 0xa5;
 
-/// The reply, on a lent run of 256 bytes whose other bytes stay.
+/// The reply, on a lent run whose other bytes stay.
 fn replied(point: Point, lent: &mut Lent, bytes: &[u8]) -> Vec<u8> {
-    let mut reply = [PAINT; REPLY];
+    let mut reply = [PAINT; REPLY_BYTES];
     let length = point(&mut lent.0, &mut lent.1, bytes, &mut reply);
-    assert!((1..=REPLY).contains(&length), "a reply of {length} bytes");
+    assert!(
+        (1..=REPLY_BYTES).contains(&length),
+        "a reply of {length} bytes"
+    );
     let (said, rest) = reply.split_at(length);
     assert!(
         rest.iter().all(|byte| *byte == PAINT),

@@ -14,6 +14,7 @@ pub mod tried;
 
 use model::compare::full::{with_requests, with_rows};
 use model::limits::{REQUESTS, ROWS};
+use model::random::shifted::near_limit;
 use model::random::{self, Profile, PROFILES};
 use model::words::encode;
 use model::{sound, Tables};
@@ -29,6 +30,13 @@ pub fn words(tables: &Tables) -> Lent {
 pub fn small(sessions: u64, calls: usize) -> impl Iterator<Item = Tables> {
     let profile = |seed: u64| PROFILES[seed as usize % 5];
     (0..sessions).map(move |seed| random::tables(seed, profile(seed), calls))
+}
+
+/// Such tables with their numbers moved up: none is left, or a few.
+pub fn at_the_end(sessions: u64, calls: usize) -> impl Iterator<Item = Tables> {
+    let lefts = (0..4).cycle();
+    let all = small(sessions, calls).zip(lefts);
+    all.map(|(tables, left)| near_limit(&tables, left))
 }
 
 /// Tables with 1,024 rows and no request, tables with 128 requests, and three

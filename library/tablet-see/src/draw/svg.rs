@@ -13,8 +13,9 @@ const LANE_LABEL: u32 = 118;
 const LANE_PAD: u32 = 10;
 const LANE_GAP: u32 = 8;
 const MARGIN: u32 = 8;
-const NUMBER_WIDTH: u32 = 14;
 const LETTER: u32 = 7;
+/// Where a lane's words and a card's number begin, and what is free behind a card's words.
+const INDENT: u32 = 10;
 
 /// Where a card is, its top left corner.
 #[derive(Clone, Copy)]
@@ -84,20 +85,17 @@ fn plan(picture: &Picture) -> Plan<'_> {
     let mut depths: Vec<u32> = cards().map(|card| card.row.depth).collect();
     depths.sort_unstable();
     depths.dedup();
-    let letters =
-        |title: &str, number: u32| title.len() as u32 + number.to_string().len() as u32 + 2;
-    let widest =
-        cards().map(|c| letters(&c.title, c.row.number).max(letters(&c.subtitle, c.row.number)));
-    let of_requests = picture.requests.iter();
-    let of_requests = of_requests
-        .map(|q| letters(&q.title, q.request.number).max(letters(&q.subtitle, q.request.number)));
-    let card_width = widest.chain(of_requests).max().unwrap_or(10) * LETTER + NUMBER_WIDTH;
+    let of_rows = cards().map(|c| width(c.row.number, &c.title, &c.subtitle));
+    let requests = picture.requests.iter();
+    let of_requests = requests.map(|q| width(q.request.number, &q.title, &q.subtitle));
+    let card_width = of_rows.chain(of_requests).max().unwrap_or(84);
+    let lane_label = lane_label(picture);
     let column = |depth: u32| depths.iter().position(|d| *d == depth).unwrap_or(0) as u32;
-    let x = |depth: u32| MARGIN + LANE_LABEL + column(depth) * (card_width + COLUMN_GAP);
+    let x = |depth: u32| MARGIN + lane_label + column(depth) * (card_width + COLUMN_GAP);
     let columns = depths.len().max(1) as u32;
     let mut plan = Plan {
         picture,
-        width: 2 * MARGIN + LANE_LABEL + columns * (card_width + COLUMN_GAP),
+        width: 2 * MARGIN + lane_label + columns * (card_width + COLUMN_GAP),
         height: MARGIN,
         card_width,
         lanes: Vec::new(),
@@ -118,6 +116,25 @@ fn plan(picture: &Picture) -> Plan<'_> {
     }
     plan.height += MARGIN;
     plan
+}
+
+/// How far from a card's left its words begin: after its number, whose digits are wider than letters.
+fn words_at(number: u32) -> u32 {
+    let digits = number.to_string().len() as u32;
+    (INDENT + 6 + 9 * digits).max(INDENT + 2 + 21 * digits / 2)
+}
+
+/// The width of a card with that number and these words.
+fn width(number: u32, title: &str, subtitle: &str) -> u32 {
+    let letters = title.len().max(subtitle.len()) as u32;
+    words_at(number) + letters * LETTER + INDENT
+}
+
+/// The width of what stands before the cards of a lane.
+fn lane_label(picture: &Picture) -> u32 {
+    let letters = picture.lanes.iter().map(|lane| lane.subtitle.len() as u32);
+    let widest = letters.max().unwrap_or(0) * LETTER + 2 * INDENT;
+    widest.max(LANE_LABEL)
 }
 
 /// Each request in a column that has the fewest, and of these in the one nearest to its port's.
@@ -179,7 +196,7 @@ fn label(class: &str, title: &str, subtitle: &str, top: u32, height: u32, width:
         "<rect class=\"lane {class}\" x=\"{MARGIN}\" y=\"{top}\" width=\"{}\" height=\"{height}\" rx=\"6\"/>\n",
         width - 2 * MARGIN
     );
-    let x = MARGIN + 10;
+    let x = MARGIN + INDENT;
     // a string takes every write
     let _ = writeln!(
         out,
@@ -253,7 +270,7 @@ fn request_lines(plan: &Plan, q: &RequestCard) -> String {
         if let Some(to) = plan.rows.get(&row) {
             let (x1, y1) = (at.x + plan.card_width - 24 - 14 * k, at.y);
             let (x2, y2) = (to.x + plan.card_width, to.y + shift);
-            let beside = x2 + 8 + q.request.number * 7 % 36;
+            let beside = x2 + 8 + q.request.number % 36 * 7 % 36;
             out += &format!(
                 "<path class=\"{class}\" d=\"M{x1} {y1}C{x1} {} {beside} {} {beside} {}V{}Q{beside} {y2} {x2} {y2}\"/>\n",
                 y1 - 30,
@@ -326,14 +343,13 @@ fn boxed(
 ) -> String {
     let Spot { x, y } = at;
     let (number, title, subtitle) = words;
-    let digits = number.to_string().len() as u32;
-    let text = x + 16 + 9 * digits;
+    let text = x + words_at(number);
     let width = plan.card_width;
     format!(
         "<g class=\"{class}\"><title>{note}</title><rect x=\"{x}\" y=\"{y}\" width=\"{width}\" height=\"{CARD_HEIGHT}\" rx=\"{round}\"/>\
          <text class=\"number\" x=\"{}\" y=\"{}\">{number}</text><text x=\"{text}\" y=\"{}\">{title}</text>\
          <text class=\"small\" x=\"{text}\" y=\"{}\">{subtitle}</text></g>\n",
-        x + 10,
+        x + INDENT,
         y + 27,
         y + 18,
         y + 34

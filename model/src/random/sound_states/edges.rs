@@ -7,7 +7,7 @@ use crate::tables::{Kind, Place, Process, Request, Row, Tables};
 /// A rule, what its edge is, and whether tables are at it.
 pub type Edge = (&'static str, &'static str, fn(&Tables) -> bool);
 
-pub const EDGES: [Edge; 45] = [
+pub const EDGES: [Edge; 49] = [
     ("S1", "two rows with following numbers", |t| {
         t.rows.windows(2).any(|w| w[0].number + 1 == w[1].number)
     }),
@@ -29,6 +29,10 @@ pub const EDGES: [Edge; 45] = [
     }),
     ("S4", "the last request right below the next number", |t| {
         t.requests.last().is_some_and(|q| q.number + 1 == t.next)
+    }),
+    ("S4", "row 4,294,967,294", |t| t.row(LAST_NUMBER).is_some()),
+    ("S4", "request 4,294,967,294", |t| {
+        t.request(LAST_NUMBER).is_some()
     }),
     ("S5", "next 1", |t| t.next == 1),
     ("S5", "next 4,294,967,295", |t| t.next == LAST_NUMBER + 1),
@@ -90,6 +94,9 @@ pub const EDGES: [Edge; 45] = [
             .windows(2)
             .any(|w| w[0].kind == Kind::Server && paired_source(&w[0], &w[1]))
     }),
+    ("S17", "server end 4,294,967,294", |t| {
+        t.row(LAST_NUMBER).is_some_and(Row::is_end)
+    }),
     ("S18", "a request right above its port", |t| {
         requests(t, |q| q.number == q.port + 2)
     }),
@@ -121,6 +128,9 @@ pub const EDGES: [Edge; 45] = [
     }),
     ("S24", "a copy right above its request", |t| {
         rows(t, |r| r.request > 0 && r.request + 1 == r.number)
+    }),
+    ("S24", "copy 4,294,967,294", |t| {
+        t.row(LAST_NUMBER).is_some_and(|r| r.request > 0)
     }),
     ("S25", "the newest of three requests is not fetched", |t| {
         rows(t, |r| {

@@ -8,6 +8,7 @@ pub mod edges;
 pub mod kinds;
 
 use super::prng::Rng;
+use super::shifted::{near_limit, room};
 use crate::limits::{DEEPEST, LAST_NUMBER, REQUESTS, ROWS};
 use crate::tables::Tables;
 use builder::Builder;
@@ -73,50 +74,20 @@ pub fn sound_state_of(rng: &mut Rng, shape: Shape) -> Tables {
 }
 
 /// The same tables with every number raised by the same, and a next number above them:
-/// often as small as it can be, now and then the last.
-fn at_some_number(rng: &mut Rng, mut tables: Tables) -> Tables {
-    let room = LAST_NUMBER + 1 - tables.next;
-    let raise = match rng.below(20) {
-        0 => room,
-        1 => room - rng.below(6) as u32,
-        2 => rng.below(room as usize) as u32,
-        _ => 0,
+/// often as small as it can be, often the last.
+fn at_some_number(rng: &mut Rng, tables: Tables) -> Tables {
+    let mut tables = match rng.below(20) {
+        0..=1 => near_limit(&tables, 0),
+        2..=3 => near_limit(&tables, rng.between(0, 5)),
+        4 => near_limit(&tables, rng.between(0, LAST_NUMBER)),
+        _ => tables,
     };
-    raise_numbers(&mut tables, raise);
-    let room = LAST_NUMBER + 1 - tables.next;
+    let room = room(&tables);
     tables.next += match rng.below(20) {
         0 => room,
-        1 => room - room.min(rng.below(6) as u32),
-        2..=4 => room.min(rng.below(9) as u32),
+        1 => room - room.min(rng.between(0, 5)),
+        2..=4 => room.min(rng.between(0, 8)),
         _ => 0,
     };
     tables
-}
-
-fn raise_numbers(tables: &mut Tables, raise: u32) {
-    let raised = |number: &mut u32| {
-        if *number != 0 {
-            *number += raise;
-        }
-    };
-    for row in &mut tables.rows {
-        let end = row.is_end();
-        raised(&mut row.number);
-        raised(&mut row.source);
-        raised(&mut row.via);
-        raised(&mut row.request);
-        if end {
-            raised(&mut row.object);
-        }
-    }
-    for request in &mut tables.requests {
-        raised(&mut request.number);
-        raised(&mut request.port);
-        request.items.iter_mut().flatten().for_each(raised);
-    }
-    tables
-        .processes
-        .iter_mut()
-        .for_each(|p| raised(&mut p.through));
-    tables.next += raise;
 }

@@ -156,7 +156,7 @@ fn built(&(call, start, line, refusal, adds): &Measured, rows: usize, requests: 
     }
 }
 
-/// A fetch whose answer is the longest: a request and four copies, the last of number 1,000,000.
+/// A fetch whose answer is the longest: a request and four copies, the last with the last number.
 pub fn longest_answer() -> Case {
     let mut tables = begun(&PORTS);
     for line in ["(1 hold 1)", "(1 hold 1)"] {

@@ -2,7 +2,7 @@
 
 use crate::measure::{About, Layer, Measured, Operation};
 use crate::tables::Benched;
-use kernel::layout::{DEPTH, KIND, Q_NUMBER, REQUEST, REQUESTS, ROWS, SOURCE, VIA};
+use kernel::layout::{DEPTH, KIND, LAST_NUMBER, Q_NUMBER, REQUEST, REQUESTS, ROWS, SOURCE, VIA};
 use kernel::{changing, plain, reading, RowMarks};
 use std::hint::black_box as hidden;
 
@@ -121,7 +121,7 @@ fn row(t: &[u32], slot: usize) -> String {
 /// Of a request that no row comes from, so that the question goes to the end.
 fn comes(b: &Benched, by: &mut dyn Measured, slot: usize) {
     let t = b.words.as_slice();
-    let none = 1_000_001;
+    let none = LAST_NUMBER + 1;
     assert!(!reading::comes(t, slot, none));
     assert!(!plain::questions::comes(t, slot, none));
     let about = About {

@@ -4,6 +4,7 @@
 use crate::call_cases::{accepted, cases, longest_answer, requests_beside, Case};
 use crate::measure::{Layer, Measured};
 use crate::on_runs::{measure, On};
+use kernel::entry::{Point, REPLY_BYTES};
 use kernel::layout::{PROCESS_WORDS, TABLES_WORDS};
 use kernel::{entry, plain, reading};
 use model::session::open;
@@ -12,12 +13,11 @@ use std::hint::black_box as hidden;
 /// The bytes of both runs, each of which decides whether the tables are sound.
 const RUNS: usize = 4 * (TABLES_WORDS + PROCESS_WORDS);
 
-/// An entry point, with the reply that it gives.
-type Point = fn(&mut [u32], &mut [u32], &[u8], &mut [u8]) -> usize;
-type Reply = ([u8; 256], usize);
+/// The reply of an entry point, with its length.
+type Reply = ([u8; REPLY_BYTES], usize);
 
 fn replied(point: Point, t: &mut [u32], p: &mut [u32], bytes: &[u8]) -> Reply {
-    let mut reply = [0; 256];
+    let mut reply = [0; REPLY_BYTES];
     let length = point(t, p, hidden(bytes), &mut reply);
     (reply, length)
 }
@@ -118,7 +118,7 @@ fn parts(by: &mut dyn Measured, case: &Case) {
 /// The line with process 64 for its caller; comes has none, so its row is one that does not stand.
 fn unlisted(case: &Case) -> String {
     match case.line.strip_prefix("(comes 10") {
-        Some(rest) => format!("(comes 999999{rest}"),
+        Some(rest) => format!("(comes {}{rest}", case.tables.next),
         None => format!("(64{}", &case.line[2..]),
     }
 }

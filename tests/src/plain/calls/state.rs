@@ -2,13 +2,12 @@
 
 use super::{Records, Words};
 use crate::layout::{
-    CLIENT, C_LIST, DEPTH, ITEMS, KIND, NEXT, NUMBER, PLACE, Q_ITEMS, Q_NUMBER, Q_PORT, REQUESTS,
-    ROWS, SERVER,
+    CLIENT, C_LIST, DEPTH, ITEMS, KIND, LAST_NUMBER, NEXT, NUMBER, PLACE, Q_ITEMS, Q_NUMBER,
+    Q_PORT, REQUESTS, ROWS, SERVER,
 };
 use crate::RowFields;
 
 const DEEPEST: u32 = 12;
-const LAST_NUMBER: u32 = 1_000_000;
 
 /// The lent words, with how many slots are in use.
 pub struct State<'a> {
@@ -94,7 +93,7 @@ impl<'a> State<'a> {
     /// The next number, or 18 for want of so many.
     pub fn numbers_left(&self, wanted: u32) -> Result<u32, u32> {
         let next = self.t[NEXT];
-        (next + wanted <= LAST_NUMBER + 1).then_some(next).ok_or(18)
+        (wanted <= LAST_NUMBER + 1 - next).then_some(next).ok_or(18)
     }
 
     pub fn append(&mut self, row: RowFields) {

@@ -1,0 +1,108 @@
+//! A short season: calls through one set of tables, over the last number, against the model. The
+//! long one is tools/season.
+
+use kernel::entry::Point;
+use kernel::layout::{LAST_NUMBER, NEXT, OPERATIONS};
+use kernel::season::{season, Points, Report};
+use kernel::{entry, plain};
+use std::io::Write;
+
+const CALLS: u64 = 100_000;
+
+/// Of the seasons in which a difference is planted, and of plain Rust.
+const FEW: u64 = 20_000;
+
+const PROVED: Points = Points {
+    open: entry::open,
+    call: entry::call,
+};
+
+const PLAIN: Points = Points {
+    open: plain::entry::open,
+    call: plain::entry::call,
+};
+
+/// The report on the first part.
+fn passes(points: Points, calls: u64, seed: u64) -> Report {
+    let reports = season(points, calls, seed).unwrap_or_else(|difference| panic!("{difference}"));
+    for report in &reports {
+        writeln!(std::io::stdout(), "{report}").expect("it is printed");
+        lively(report);
+    }
+    let [first, second] = reports;
+    assert!(u64::from(first.greatest) >= calls * 2 / 5, "{first}");
+    assert_eq!(second.greatest, LAST_NUMBER);
+    assert!(second.refused[18] > 0 && first.refused[18] == 0);
+    first
+}
+
+/// Four of five calls are accepted, and each of the twelve at times.
+fn lively(report: &Report) {
+    let calls: u64 = report.refused.iter().sum();
+    assert_eq!(calls, report.calls);
+    assert!(5 * report.refused[0] >= 4 * calls, "{report}");
+    assert_eq!(report.accepted.len(), 12, "{report}");
+    assert!(4 * report.compared >= calls, "{report}");
+}
+
+/// Each refusal but 1 and 18 is answered in the first part; 14 is rare.
+#[test]
+fn proved() {
+    let first = passes(PROVED, CALLS, 1);
+    for k in (2..=17).filter(|k| *k != 14) {
+        assert!(first.refused[k] > 0, "{k} was never answered");
+    }
+}
+
+#[test]
+fn in_plain_rust() {
+    passes(PLAIN, FEW, 2);
+}
+
+/// What is said of the first difference of a season.
+fn differs(call: Point) -> String {
+    let points = Points { call, ..PROVED };
+    match season(points, FEW, 3) {
+        Ok(_) => panic!("no difference was found"),
+        Err(difference) => difference.to_string(),
+    }
+}
+
+/// With so many numbers given the operation of row 1 is changed; the tables stay sound.
+const CHANGE: u32 = 5_000;
+
+fn changes_a_word(t: &mut [u32], p: &mut [u32], line: &[u8], reply: &mut [u8]) -> usize {
+    let before = t[NEXT];
+    let length = entry::call(t, p, line, reply);
+    if before <= CHANGE && t[NEXT] > CHANGE {
+        t[OPERATIONS] += 1;
+    }
+    length
+}
+
+#[test]
+fn a_changed_word_is_found() {
+    let said = differs(changes_a_word);
+    let (kernel, model) = ("  kernel word 3072 is 6\n", "  model  word 3072 is 5");
+    assert!(said.contains(": other words\n"), "{said}");
+    assert!(said.contains(kernel) && said.ends_with(model), "{said}");
+}
+
+/// The last number is refused.
+fn ends_early(t: &mut [u32], p: &mut [u32], line: &[u8], reply: &mut [u8]) -> usize {
+    let (before, refused) = (t[NEXT], b"(no 18)\n");
+    let length = entry::call(t, p, line, reply);
+    if before > LAST_NUMBER || t[NEXT] <= LAST_NUMBER {
+        return length;
+    }
+    reply[..refused.len()].copy_from_slice(refused);
+    refused.len()
+}
+
+#[test]
+fn another_last_number_is_found() {
+    let said = differs(ends_early);
+    let (kernel, model) = ("  kernel (no 18)\n", "  model  (ok 42949672");
+    assert!(said.contains(": other replies\n"), "{said}");
+    assert!(said.contains(kernel) && said.contains(model), "{said}");
+}
