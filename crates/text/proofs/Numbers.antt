@@ -5,8 +5,8 @@ use mathlib.Core.Path.{_≡_, refl}
 use mathlib.Core.Bool.{Bool, true, false, cond}
 use mathlib.Core.List.{List, [], _∷_}
 use lib.ListN.{drop}
-use lib.Dec.{leb}
-use borrow.Author.Tests.{lt-leb, leb-true, leb-false}
+use lib.Dec.{leb, ltb}
+use borrow.Author.Tests.{le-leb, lt-leb, leb-true, leb-false, ltb-true, ltb-false}
 use Rattle.rows.specs.Lists.{if_then_else_}
 use Rattle.rows.specs.Limits.{greatestNumber}
 use Rattle.text.specs.Patterns.{isDigit, grownTo, grown, run, digits}
@@ -27,6 +27,15 @@ at-most limit n h = pick (leb n limit) refl
     pick : (t : Bool) → leb n limit ≡ t → cond t n limit ≡ limit
     pick true e = h (leb-true n limit e)
     pick false e = refl
+
+-- that the limit itself counts as above it changes nothing
+pub limit-above : (limit n : ℕ) → capped limit n ≡ (if ltb n limit then n else limit)
+unfolding capped
+limit-above limit n = pick (ltb n limit) refl
+  where
+    pick : (t : Bool) → ltb n limit ≡ t → capped limit n ≡ cond t n limit
+    pick true e = let l = ltb-true n limit e in rw (le-leb n limit (omega arith)) refl
+    pick false e = let l = ltb-false n limit e in at-most limit n (λ m. omega arith)
 
 one-more : (limit v b : ℕ) → grownTo limit (capped limit v) b ≡ capped limit (exact v b)
 unfolding grownTo capped exact

@@ -3,6 +3,7 @@
 
 use crate::answer::Answer;
 use crate::call::{read_call, Call};
+use crate::limits::LAST_NUMBER;
 use crate::random::shifted::near_limit;
 use crate::random::{lines, openings, Profile, Rng, SMALL};
 use crate::refusals;
@@ -26,6 +27,9 @@ fn features(before: &Tables, line: &[u8], answer: &Answer, after: &Tables) -> Fe
         found.extend(of_requests(before, after));
         found.extend(of_processes(before, after));
         found.insert(format!("answers {} numbers", numbers.len()));
+        if before.next <= LAST_NUMBER && LAST_NUMBER < after.next {
+            found.insert("gives the last number".to_string());
+        }
     }
     found.extend(of_refusals(before, &call));
     let word = word(&call);
