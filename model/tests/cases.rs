@@ -36,7 +36,7 @@ fn cases_on_words() {
         cases.len()
     );
     assert!(
-        steps >= 13_900 && without <= 7,
+        steps >= 13_900 && without == 7,
         "{steps} steps, {without} without words"
     );
 }

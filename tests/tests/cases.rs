@@ -29,7 +29,7 @@ fn cases_on_the_entry_points() {
     }
     assert!(cases.len() >= 850, "{} cases", cases.len());
     assert!(
-        steps >= 14_000 && without <= 7,
+        steps >= 14_000 && without == 7,
         "{steps} steps, {without} without words"
     );
 }
