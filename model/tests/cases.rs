@@ -89,7 +89,7 @@ fn sessions_leave_the_dumped_tables() {
             dumps += 1;
         }
     }
-    assert_eq!(dumps, 7);
+    assert_eq!(dumps, 12);
 }
 
 /// Names are different, and conformance/ is read whole.
@@ -99,8 +99,8 @@ fn cases_are_read() {
     let names: BTreeSet<&str> = cases.iter().map(|c| c.name.as_str()).collect();
     assert_eq!(names.len(), cases.len());
     let of = |part: &str| names.iter().filter(|n| n.starts_with(part)).count();
-    assert_eq!(of("conformance/sessions/"), 101);
-    assert_eq!(of("conformance/tables/"), 304);
+    assert_eq!(of("conformance/sessions/"), 133);
+    assert_eq!(of("conformance/tables/"), 364);
     let by_hand = cases::by_hand().unwrap();
     assert!(by_hand.len() >= 348, "{} cases", by_hand.len());
     assert!(by_hand.iter().all(|c| !c.rules.is_empty()));
