@@ -1,4 +1,4 @@
--- The ends that a request lists, asked of one after the other: busy, away; and the tests of reply.
+-- The ends that a request lists, asked of one after the other: busy, away; and the tests of answer.
 use Prim.Native.Nat.{ℕ, suc, _+_}
 use mathlib.Core.Bool.{Bool, true, false, cond, not, _&&_, _||_}
 use mathlib.Core.List.{List}
@@ -17,14 +17,14 @@ use Rattle.rows.specs.Sound.{isFetched}
 use Rattle.rows.specs.Layout.{rowSlot, requestAt, requestsTo}
 use Rattle.rows.specs.contracts.Represents.{Represents}
 use Rattle.rows.specs.contracts.Slots.{foundSlot, openSlot}
-use Rattle.rows.proofs.Bools.{and-rf, any-eq, not-zero, zero-none}
+use Rattle.rows.proofs.Bools.{and-rf, or-false, any-eq, not-zero, zero-none}
 use Rattle.rows.proofs.Lists.{filter-filter}
 use Rattle.rows.proofs.LayoutRequests.{four}
 use Rattle.rows.proofs.Slots.{found-at, found-nothing, row-absent, represented-requests, open-absent}
 use Rattle.questions.proofs.Listed.{requests-read}
 use Rattle.calls.specs.Rules.{lowest, notHeld, hasOpen, askedOf}
-use Rattle.calls.specs.Calls.{lentEnds, isAway, refusalsReply}
-use Rattle.calls.specs.contracts.Replies.{endSlot, endItem, listedNewer}
+use Rattle.calls.specs.Calls.{lentEnds, isAway, refusalsAnswer}
+use Rattle.calls.specs.contracts.Answering.{endSlot, endItem, listedNewer}
 use Rattle.calls.proofs.Refusing.{row-some}
 use Rattle.calls.proofs.Joined.{any-filter, four-tests}
 
@@ -138,14 +138,32 @@ module _ (t : List ℕ) (q e : ℕ) where
       ap (λ (k : ℕ). any newer (requestsTo t k)) (h ∙ sym (represented-requests rep)) ∙ ap (any newer) (requests-read rep)
       ∙ any-eq newer (λ w. ltb q (w .number) && lists e w) (λ w. rw pos refl) (st .requests)
 
--- ---- the tests of reply
-module _ (st : State) (p e : ℕ) (h : notHeld st p e ≡ false) where
-  pub reply-rest : lowest (refusalsReply st p e)
-      ≡ cond (not (isServer (rowOf (st .rows) e .kind))) 8
-      (cond (any (λ x. hasOpen st (rowOf (st .rows) x .object)) (lentEnds st (askedOf st e))) 10
-      (cond (eqb (askedOf st e .number) 0 || not (isFetched (askedOf st e))) 11 (cond (any (isAway st p (askedOf st e)) (lentEnds st (askedOf st e))) 14 0)))
-  unfolding refusalsReply lowest
-  reply-rest = rw h refl
+-- ---- the tests of answer
+module _ (st : State) (p e : ℕ) (served : Bool) (h : notHeld st p e ≡ false) where
+  abbrev pub serverOf : Bool
+  serverOf = isServer (rowOf (st .rows) e .kind)
+
+  abbrev pub busyLent : Bool
+  busyLent = any (λ x. hasOpen st (rowOf (st .rows) x .object)) (lentEnds st (askedOf st e))
+
+  abbrev pub awayLent : Bool
+  awayLent = any (isAway st p (askedOf st e)) (lentEnds st (askedOf st e))
+
+  pub answer-rest : lowest (refusalsAnswer st p e served)
+      ≡ cond (not serverOf) 8 (cond (served && busyLent) 10
+      (cond (eqb (askedOf st e .number) 0 || (served && not (isFetched (askedOf st e)))) 11 (cond (served && awayLent) 14 0)))
+  unfolding refusalsAnswer lowest
+  answer-rest = rw h refl
+
+  -- with 1, and with 0
+  pub answer-served : served ≡ true → lowest (refusalsAnswer st p e served)
+      ≡ cond (not serverOf) 8 (cond busyLent 10 (cond (eqb (askedOf st e .number) 0 || not (isFetched (askedOf st e))) 11 (cond awayLent 14 0)))
+  unfolding refusalsAnswer lowest
+  answer-served s = rw (h, s) refl
+
+  pub answer-declined : served ≡ false → lowest (refusalsAnswer st p e served) ≡ cond (not serverOf) 8 (cond (eqb (askedOf st e .number) 0) 11 0)
+  unfolding refusalsAnswer lowest
+  answer-declined s = rw (h, s, or-false (eqb (askedOf st e .number) 0)) refl
 
 -- no request lists nothing
 pub none-lent : (st : State) (e : ℕ) → openSlot (st .requests) (rowOf (st .rows) e .object) ≡ 0 → (f : ℕ → Bool) → any f (lentEnds st (askedOf st e)) ≡ false

@@ -1,9 +1,9 @@
--- `reply::newer_lists`: the four items of the request in its slot.
+-- `answering::newer_lists`: the four items of the request in its slot.
 use borrow.Author.Needs.{needs}
 use denote.Ref.{now}
-use Rattle.calls.proofs.Replied.{newer-read}
-use Rattle.calls.proofs.reply.newer_lists.Statement.{statement}
-use Rattle.calls.proofs.reply.newer_lists.Tie as tie
+use Rattle.calls.proofs.LentEnds.{newer-read}
+use Rattle.calls.proofs.answering.newer_lists.Statement.{statement}
+use Rattle.calls.proofs.answering.newer_lists.Tie as tie
 
 request-at-requires : tie.Need-request-at-requires
 request-at-requires c κs = search needs

@@ -1,12 +1,12 @@
--- `reply::listed_newer`: `found` says whether one of the requests that the loop passed is newer and lists the item.
+-- `answering::listed_newer`: `found` says whether one of the requests that the loop passed is newer and lists the item.
 use borrow.Author.Needs.{needs}
 use Prim.Native.Nat.{_≤_, _-_}
 use native.Mathlib.Omega.{arith}
 use mathlib.Core.Path.{_≡_, ap, _∙_}
 use denote.Ref.{now}
-use Rattle.calls.proofs.Replied.{newerTo, newer-none, newer-more, newer-all}
-use Rattle.calls.proofs.reply.listed_newer.Statement.{statement}
-use Rattle.calls.proofs.reply.listed_newer.Tie as tie
+use Rattle.calls.proofs.LentEnds.{newerTo, newer-none, newer-more, newer-all}
+use Rattle.calls.proofs.answering.listed_newer.Statement.{statement}
+use Rattle.calls.proofs.answering.listed_newer.Tie as tie
 
 abbrev Inv-loop : tie.InvT-loop
 Inv-loop t m q e found₀ k₀ found k = (k ≤ m) × (found ≡ newerTo t q e k)

@@ -1,4 +1,4 @@
--- `loans::refuse`: no such row, or what the end gives.
+-- `answering::answer`: no such row, or what the end gives.
 use borrow.Author.Needs.{needs}
 use native.Mathlib.Omega.{arith}
 use Rattle.rows.specs.Codes.{inClist}
@@ -6,11 +6,11 @@ use Rattle.rows.proofs.Slots.{at-below}
 use Rattle.calls.proofs.LookedUp.{found-in}
 use Rattle.calls.proofs.Refusing.{not-held, seven}
 use Rattle.calls.specs.Rules.{notHeld}
-use Rattle.calls.specs.declared.Call.the-variants.{Refuse}
-use Rattle.calls.specs.Calls.{refusals, refusalsRefuse}
+use Rattle.calls.specs.declared.Call.{Call}
+use Rattle.calls.specs.Calls.{refusals, refusalsAnswer}
 use Rattle.calls.proofs.Judging.{not-in-clist, refused-agrees}
-use Rattle.calls.proofs.loans.refuse.Statement.{statement}
-use Rattle.calls.proofs.loans.refuse.Tie as tie
+use Rattle.calls.proofs.answering.answer.Statement.{statement}
+use Rattle.calls.proofs.answering.answer.Tie as tie
 
 count-rows-requires : tie.Need-count-rows-requires
 count-rows-requires c κs = search needs
@@ -28,22 +28,22 @@ same-length : tie.Need-same-length
 same-length c = search needs
 
 returns : tie.Need-returns
-unfolding refusals refusalsRefuse
+unfolding refusals refusalsAnswer
 returns c =
     let found = c .before .before .held-by in
     let a = c .before .before .before .before .before .before .before .before .args in (
       (λ st sd rep same listed.
           let away = not-in-clist st (a .p) (a .e) (found .result) (found .ensures .1 st (rep, c .before .before .before .before .count-rows .ensures .0 st rep) (c .before .before .before .before .before .before .before .before .pre .2 .1)) (c .enum-told .given .1) in
-          refused-agrees st (Refuse (a .p) (a .e)) rep same 7 (seven (notHeld st (a .p) (a .e)) _ (not-held st (a .p) (a .e) away)) (λ z. absurd (omega arith))),
+          refused-agrees st (Call.Answer (a .p) (a .e) (a .served)) rep same 7 (seven (notHeld st (a .p) (a .e)) _ (not-held st (a .p) (a .e) away)) (λ z. absurd (omega arith))),
       (c .before .before .before .before .before .before .before .before .pre .0, c .before .before .before .before .before .before .before .before .pre .1),
     )
 
-refuse-end-requires : tie.Need-refuse-end-requires
-refuse-end-requires c κs =
+answer-end-requires : tie.Need-answer-end-requires
+answer-end-requires c κs =
     let i = c .before .before .before .i .given in
     let found = c .before .before .before .before .before .held-by in
     let count = c .before .before .before .before .before .before .before .count-rows in
-    (c .before .before .before .before .before .before .before .before .before .before .before .pre .0, c .before .before .before .before .before .before .before .before .before .before .before .pre .1, omega (arith, count .ensures .1, at-below (count .result) (found .result) (i .0 .0) (found .ensures .0) (i .1)))
+    (c .before .before .before .before .before .before .before .before .before .before .before .pre .0, c .before .before .before .before .before .before .before .before .before .before .before .pre .1, count .ensures .1, omega (arith, count .ensures .1, at-below (count .result) (found .result) (i .0 .0) (found .ensures .0) (i .1)))
 
 same-length-2 : tie.Need-same-length-2
 same-length-2 c = search needs
@@ -53,19 +53,20 @@ same-length-3 c = search needs
 
 returns-2 : tie.Need-returns-2
 returns-2 c =
-    let end = c .before .before .before .before .refuse-end in
+    let end = c .before .before .before .before .answer-end in
     let i = c .before .before .before .before .before .before .before .before .i .given in
     let found = c .before .before .before .before .before .before .before .before .before .before .held-by in
     let count = c .before .before .before .before .before .before .before .before .before .before .before .before .count-rows in
     let a = c .before .before .before .before .before .before .before .before .before .before .before .before .before .before .before .before .args in (
       (λ st sd rep same listed.
-          let here = found-in st (inClist (a .p)) (a .e) (found .result) (i .0 .0) (found .ensures .1 st (rep, count .ensures .0 st rep) (c .before .before .before .before .before .before .before .before .before .before .before .before .before .before .before .before .pre .2 .1)) (i .1) in
-          end .ensures .0 st (a .p) (a .e) sd rep same here),
+          let counted = count .ensures .0 st rep in
+          let here = found-in st (inClist (a .p)) (a .e) (found .result) (i .0 .0) (found .ensures .1 st (rep, counted) (c .before .before .before .before .before .before .before .before .before .before .before .before .before .before .before .before .pre .2 .1)) (i .1) in
+          end .ensures .0 st (a .e) sd rep counted same here (c .before .before .before .before .before .before .before .before .before .before .before .before .before .before .before .before .pre .2 .1)),
       end .ensures .1,
     )
 
-pub refuse-spec : {M : Type 1} → statement M
-refuse-spec =
+pub answer-spec : {M : Type 1} → statement M
+answer-spec =
     tie.close
     (tie.spec
     count-rows-requires
@@ -74,7 +75,7 @@ refuse-spec =
     enum-told
     same-length
     returns
-    refuse-end-requires
+    answer-end-requires
     same-length-2
     same-length-3
     returns-2)

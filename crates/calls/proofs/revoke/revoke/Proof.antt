@@ -9,8 +9,8 @@ use Rattle.calls.specs.Calls.{refusals}
 use Rattle.calls.proofs.Judging.{refused-agrees, accepted-agrees}
 use Rattle.calls.proofs.Refusing.{revoke-none, revoke-other, revoke-own, request-some}
 use Rattle.calls.proofs.Effected.{revoked}
-use Rattle.calls.proofs.loans.revoke.Statement.{statement}
-use Rattle.calls.proofs.loans.revoke.Tie as tie
+use Rattle.calls.proofs.revoke.revoke.Statement.{statement}
+use Rattle.calls.proofs.revoke.revoke.Tie as tie
 
 count-requests-requires : tie.Need-count-requests-requires
 count-requests-requires c κs = search needs

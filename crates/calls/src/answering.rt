@@ -1,4 +1,4 @@
-// reply: the server gives the lent ends back and closes the request.
+// answer: the server closes the request; one that it served only with every lent end back.
 use crate::Answer;
 use crate::lookups;
 use closing::close::close_request;
@@ -18,8 +18,8 @@ ghost use Rattle.rows.specs.contracts.Sizes.{ROWS, REQUESTS, IsTables, IsRecord
 ghost use Rattle.calls.specs.declared.Call.{Call};
 ghost use Rattle.calls.specs.contracts.Performs.{Performs};
 ghost use Rattle.calls.specs.contracts.Effects.{IsProcess};
-ghost use Rattle.calls.specs.contracts.Replies.{EndBusy, ListedNewer, EndAway, AnyBusy, AnyAway, RefusesReply};
-ghost use Rattle.calls.specs.contracts.Replies.{FindsEnd, RepliesEnd, newerListing};
+ghost use Rattle.calls.specs.contracts.Answering.{EndBusy, ListedNewer, EndAway, AnyBusy, AnyAway, RefusesAnswer};
+ghost use Rattle.calls.specs.contracts.Answering.{FindsEnd, AnswersEnd, newerListing};
 
 // The slot of the row e, where it is an end.
 fn end_at(t: &[u32], n: usize, e: u32) -> Found
@@ -115,11 +115,14 @@ fn any_away(t: &[u32], n: usize, m: usize, v: Request, p: u32) -> bool
     first | second | third | fourth
 }
 
-// What refuses the reply of p to the request in slot j: 10, 11, 14, 0 for nothing.
-fn reply_refusal(t: &[u32], n: usize, m: usize, j: usize, p: u32) -> u32
+// What refuses the answer of p to the request in slot j: 10, 11, 14, 0 for nothing and where it was not served.
+fn answer_refusal(t: &[u32], n: usize, m: usize, j: usize, p: u32, served: bool) -> u32
     requires { ⌜ IsTables (now t) × (n ≤ ROWS) × (m ≤ REQUESTS) × (j < REQUESTS) ⌝ }
-    ensures { λ r. ⌜ RefusesReply (now (t .entry)) n m j p r ⌝ }
+    ensures { λ r. ⌜ RefusesAnswer (now (t .entry)) n m j p served r ⌝ }
 {
+    if !served {
+        return 0;
+    }
     let v = read::request_at(t, j);
     if any_busy(t, n, m, v) {
         return 10;
@@ -133,11 +136,12 @@ fn reply_refusal(t: &[u32], n: usize, m: usize, j: usize, p: u32) -> u32
     0
 }
 
-// reply at the end in slot i, which p holds: 8 for one that is no server end, 11 with no request;
+// answer at the end in slot i, which p holds: 8 for one that is no server end, 11 with no request;
 // then the request's refusals.
-fn reply_end(t: &mut [u32], n: usize, ps: &mut [u32], i: usize, p: u32) -> Answer
+fn answer_end(t: &mut [u32], n: usize, ps: &mut [u32], i: usize, p: u32, served: bool) -> Answer
     requires { ⌜ IsTables (now t) × IsRecords (now ps) × (n ≤ ROWS) × (i < ROWS) ⌝ }
-    ensures performs { λ r. ⌜ RepliesEnd (now (t .entry)) n (now (ps .entry)) i p (now (t .exit)) (now (ps .exit)) r ⌝ }
+    ensures performs { λ r. ⌜ AnswersEnd (now (t .entry)) n (now (ps .entry)) i p served (now (t .exit))
+        (now (ps .exit)) r ⌝ }
     ensures long { λ _. ⌜ IsTables (now (t .exit)) × IsRecords (now (ps .exit)) ⌝ }
 {
     if t[KIND + i] != A_SERVER_END {
@@ -147,7 +151,7 @@ fn reply_end(t: &mut [u32], n: usize, ps: &mut [u32], i: usize, p: u32) -> Answe
     let Found::At(j) = lookups::asked_at(t, m, i) else {
         return Answer::Refused(11);
     };
-    let k = reply_refusal(t, n, m, j, p);
+    let k = answer_refusal(t, n, m, j, p, served);
     if k != 0 {
         return Answer::Refused(k);
     }
@@ -156,11 +160,12 @@ fn reply_end(t: &mut [u32], n: usize, ps: &mut [u32], i: usize, p: u32) -> Answe
     Answer::Done
 }
 
-// reply: 7 for a row that the caller does not hold; then the refusals at the end.
-// Ruled out: a lent end that another process has goes back; a request that is not fetched is answered.
-pub fn reply(t: &mut [u32], ps: &mut [u32], p: u32, e: u32) -> Answer
+// answer: 7 for a row that the caller does not hold; then the refusals at the end.
+// Ruled out, where it was served: a lent end that another process has goes back; a request that is not fetched closes.
+// Ruled out, where it was not: a request that is not fetched stays open; the port is closed with it.
+pub fn answer(t: &mut [u32], ps: &mut [u32], p: u32, e: u32, served: bool) -> Answer
     requires { ⌜ IsTables (now t) × IsRecords (now ps) × IsProcess p ⌝ }
-    ensures performs { λ r. ⌜ Performs (now (t .entry)) (now (ps .entry)) (Call.Reply p e) (now (t .exit))
+    ensures performs { λ r. ⌜ Performs (now (t .entry)) (now (ps .entry)) (Call.Answer p e served) (now (t .exit))
         (now (ps .exit)) r ⌝ }
     ensures long { λ _. ⌜ IsTables (now (t .exit)) × IsRecords (now (ps .exit)) ⌝ }
 {
@@ -168,5 +173,5 @@ pub fn reply(t: &mut [u32], ps: &mut [u32], p: u32, e: u32) -> Answer
     let Found::At(i) = lookups::held_by(t, n, p, e) else {
         return Answer::Refused(7);
     };
-    reply_end(t, n, ps, i, p)
+    answer_end(t, n, ps, i, p, served)
 }

@@ -1,4 +1,4 @@
--- `reply::end_busy`: no end, no request, a request.
+-- `answering::end_busy`: no end, no request, a request.
 use borrow.Author.Needs.{needs}
 use native.Mathlib.Omega.{arith}
 use mathlib.Core.Path.{sym}
@@ -6,9 +6,9 @@ use Rattle.rows.specs.Tables.{rowOf}
 use Rattle.rows.specs.contracts.Slots.{openSlot}
 use Rattle.rows.proofs.Slots.{at-below, found-at, found-nothing}
 use Rattle.calls.proofs.Refusing.{asked-none, asked-some}
-use Rattle.calls.proofs.Replied.{no-end, an-end, not-busy, is-busy, and-both, and-first}
-use Rattle.calls.proofs.reply.end_busy.Statement.{statement}
-use Rattle.calls.proofs.reply.end_busy.Tie as tie
+use Rattle.calls.proofs.LentEnds.{no-end, an-end, not-busy, is-busy, and-both, and-first}
+use Rattle.calls.proofs.answering.end_busy.Statement.{statement}
+use Rattle.calls.proofs.answering.end_busy.Tie as tie
 
 end-at-requires : tie.Need-end-at-requires
 end-at-requires c κs = search needs

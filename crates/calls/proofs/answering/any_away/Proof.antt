@@ -1,11 +1,11 @@
--- `reply::any_away`: the four items joined.
+-- `answering::any_away`: the four items joined.
 use borrow.Author.Needs.{needs}
 use mathlib.Core.Path.{_≡_, refl, sym, _∙_}
 use lib.ListN.{length, length-map}
 use Rattle.calls.specs.Calls.{isAway}
-use Rattle.calls.proofs.Replied.{any-of-four}
-use Rattle.calls.proofs.reply.any_away.Statement.{statement}
-use Rattle.calls.proofs.reply.any_away.Tie as tie
+use Rattle.calls.proofs.LentEnds.{any-of-four}
+use Rattle.calls.proofs.answering.any_away.Statement.{statement}
+use Rattle.calls.proofs.answering.any_away.Tie as tie
 
 array-read-end-away : tie.Need-array-read-end-away
 array-read-end-away c = search needs

@@ -1,12 +1,12 @@
--- `reply::any_busy`: the four items joined.
+-- `answering::any_busy`: the four items joined.
 use borrow.Author.Needs.{needs}
 use mathlib.Core.Path.{_≡_, sym, _∙_}
 use lib.ListN.{length, length-map}
 use Rattle.rows.specs.Tables.{rowOf}
 use Rattle.calls.specs.Rules.{hasOpen}
-use Rattle.calls.proofs.Replied.{any-of-four}
-use Rattle.calls.proofs.reply.any_busy.Statement.{statement}
-use Rattle.calls.proofs.reply.any_busy.Tie as tie
+use Rattle.calls.proofs.LentEnds.{any-of-four}
+use Rattle.calls.proofs.answering.any_busy.Statement.{statement}
+use Rattle.calls.proofs.answering.any_busy.Tie as tie
 
 array-read-end-busy : tie.Need-array-read-end-busy
 array-read-end-busy c = search needs

@@ -1,4 +1,4 @@
--- What the tests of reply answer: of the ends that a request still lists.
+-- What the tests of answer say: of the ends that a request still lists.
 use Prim.Native.Nat.{ℕ, _≤_}
 use mathlib.Core.Bool.{Bool, true, _&&_}
 use mathlib.Core.List.{List}
@@ -17,9 +17,9 @@ use Rattle.rows.specs.Layout.{rowSlot, recordsIn}
 use Rattle.rows.specs.contracts.Slots.{foundSlot}
 use Rattle.rows.specs.contracts.Sizes.{PROCESSES}
 use Rattle.calls.specs.declared.Answer.{Answer}
-use Rattle.calls.specs.declared.Call.the-variants.{Reply}
+use Rattle.calls.specs.declared.Call.{Call}
 use Rattle.calls.specs.Rules.{lowest, hasOpen}
-use Rattle.calls.specs.Calls.{lentEnds, isAway, refusalsReply, perform}
+use Rattle.calls.specs.Calls.{lentEnds, isAway, refusalsAnswer, perform}
 use Rattle.calls.specs.contracts.Lookups.{HasRows}
 use Rattle.calls.specs.contracts.Performs.{Agrees, HeldAt, Serves}
 
@@ -66,11 +66,12 @@ abbrev pub AnyAway : List ℕ → ℕ → ℕ → Request → ℕ → Bool → T
 AnyAway t n m v p r = (st : State) → HasBoth t n m st → p ≤ PROCESSES → r ≡ any (isAway st p v) (lentEnds st v)
 
 -- the server end e is held by p, the request open on its port stands in slot j
-abbrev pub RefusesReply : List ℕ → ℕ → ℕ → ℕ → ℕ → ℕ → Type 0
-RefusesReply t n m j p r =
-    (st : State) (e : ℕ) → HasBoth t n m st → Serves st p e j → p ≤ PROCESSES → r ≡ lowest (refusalsReply st p e)
+abbrev pub RefusesAnswer : List ℕ → ℕ → ℕ → ℕ → ℕ → Bool → ℕ → Type 0
+RefusesAnswer t n m j p served r =
+    (st : State) (e : ℕ) → HasBoth t n m st → Serves st p e j → p ≤ PROCESSES
+    → r ≡ lowest (refusalsAnswer st p e served)
 
-abbrev pub RepliesEnd : List ℕ → ℕ → List ℕ → ℕ → ℕ → List ℕ → List ℕ → Answer → Type 0
-RepliesEnd t n ps i p after left r =
+abbrev pub AnswersEnd : List ℕ → ℕ → List ℕ → ℕ → ℕ → Bool → List ℕ → List ℕ → Answer → Type 0
+AnswersEnd t n ps i p served after left r =
     (st : State) (e : ℕ) → sound st ≡ true → Represents t st → n ≡ length (st .rows) → st .processes ≡ recordsIn ps
-    → HeldAt st p e i → p ≤ PROCESSES → Agrees after (recordsIn left) r (perform st (Reply p e))
+    → HeldAt st p e i → p ≤ PROCESSES → Agrees after (recordsIn left) r (perform st (Call.Answer p e served))

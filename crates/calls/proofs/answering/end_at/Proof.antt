@@ -1,4 +1,4 @@
--- `reply::end_at`: no row, an end, another row.
+-- `answering::end_at`: no row, an end, another row.
 use borrow.Author.Needs.{needs}
 use Prim.Native.Nat.{suc}
 use native.Mathlib.Omega.{arith}
@@ -7,9 +7,9 @@ use Rattle.rows.specs.Codes.{isEnd}
 use Rattle.rows.specs.Layout.{rowSlot}
 use Rattle.rows.specs.contracts.Slots.{Within}
 use Rattle.rows.proofs.Slots.{at-below, found-at, found-nothing, row-words}
-use Rattle.calls.proofs.Replied.{end-absent, end-here, end-other}
-use Rattle.calls.proofs.reply.end_at.Statement.{statement}
-use Rattle.calls.proofs.reply.end_at.Tie as tie
+use Rattle.calls.proofs.LentEnds.{end-absent, end-here, end-other}
+use Rattle.calls.proofs.answering.end_at.Statement.{statement}
+use Rattle.calls.proofs.answering.end_at.Tie as tie
 
 row-among-requires : tie.Need-row-among-requires
 row-among-requires c κs = search needs

@@ -1,13 +1,13 @@
--- `reply::end_away`: no end, an end elsewhere, or newer requests decide.
+-- `answering::end_away`: no end, an end elsewhere, or newer requests decide.
 use borrow.Author.Needs.{needs}
 use mathlib.Core.Path.{sym, _∙_}
 use Rattle.rows.specs.Codes.{inClist}
 use Rattle.calls.proofs.LookedUp.{found-in}
 use Rattle.calls.proofs.Judging.{not-in-clist}
 use Rattle.calls.proofs.Refusing.{held, not-held, row-some}
-use Rattle.calls.proofs.Replied.{no-end, an-end, away, with-caller, and-both, and-first}
-use Rattle.calls.proofs.reply.end_away.Statement.{statement}
-use Rattle.calls.proofs.reply.end_away.Tie as tie
+use Rattle.calls.proofs.LentEnds.{no-end, an-end, away, with-caller, and-both, and-first}
+use Rattle.calls.proofs.answering.end_away.Statement.{statement}
+use Rattle.calls.proofs.answering.end_away.Tie as tie
 
 end-at-requires : tie.Need-end-at-requires
 end-at-requires c κs = search needs
