@@ -87,12 +87,14 @@ pub fn any_bytes(rng: &mut Rng) -> Vec<u8> {
 }
 
 /// A call line that has so many bytes before its line feed, by the digits of
-/// a number, or by its items.
+/// a number, of answer its last or not, or by its items.
 fn long_line(rng: &mut Rng, bytes: usize) -> Vec<u8> {
     let (_, word) = rng.pick(&WORDS).expect("a word");
-    let (start, end) = match rng.percent(50) {
-        true => (format!("(1 {} ", word.text()), ")\n"),
-        false => (
+    let (start, end) = match rng.below(8) {
+        0..=2 => (format!("(1 {} ", word.text()), ")\n"),
+        3 => ("(1 answer 3 ".to_string(), ")\n"),
+        4 => ("(1 answer ".to_string(), " 1)\n"),
+        _ => (
             "(1 ask 3 (1 1) (2 1) (3 1) (4 1) (5 1) (6 1) (".to_string(),
             " 7))\n",
         ),
