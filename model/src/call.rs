@@ -12,12 +12,10 @@ pub enum Word {
     Port,
     Close,
     Fetch,
-    Reply,
-    Refuse,
     Revoke,
 }
 
-pub const WORDS: [(&[u8], Word); 10] = [
+pub const WORDS: [(&[u8], Word); 8] = [
     (b"go", Word::Go),
     (b"hold", Word::Hold),
     (b"register", Word::Register),
@@ -25,8 +23,6 @@ pub const WORDS: [(&[u8], Word); 10] = [
     (b"port", Word::Port),
     (b"close", Word::Close),
     (b"fetch", Word::Fetch),
-    (b"reply", Word::Reply),
-    (b"refuse", Word::Refuse),
     (b"revoke", Word::Revoke),
 ];
 
@@ -50,6 +46,12 @@ pub enum Call {
         client: u32,
         items: Vec<Item>,
     },
+    /// The last number is 1 for a request that is served, 0 for one that is declined.
+    Answer {
+        caller: u32,
+        end: u32,
+        last: u32,
+    },
     Comes {
         row: u32,
         request: u32,
@@ -71,6 +73,13 @@ pub fn read_call(line: &[u8]) -> Option<Call> {
                 caller: *caller,
                 client: *client,
                 items,
+            })
+        }
+        [Part::Number(caller), Part::Word(b"answer"), Part::Number(end), Part::Number(last)] => {
+            Some(Call::Answer {
+                caller: *caller,
+                end: *end,
+                last: *last,
             })
         }
         [Part::Number(caller), Part::Word(word), Part::Number(number)] => {
@@ -102,7 +111,9 @@ impl Call {
     /// None for `(comes e q)`.
     pub fn caller(&self) -> Option<u32> {
         match self {
-            Call::One { caller, .. } | Call::Ask { caller, .. } => Some(*caller),
+            Call::One { caller, .. } | Call::Ask { caller, .. } | Call::Answer { caller, .. } => {
+                Some(*caller)
+            }
             Call::Comes { .. } => None,
         }
     }
@@ -112,6 +123,7 @@ impl Call {
         match self {
             Call::One { word, .. } => word.text(),
             Call::Ask { .. } => "ask".to_string(),
+            Call::Answer { .. } => "answer".to_string(),
             Call::Comes { .. } => "comes".to_string(),
         }
     }
@@ -124,7 +136,7 @@ impl Call {
         }
     }
 
-    /// The call with other numbers of rows and requests.
+    /// The call with other numbers of rows and requests; the last number of an answer is none.
     pub fn renumbered(&self, number: impl Fn(u32) -> u32) -> Call {
         let mut call = self.clone();
         match &mut call {
@@ -133,6 +145,7 @@ impl Call {
                 *client = number(*client);
                 items.iter_mut().for_each(|i| i.row = number(i.row));
             }
+            Call::Answer { end, .. } => *end = number(*end),
             Call::Comes { row, request } => {
                 *row = number(*row);
                 *request = number(*request);
@@ -159,6 +172,7 @@ impl Call {
                 let items = items.iter().map(|i| format!(" ({} {})", i.row, i.rights));
                 format!("({caller} ask {client}{})\n", items.collect::<String>())
             }
+            Call::Answer { caller, end, last } => format!("({caller} answer {end} {last})\n"),
             Call::Comes { row, request } => format!("(comes {row} {request})\n"),
         };
         text.into_bytes()

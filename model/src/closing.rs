@@ -12,7 +12,7 @@ struct Closing {
     closed: BTreeSet<u32>,
 }
 
-/// Reply, refuse and revoke: the request is closed.
+/// Answer and revoke: the request is closed.
 pub fn close_request(tables: &mut Tables, request: u32) {
     let closing = Closing {
         closed: BTreeSet::from([request]),

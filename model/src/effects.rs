@@ -22,6 +22,7 @@ pub fn perform(tables: &mut Tables, call: &Call) -> Option<Answer> {
             client,
             items,
         } => ask(tables, *caller, *client, items),
+        Call::Answer { end, .. } => answer_request(tables, *end),
         Call::Comes { row, request } => Some(Answer::ok(comes_from(tables, *row, *request).into())),
     }
 }
@@ -38,7 +39,6 @@ fn one_number(tables: &mut Tables, caller: u32, word: Word, number: u32) -> Opti
             done()
         }
         Word::Fetch => fetch(tables, caller, number),
-        Word::Reply | Word::Refuse => answer_request(tables, number),
         Word::Revoke => {
             close_request(tables, number);
             done()
@@ -195,7 +195,7 @@ fn fetch(tables: &mut Tables, caller: u32, v: u32) -> Option<Answer> {
     Some(Answer::Ok(numbers))
 }
 
-/// (rules reply-ok, refuse-ok) The request is closed.
+/// (rule answer-ok) The request is closed, with either last number.
 fn answer_request(tables: &mut Tables, v: u32) -> Option<Answer> {
     let port = tables.row(v)?.object;
     let request = request_on(tables, port)?.number;

@@ -72,6 +72,7 @@ impl History {
                 client,
                 items,
             } => self.note_ask(caller, client, &items, n),
+            Call::Answer { end, .. } => self.note_answered(end),
             Call::Comes { .. } => return,
         }
         self.before = std::mem::take(&mut self.now);
@@ -87,7 +88,6 @@ impl History {
             Word::Port => self.note_port(number, answer),
             Word::Close => drop(self.notes.closed_ports.insert(number)),
             Word::Fetch => {}
-            Word::Reply | Word::Refuse => self.note_answered(number),
             Word::Revoke => {
                 self.notes.closed_requests.insert(number);
                 self.revoked = Some(number);
@@ -148,7 +148,7 @@ impl History {
         self.notes.requests.insert(v, request);
     }
 
-    /// (rule H2) `reply v`, `refuse v`: the open request on port v - 1 is closed.
+    /// (rule H2) `answer v x`: the request that is open on port v - 1 is closed.
     fn note_answered(&mut self, v: u32) {
         let port = v.saturating_sub(1);
         let on_port = |q: &&u32| self.notes.requests.get(q).is_some_and(|r| r.port == port);

@@ -29,7 +29,7 @@ pub fn tests(tables: &Tables, call: &Call) -> Tests {
 }
 
 /// What decides the answer, by the rule's name: the one ground of the lowest number that
-/// applies (`hold-12`, or `reply-14b` for the second of two), or that none does
+/// applies (`hold-12`, or `answer-14b` for the second of two), or that none does
 /// (`hold-ok`). None if two grounds of that number apply.
 pub fn decided_by(tables: &Tables, call: &Call) -> Option<String> {
     let tests = tests(tables, call);
@@ -57,7 +57,8 @@ fn input_tests(tables: &Tables, call: &Call) -> Tests {
     ]
 }
 
-/// (rule F4) Rows and requests are 1 to 4,294,967,294, but for `go 0`.
+/// (rule F4) Rows and requests are 1 to 4,294,967,294, but for `go 0`; the last number of
+/// `answer` is 0 or 1.
 fn out_of_range(call: &Call) -> bool {
     let caller = |p: u32| (1..=PROCESSES).contains(&p);
     let number = |n: u32| (1..=LAST_NUMBER).contains(&n);
@@ -75,6 +76,11 @@ fn out_of_range(call: &Call) -> bool {
             let item = |i: &Item| number(i.row) && i.rights <= ALL_RIGHTS;
             caller(*p) && number(*client) && items.iter().all(item)
         }
+        Call::Answer {
+            caller: p,
+            end,
+            last,
+        } => caller(*p) && number(*end) && *last <= 1,
         Call::Comes { row, request } => number(*row) && number(*request),
     };
     !in_range
@@ -99,6 +105,7 @@ fn state_tests(tables: &Tables, call: &Call) -> Tests {
             client,
             items,
         } => ask(tables, *caller, *client, items),
+        Call::Answer { caller, end, last } => answer(tables, *caller, *end, *last),
         Call::Comes { row, request } => comes(tables, *row, *request),
     }
 }
@@ -112,8 +119,6 @@ fn one_number(tables: &Tables, caller: u32, word: Word, number: u32) -> Tests {
         Word::Port => port,
         Word::Close => close,
         Word::Fetch => fetch,
-        Word::Reply => reply,
-        Word::Refuse => refuse,
         Word::Revoke => revoke,
     };
     test(tables, caller, number)
@@ -241,7 +246,7 @@ fn lendable(row: &Row, rights: u32) -> bool {
     transfer && row.permits(rights)
 }
 
-/// (rules ask-10c, reply-10) An end of a port with an open request.
+/// (rules ask-10c, answer-10) An end of a port with an open request.
 fn port_busy(tables: &Tables, row: &Row) -> bool {
     row.port()
         .is_some_and(|port| request_on(tables, port).is_some())
@@ -263,7 +268,9 @@ fn fetch(tables: &Tables, caller: u32, v: u32) -> Tests {
     ]
 }
 
-fn reply(tables: &Tables, caller: u32, v: u32) -> Tests {
+/// Both last numbers want an open request; 1 wants it fetched too, and its ends here and at rest.
+fn answer(tables: &Tables, caller: u32, v: u32, last: u32) -> Tests {
+    let served = last == 1;
     let row = look_up(tables, caller, v);
     let request = server(tables, row);
     let ends: Vec<&Row> = request
@@ -271,29 +278,22 @@ fn reply(tables: &Tables, caller: u32, v: u32) -> Tests {
         .flat_map(|q| listed_ends(tables, q))
         .collect();
     let not_here = |r: &&Row| !r.in_c_list_of(caller);
+    let newer = request.is_some_and(|q| lent_on(tables, q, &ends));
     vec![
         (7, row.is_none()),
         (8, row.is_some_and(|r| r.kind != Kind::Server)),
-        (10, ends.iter().any(|r| port_busy(tables, r))),
-        (11, request.is_none_or(|q| q.fetched != 1)),
-        (14, ends.iter().any(not_here)),
-        (14, request.is_some_and(|q| lent_on(tables, q, &ends))),
+        (10, served && ends.iter().any(|r| port_busy(tables, r))),
+        (11, request.is_none()),
+        (11, served && request.is_some_and(|q| q.fetched != 1)),
+        (14, served && ends.iter().any(not_here)),
+        (14, served && newer),
     ]
 }
 
-/// (rule reply-14b) Listed by a newer request.
+/// (rule answer-14b) Listed by a newer request.
 fn lent_on(tables: &Tables, request: &Request, ends: &[&Row]) -> bool {
     let mut newer = tables.requests.iter().filter(|q| q.number > request.number);
     newer.any(|q| ends.iter().any(|r| q.lists(r.number)))
-}
-
-fn refuse(tables: &Tables, caller: u32, v: u32) -> Tests {
-    let row = look_up(tables, caller, v);
-    vec![
-        (7, row.is_none()),
-        (8, row.is_some_and(|r| r.kind != Kind::Server)),
-        (11, server(tables, row).is_none()),
-    ]
 }
 
 fn revoke(tables: &Tables, caller: u32, q: u32) -> Tests {

@@ -40,6 +40,7 @@ fn word(call: &Call) -> String {
     match call {
         Call::One { word, .. } => format!("{word:?}"),
         Call::Ask { items, .. } => format!("Ask {}", items.len().min(5)),
+        Call::Answer { last, .. } => format!("Answer {}", last.min(&2)),
         Call::Comes { .. } => "Comes".to_string(),
     }
 }

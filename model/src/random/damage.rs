@@ -1,5 +1,5 @@
 //! Damaged texts: bytes flipped, cut out, doubled or added, lines made too
-//! long, numbers made odd.
+//! long, numbers made odd; lines that are nearly an answer.
 
 use super::prng::Rng;
 
@@ -29,6 +29,33 @@ const NUMBERS: [&str; 20] = [
     "-1",
     "99999999999999999999999999999999999999999999",
 ];
+
+/// The words and last parts of answers that are none: the last number missing, doubled,
+/// bracketed or odd, the words that answers had before.
+const ANSWERS: [(&str, &str); 16] = [
+    ("answer", ""),
+    ("answer", " "),
+    ("answer", " 00"),
+    ("answer", " 01"),
+    ("answer", " 1 1"),
+    ("answer", " 1 0 1"),
+    ("answer", " (1)"),
+    ("answer", " (1 0)"),
+    ("answer", " one"),
+    ("answer", "  1"),
+    ("answer", " 4294967297"),
+    ("Answer", " 1"),
+    ("reply", ""),
+    ("refuse", ""),
+    ("reply", " 1"),
+    ("refuse", " 0"),
+];
+
+/// A line that is nearly an answer of this caller at this end.
+pub fn garbled_answer(rng: &mut Rng, caller: u32, end: u32) -> Vec<u8> {
+    let (word, last) = rng.pick(&ANSWERS).unwrap_or(("answer", ""));
+    format!("({caller} {word} {end}{last})\n").into_bytes()
+}
 
 /// The text damaged once to three times.
 pub fn damage(rng: &mut Rng, text: &[u8]) -> Vec<u8> {

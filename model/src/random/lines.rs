@@ -1,6 +1,6 @@
 //! Random call lines, made by looking at the tables: most are accepted.
 
-use super::damage::damage;
+use super::damage::{damage, garbled_answer};
 use super::prng::Rng;
 use super::profile::Profile;
 use crate::call::{Call, Item, Word, WORDS};
@@ -9,11 +9,12 @@ use crate::refusals::refusal;
 use crate::relations::{on_loan, request_on};
 use crate::tables::{Kind, Place, Request, Row, Tables};
 
-/// What is proposed: a word with one number, an ask or a comes.
+/// What is proposed: a word with one number, an ask, an answer with its last number or a comes.
 #[derive(Clone, Copy)]
 enum Plan {
     One(Word),
     Ask,
+    Answer(u32),
     Comes,
 }
 
@@ -26,11 +27,14 @@ const PLANS: [Plan; 12] = [
     Plan::One(Word::Close),
     Plan::Ask,
     Plan::One(Word::Fetch),
-    Plan::One(Word::Reply),
-    Plan::One(Word::Refuse),
+    Plan::Answer(1),
+    Plan::Answer(0),
     Plan::One(Word::Revoke),
     Plan::Comes,
 ];
+
+/// Last numbers of an answer that are out of range.
+const ODD_LAST: [u32; 6] = [2, 3, 10, 256, LAST_NUMBER, u32::MAX];
 
 /// How likely each plan is, in the order of `PLANS`.
 fn weights(profile: Profile, tables: &Tables) -> [u32; 12] {
@@ -58,6 +62,10 @@ pub fn line(rng: &mut Rng, profile: Profile, tables: &Tables) -> Vec<u8> {
         0..=1 => {
             let line = maker.propose().print();
             damage(maker.rng, &line)
+        }
+        2 if maker.rng.percent(50) => {
+            let (caller, end) = maker.answerer(1);
+            garbled_answer(maker.rng, caller, end)
         }
         2..=5 => maker.careless().print(),
         6..=20 => maker.propose().print(),
@@ -117,6 +125,11 @@ impl<'a> Maker<'a> {
                 client: self.any_number(),
                 items: self.careless_items(),
             },
+            5 => Call::Answer {
+                caller,
+                end: self.any_number(),
+                last: self.any_last(),
+            },
             _ => Call::One {
                 caller,
                 word: self.rng.pick(&WORDS).map_or(Word::Go, |(_, word)| word),
@@ -133,6 +146,13 @@ impl<'a> Maker<'a> {
             rights: self.rng.pick(&rights).unwrap_or(0),
         };
         (0..count).map(item).collect()
+    }
+
+    fn any_last(&mut self) -> u32 {
+        match self.rng.percent(20) {
+            true => self.rng.pick(&ODD_LAST).unwrap_or(2),
+            false => self.rng.between(0, 1),
+        }
     }
 
     fn any_number(&mut self) -> u32 {
@@ -158,6 +178,12 @@ impl<'a> Maker<'a> {
         match PLANS[self.rng.weighted(&weights)] {
             Plan::One(word) => self.propose_word(word),
             Plan::Ask => self.propose_ask(),
+            Plan::Answer(last) => {
+                let (caller, end) = self.answerer(last);
+                let any = self.near && self.rng.percent(30);
+                let last = if any { self.any_last() } else { last };
+                Call::Answer { caller, end, last }
+            }
             Plan::Comes => {
                 let rows: Vec<&Row> = self.tables.rows.iter().collect();
                 let row = match self.near && self.rng.percent(30) {
@@ -180,8 +206,6 @@ impl<'a> Maker<'a> {
             Word::Port => self.held(|r| r.kind == Kind::Operation),
             Word::Close => self.held(|r| r.kind == Kind::Client),
             Word::Fetch => self.server_of(|q| q.fetched == 0),
-            Word::Reply => self.server_of(|q| q.fetched == 1),
-            Word::Refuse => self.server_of(|_| true),
             Word::Revoke => {
                 let request = self.some_request(|_| true);
                 request.map(|q| (q.asker, q.number))
@@ -235,6 +259,12 @@ impl<'a> Maker<'a> {
         let request = self.some_request(|q| near || test(q))?;
         let server = self.tables.row(request.port.checked_add(1)?)?;
         Some((holder(server)?, server.number))
+    }
+
+    /// Who may answer with this last number, and the server end.
+    fn answerer(&mut self, last: u32) -> (u32, u32) {
+        let found = self.server_of(|q| last == 0 || q.fetched == 1);
+        found.unwrap_or_else(|| (self.some_process(), 1))
     }
 
     fn propose_ask(&mut self) -> Call {
