@@ -204,10 +204,7 @@ fn compared(entry: &Entry, tables: &Tables, counts: &mut [u32; 19]) {
         };
         let line = |last: u32| format!("({caller} answer {} {last})", row.number);
         let (with_1, with_0) = (line(1), line(0));
-        let (served, declined) = (
-            called(entry, &lent, &with_1),
-            called(entry, &lent, &with_0),
-        );
+        let (served, declined) = (called(entry, &lent, &with_1), called(entry, &lent, &with_0));
         let refusal = served.0.strip_prefix("(no ").map_or(0, |rest| {
             let digits = rest.trim_end_matches(")\n");
             digits.parse().expect("a refusal")

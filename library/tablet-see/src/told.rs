@@ -27,7 +27,7 @@ pub fn told(step: &Step, gone: &Gone) -> Vec<String> {
 
 /// What an accepted call changed.
 fn accepted(step: &Step) -> Vec<String> {
-    let told = changes(&step.before, &step.after);
+    let told = changes(step);
     if told.is_empty() {
         return vec!["nothing is changed".to_string()];
     }
@@ -84,8 +84,10 @@ pub enum Part {
 }
 
 /// What is different after a call that was accepted.
-pub fn changes(before: &State, after: &State) -> Vec<(Part, String)> {
+pub fn changes(step: &Step) -> Vec<(Part, String)> {
+    let (before, after) = (&step.before, &step.after);
     let change = change(before, after);
+    let answered = answered(step);
     let moves = if change.closed.is_empty() {
         Part::Moved
     } else {
@@ -103,7 +105,10 @@ pub fn changes(before: &State, after: &State) -> Vec<(Part, String)> {
         Part::Moved,
         &mut change.fetched.iter().map(|q| fetched(after, q)),
     );
-    tell(Part::Closed, &mut change.closed.iter().map(closed));
+    tell(
+        Part::Closed,
+        &mut change.closed.iter().map(|q| closed(q, answered.as_ref())),
+    );
     tell(
         Part::Made,
         &mut change.made.iter().filter_map(|row| made(after, row)),
@@ -149,9 +154,32 @@ fn fetched(state: &State, q: &Request) -> String {
     )
 }
 
-fn closed(q: &Request) -> String {
+/// The port whose request a call answered, and what the server did.
+struct Answered {
+    port: u32,
+    told: String,
+}
+
+fn answered(step: &Step) -> Option<Answered> {
+    let Ok(Call::Answer { caller, end, last }) = read_call(&step.line) else {
+        return None;
+    };
+    let port = step.before.row(end.value)?.port()?;
+    let did = if last.value == 1 {
+        "served"
+    } else {
+        "declined"
+    };
+    let told = format!(": process {} {did} it", caller.value);
+    Some(Answered { port, told })
+}
+
+/// Of the request that was answered, whether it was served or declined.
+fn closed(q: &Request, answered: Option<&Answered>) -> String {
+    let answered = answered.filter(|a| a.port == q.port);
+    let told = answered.map_or("", |a| a.told.as_str());
     format!(
-        "request {} of process {} on port {} is closed",
+        "request {} of process {} on port {} is closed{told}",
         q.number, q.asker, q.port
     )
 }
