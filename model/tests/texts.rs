@@ -116,7 +116,10 @@ const REFUSED_LINES: [(u32, &str); 6] = [
         (comes 1 1 1)|(1 go)|(1 go 0 0)|(1 ask)|(1 ask 5 5)|(1 ask 5 (5))|\
         (1 ask 5 (5 1 1))|(1 ask (5 1))|(1 hold (1))|(1 fly 1)|(01 go 0)|(1 go 00)|\
         (1 go -1)|(1 go 0)\r|(99 ask 99999999 (1 9) (1 9) x)|(1 ask 5 (5 1)(6 1))|\
-        (1 ask 5 (5 1) )|go|(process 1 1)|(node 1)|(1 goo 0)|(1 g 0)",
+        (1 ask 5 (5 1) )|go|(process 1 1)|(node 1)|(1 goo 0)|(1 g 0)|(1 answer)|(1 answer 1)|\
+        (1 answer 1 1 1)|(1 answer 1 (1))|(1 answer 1 (1 0))|(1 answer (1 1))|(1 answer 1 01)|\
+        (1 answer 1 1 )|(1 answer 1  1)|(answer 1 1)|(1 Answer 1 1)|(1 reply 1)|(1 refuse 1)|\
+        (1 reply 1 1)|(1 refuse 1 0)|(65 answer 1 01)",
     ),
     (
         3,
@@ -124,7 +127,8 @@ const REFUSED_LINES: [(u32, &str); 6] = [
         (1 hold 4294967296)|(1 hold 4294967297)|(1 go 42949672950)|\
         (1 go 18446744073709551616)|(comes 0 1)|(comes 1 0)|(comes 4294967295 1)|(1 ask 0)|\
         (1 ask 5 (0 1))|(1 ask 5 (1 8))|(2 ask 5 (1 8) (1 8))|(1 revoke 0)|\
-        (1 ask 5 (1 0) (1 0) (1 0) (1 0) (1 9))",
+        (1 ask 5 (1 0) (1 0) (1 0) (1 0) (1 9))|(1 answer 1 2)|(2 answer 1 2)|(1 answer 0 1)|\
+        (1 answer 1 4294967295)|(1 answer 1 4294967297)|(1 answer 4294967295 0)|(65 answer 1 1)",
     ),
     (
         4,
@@ -133,13 +137,14 @@ const REFUSED_LINES: [(u32, &str); 6] = [
     ),
     (
         5,
-        "(2 go 0)|(2 go 9)|(64 hold 1)|(2 ask 1 (1 0) (2 0) (3 0) (4 0) (5 0))",
+        "(2 go 0)|(2 go 9)|(64 hold 1)|(2 ask 1 (1 0) (2 0) (3 0) (4 0) (5 0))|\
+        (2 answer 1 0)|(2 answer 1 1)",
     ),
     (6, "(1 ask 1 (1 0) (2 0) (3 0) (4 0) (5 0))"),
     (
         7,
         "(1 go 4294967294)|(1 go 4294967290)|(1 go 1000001)|(1 go 1)|(comes 1 1)|\
-        (1 hold 2)|(1 revoke 1)|(1 ask 1 (1 0) (2 0) (3 0) (4 0))",
+        (1 hold 2)|(1 revoke 1)|(1 ask 1 (1 0) (2 0) (3 0) (4 0))|(1 answer 1 0)|(1 answer 1 1)",
     ),
 ];
 
@@ -237,7 +242,7 @@ fn forms_have_one_spelling() {
 #[test]
 fn any_bytes() {
     let mut rng = Rng::new(43);
-    let alphabet = b"(( )) \n\n0123456789 node process open op dir go hold ask comes";
+    let alphabet = b"(( )) \n\n0123456789 node process open op dir go hold ask answer comes";
     for round in 0..20_000 {
         let length = rng.below(80);
         let byte = |_| match round % 2 {

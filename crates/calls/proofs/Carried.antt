@@ -13,7 +13,7 @@ use Rattle.rows.specs.contracts.Sizes.{IsTables, IsRecords}
 use Rattle.calls.specs.declared.Answer.the-variants.{Refused}
 use Rattle.calls.specs.declared.Answer.{Answer}
 use Rattle.calls.specs.declared.Call.{Call}
-use Rattle.calls.specs.declared.Call.the-variants.{Go, Hold, Register, Drop, Port, Close, Ask, Fetch, Reply, Refuse, Revoke, Comes}
+use Rattle.calls.specs.declared.Call.the-variants.{Go, Hold, Register, Drop, Port, Close, Ask, Fetch, Revoke, Comes}
 use Rattle.calls.specs.Rules.{Out, lowest, refused, judge}
 use Rattle.calls.specs.Calls.{refusals, done, made, fetchedAnswer, effect, perform}
 use Rattle.calls.specs.contracts.Performs.{Agrees, RunsAfter, Performs, StaysIfRefused}
@@ -29,8 +29,7 @@ effect-accepts st (Port p e) k h = let z : _≡_ {A = ℕ} 0 1 = cc in omega ari
 effect-accepts st (Close p c) k h = let z : _≡_ {A = ℕ} 0 1 = cc in omega arith
 effect-accepts st (Ask p c is) k h = let z : _≡_ {A = ℕ} 0 1 = cc in omega arith
 effect-accepts st (Fetch p e) k h = let z : _≡_ {A = ℕ} 0 1 = cc in omega arith
-effect-accepts st (Reply p e) k h = let z : _≡_ {A = ℕ} 0 1 = cc in omega arith
-effect-accepts st (Refuse p e) k h = let z : _≡_ {A = ℕ} 0 1 = cc in omega arith
+effect-accepts st (Call.Answer p e served) k h = let z : _≡_ {A = ℕ} 0 1 = cc in omega arith
 effect-accepts st (Revoke p q) k h = let z : _≡_ {A = ℕ} 0 1 = cc in omega arith
 effect-accepts st (Comes e q) k h = let z : _≡_ {A = ℕ} 0 1 = cc in omega arith
 

@@ -18,7 +18,8 @@ use Rattle.tables.proofs.SoundFacts.{row-object, manager-listed, listed-range}
 use Rattle.rows.specs.contracts.Represents.{laidWell, Represents}
 use Rattle.calls.specs.declared.Items.{Items}
 use Rattle.calls.specs.declared.Answer.the-variants.{Done, Made, Fetched, Told}
-use Rattle.calls.specs.declared.Call.the-variants.{Go, Hold, Register, Drop, Port, Close, Ask, Fetch, Reply, Refuse, Revoke, Comes}
+use Rattle.calls.specs.declared.Call.{Call}
+use Rattle.calls.specs.declared.Call.the-variants.{Go, Hold, Register, Drop, Port, Close, Ask, Fetch, Revoke, Comes}
 use Rattle.closing.specs.Closing.{closeRequest, closePort, dropRow}
 use Rattle.calls.specs.Loans.{itemsOf, withRequest, handedOver}
 use Rattle.calls.specs.Rules.{askedOf, withRecord, withNewRows}
@@ -97,17 +98,10 @@ module _ {after : List ℕ} (st : State) (p e : ℕ) (r : List Process) where
   revoked h = record { answer = refl; words = h .0; records = h .1 }
 
   -- the request that the server sees at its end e
-  pub refused-request : (q : ℕ) → q ≡ askedOf st e .number → Represents after (closeRequest q st) × (r ≡ closeRequest q st .processes)
-      → Agrees after r Done (effect st (Refuse p e))
+  pub answered-request : (served : Bool) (q : ℕ) → q ≡ askedOf st e .number → Represents after (closeRequest q st) × (r ≡ closeRequest q st .processes)
+      → Agrees after r Done (effect st (Call.Answer p e served))
   unfolding effect done
-  refused-request q same h =
-      let h′ = subst (λ (n : ℕ). Represents after (closeRequest n st) × (r ≡ closeRequest n st .processes)) same h in
-      record { answer = refl; words = h′ .0; records = h′ .1 }
-
-  pub replied-request : (q : ℕ) → q ≡ askedOf st e .number → Represents after (closeRequest q st) × (r ≡ closeRequest q st .processes)
-      → Agrees after r Done (effect st (Reply p e))
-  unfolding effect done
-  replied-request q same h =
+  answered-request served q same h =
       let h′ = subst (λ (n : ℕ). Represents after (closeRequest n st) × (r ≡ closeRequest n st .processes)) same h in
       record { answer = refl; words = h′ .0; records = h′ .1 }
 

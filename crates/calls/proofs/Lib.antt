@@ -17,8 +17,8 @@ pub mod Effected
 pub mod Used
 -- tests of several items joined
 pub mod Joined
--- the ends that a request lists: busy, away; the tests of reply
-pub mod Replied
+-- the ends that a request lists: busy, away; the tests of answer
+pub mod LentEnds
 -- items lent one after the other: slots kept, an end, a copy, all items
 pub mod Lent
 -- the items of an ask with their rows looked up; the tests of ask

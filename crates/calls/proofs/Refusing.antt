@@ -20,7 +20,7 @@ use Rattle.rows.proofs.Bools.{pos-some}
 use Rattle.rows.proofs.Keyed.{rises-range}
 use Rattle.rows.proofs.Slots.{represented-well, row-found, row-absent, request-found, request-absent, open-absent}
 use Rattle.calls.specs.Rules.{Test, _when_, lowest, notHeld, askedOf, tooDeep, rowsFull, numbersSpent}
-use Rattle.calls.specs.Calls.{refusalsGo, refusalsHold, heldDepth, refusalsRegister, registeredDepth, refusalsPort, portDepth, inUse, refusalsDrop, refusalsClose, refusalsFetch, refusalsRefuse, refusalsRevoke, refusalsComes}
+use Rattle.calls.specs.Calls.{refusalsGo, refusalsHold, heldDepth, refusalsRegister, registeredDepth, refusalsPort, portDepth, inUse, refusalsDrop, refusalsClose, refusalsFetch, refusalsRevoke, refusalsComes}
 use Rattle.calls.proofs.Handed.{open-number}
 
 -- ---- room for k rows of depth d
@@ -167,10 +167,6 @@ module _ (st : State) (e : ℕ) where
         ≡ cond (not (isServer (rowOf (st .rows) e .kind))) 8 (cond (eqb (askedOf st e .number) 0 || isFetched (askedOf st e)) 11 0)
     unfolding refusalsFetch lowest
     fetch-rest = rw h refl
-
-    pub refuse-rest : lowest (refusalsRefuse st p e) ≡ cond (not (isServer (rowOf (st .rows) e .kind))) 8 (cond (eqb (askedOf st e .number) 0) 11 0)
-    unfolding refusalsRefuse lowest
-    refuse-rest = rw h refl
 
 -- ---- the kind in the words of a slot
 pub no-server : (k : ℕ) → (k ≡ 4 → ⊥) → not (isServer k) ≡ true

@@ -1,4 +1,4 @@
--- The twelve calls on a state (docs/MANUAL.md, chapter 4). Of each the refusals 7 to 18, the lowest first; then, in one table, what each does where nothing refuses it.
+-- The eleven calls on a state (docs/MANUAL.md, chapter 4). Of each the refusals 7 to 18, the lowest first; then, in one table, what each does where nothing refuses it.
 use Prim.Native.Nat.{ℕ, suc}
 use mathlib.Core.Bool.{Bool, not, _&&_, _||_}
 use mathlib.Core.List.{List, [], _∷_}
@@ -14,7 +14,7 @@ use Rattle.rows.specs.Sound.{isFetched}
 use Rattle.closing.specs.Closing.{closeRequest, closePort, dropRow}
 use Rattle.calls.specs.declared.Item.{Item}
 use Rattle.calls.specs.declared.Call.{Call}
-use Rattle.calls.specs.declared.Call.the-variants.{Go, Hold, Register, Drop, Port, Close, Ask, Fetch, Reply, Refuse, Revoke, Comes}
+use Rattle.calls.specs.declared.Call.the-variants.{Go, Hold, Register, Drop, Port, Close, Ask, Fetch, Revoke, Comes}
 use Rattle.calls.specs.declared.Answer.{Answer}
 use Rattle.calls.specs.declared.Answer.the-variants.{Done, Made, Fetched, Told}
 use Rattle.calls.specs.Rules.{Out, Test, _when_, judge, notHeld, hasOpen, askedOf, tooDeep, rowsFull, requestsFull, numbersSpent, withNewRows, copyOf, withRecord}
@@ -204,39 +204,29 @@ refusalsFetch st p e =
     ∷ 11 when (eqb (v .number) 0 || isFetched v)
     ∷ []
 
--- ---- reply
--- (rules reply-10, reply-14a, reply-14b) the ends that a request still lists: they go back when it closes
+-- ---- answer
+-- (rules answer-10, answer-14a, answer-14b) the ends that a request still lists: they go back when it closes
 unfoldable pub lentEnds : State → Request → List ℕ
 lentEnds st v = filter (λ e. goesBack (rowOf (st .rows) e)) (nonzero (v .items))
 
--- (rules reply-14a, reply-14b) not in the caller's c-list, or listed by a newer request
+-- (rules answer-14a, answer-14b) not in the caller's c-list, or listed by a newer request
 unfoldable pub isAway : State → ℕ → Request → ℕ → Bool
 isAway st p v e = notHeld st p e || any (λ w. ltb (v .number) (w .number) && lists e w) (st .requests)
 
-unfoldable pub refusalsReply : State → ℕ → ℕ → List Test
-refusalsReply st p e =
+-- served: the last number is 1
+unfoldable pub refusalsAnswer : State → ℕ → ℕ → Bool → List Test
+refusalsAnswer st p e served =
     let v = askedOf st e in
-    -- (rule reply-7) e is not in the caller's c-list
+    -- (rule answer-7) e is not in the caller's c-list
     7 when notHeld st p e
-    -- (rule reply-8) e is not a server end
+    -- (rule answer-8) e is not a server end
     ∷ 8 when not (isServer (rowOf (st .rows) e .kind))
-    -- (rule reply-10) an end that the request still lists is of a port with an open request
-    ∷ 10 when any (λ x. hasOpen st (rowOf (st .rows) x .object)) (lentEnds st v)
-    -- (rules reply-11a, reply-11b) no request is open on the port, or it is not fetched
-    ∷ 11 when (eqb (v .number) 0 || not (isFetched v))
-    -- (rules reply-14a, reply-14b) an end that the request still lists is not in the caller's c-list, or a newer request lists it
-    ∷ 14 when any (isAway st p v) (lentEnds st v)
-    ∷ []
-
--- ---- refuse
-unfoldable pub refusalsRefuse : State → ℕ → ℕ → List Test
-refusalsRefuse st p e =
-    -- (rule refuse-7) e is not in the caller's c-list
-    7 when notHeld st p e
-    -- (rule refuse-8) e is not a server end
-    ∷ 8 when not (isServer (rowOf (st .rows) e .kind))
-    -- (rule refuse-11) no request is open on the port
-    ∷ 11 when eqb (askedOf st e .number) 0
+    -- (rule answer-10) with 1: an end that the request still lists is of a port with an open request
+    ∷ 10 when (served && any (λ x. hasOpen st (rowOf (st .rows) x .object)) (lentEnds st v))
+    -- (rules answer-11a, answer-11b) no request is open on the port, or with 1 it is not fetched
+    ∷ 11 when (eqb (v .number) 0 || (served && not (isFetched v)))
+    -- (rules answer-14a, answer-14b) with 1: an end that the request still lists is not in the caller's c-list, or a newer request lists it
+    ∷ 14 when (served && any (isAway st p v) (lentEnds st v))
     ∷ []
 
 -- ---- revoke
@@ -254,7 +244,7 @@ refusalsComes st e q =
     7 when (eqb (rowOf (st .rows) e .number) 0 || eqb (requestOf (st .requests) q .number) 0)
     ∷ []
 
--- ---- all twelve
+-- ---- all eleven
 -- (rule F8) the tests of a call, lowest number first
 unfoldable pub refusals : State → Call → List Test
 refusals st (Go p e) = refusalsGo st p e
@@ -265,8 +255,7 @@ refusals st (Port p e) = refusalsPort st p e
 refusals st (Close p c) = refusalsClose st p c
 refusals st (Ask p c is) = refusalsAsk st p c (itemsOf is)
 refusals st (Fetch p e) = refusalsFetch st p e
-refusals st (Reply p e) = refusalsReply st p e
-refusals st (Refuse p e) = refusalsRefuse st p e
+refusals st (Call.Answer p e served) = refusalsAnswer st p e served
 refusals st (Revoke p q) = refusalsRevoke st p q
 refusals st (Comes e q) = refusalsComes st e q
 
@@ -280,7 +269,7 @@ made n st = record { answer = Made n; after = st }
 unfoldable pub fetchedAnswer : Request → Answer
 fetchedAnswer v = let is = v .items in Fetched (v .number) (getD is 0 0) (getD is 1 0) (getD is 2 0) (getD is 3 0)
 
--- (rules go-ok, hold-ok, register-ok, drop-ok, port-ok, close-ok, ask-ok-4, fetch-ok, reply-ok, refuse-ok, revoke-ok, comes-ok)
+-- (rules go-ok, hold-ok, register-ok, drop-ok, port-ok, close-ok, ask-ok-4, fetch-ok, answer-ok, revoke-ok, comes-ok)
 -- what each answers and does where no test holds
 unfoldable pub effect : State → Call → Out
 effect st (Go p e) = done (if eqb e 0 then goHome st p else goThrough st p e)
@@ -291,8 +280,7 @@ effect st (Port p e) = made (st .next) (withPort st p e)
 effect st (Close p c) = done (closePort c st)
 effect st (Ask p c is) = made (st .next) (withRequest st p c (itemsOf is))
 effect st (Fetch p e) = let v = askedOf st e in record { answer = fetchedAnswer v; after = handedOver p v st }
-effect st (Reply p e) = done (closeRequest (askedOf st e .number) st)
-effect st (Refuse p e) = done (closeRequest (askedOf st e .number) st)
+effect st (Call.Answer p e served) = done (closeRequest (askedOf st e .number) st)
 effect st (Revoke p q) = done (closeRequest q st)
 effect st (Comes e q) = record { answer = Told (comesFrom (st .rows) q e); after = st }
 
@@ -310,7 +298,6 @@ callerOf (Port p e) = p
 callerOf (Close p c) = p
 callerOf (Ask p c is) = p
 callerOf (Fetch p e) = p
-callerOf (Reply p e) = p
-callerOf (Refuse p e) = p
+callerOf (Call.Answer p e served) = p
 callerOf (Revoke p q) = p
 callerOf (Comes e q) = 0

@@ -3,5 +3,5 @@ pub mod Lookups
 pub mod Effects
 pub mod Loans
 pub mod Performs
-pub mod Replies
+pub mod Answering
 pub mod Asks

@@ -13,7 +13,7 @@ pub struct Items {
     pub fourth: Item,
 }
 
-// A call: the caller's number, then the call's; comes has no caller.
+// A call: the caller's number, then the call's; comes has no caller. Of an answer: whether the request was served.
 pub enum Call {
     Go(u32, u32),
     Hold(u32, u32),
@@ -23,8 +23,7 @@ pub enum Call {
     Close(u32, u32),
     Ask(u32, u32, Items),
     Fetch(u32, u32),
-    Reply(u32, u32),
-    Refuse(u32, u32),
+    Answer(u32, u32, bool),
     Revoke(u32, u32),
     Comes(u32, u32),
 }
@@ -98,15 +97,15 @@ pub struct Loan {
     pub count: usize,
 }
 
+pub mod answering;
 pub mod ask;
 pub mod comes;
 pub mod directories;
 pub mod fetch;
 pub mod lend;
-pub mod loans;
 pub mod lookups;
 pub mod new_rows;
 pub mod perform;
 pub mod ports;
-pub mod reply;
+pub mod revoke;
 pub mod tests;

@@ -1,13 +1,13 @@
-// A call on the lent words: each of the twelve by its own function.
+// A call on the lent words: each of the eleven by its own function.
 use crate::Answer;
 use crate::Call;
+use crate::answering;
 use crate::ask;
 use crate::comes;
 use crate::directories;
 use crate::fetch;
-use crate::loans;
 use crate::ports;
-use crate::reply;
+use crate::revoke;
 ghost use Rattle.rows.specs.contracts.Sizes.{IsTables, IsRecords};
 ghost use Rattle.calls.specs.contracts.Performs.{CallerInRange, Performs, StaysIfRefused};
 
@@ -28,9 +28,8 @@ pub fn perform(t: &mut [u32], ps: &mut [u32], c: Call) -> Answer
         Call::Close(p, e) => ports::close(t, ps, p, e),
         Call::Ask(p, e, items) => ask::ask(t, p, e, items),
         Call::Fetch(p, e) => fetch::fetch(t, p, e),
-        Call::Reply(p, e) => reply::reply(t, ps, p, e),
-        Call::Refuse(p, e) => loans::refuse(t, ps, p, e),
-        Call::Revoke(p, q) => loans::revoke(t, ps, p, q),
+        Call::Answer(p, e, served) => answering::answer(t, ps, p, e, served),
+        Call::Revoke(p, q) => revoke::revoke(t, ps, p, q),
         Call::Comes(e, q) => comes::comes(t, e, q),
     }
 }

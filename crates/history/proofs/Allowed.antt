@@ -11,7 +11,7 @@ use Rattle.rows.proofs.Bools.{not-f, pos-some, all-mono}
 use Rattle.rows.proofs.Places.{between-range}
 use Rattle.tables.proofs.Sound.{Sound}
 use Rattle.calls.specs.declared.Call.{Call}
-use Rattle.calls.specs.declared.Call.the-variants.{Go, Hold, Register, Drop, Port, Close, Ask, Fetch, Reply, Refuse, Revoke, Comes}
+use Rattle.calls.specs.declared.Call.the-variants.{Go, Hold, Register, Drop, Port, Close, Ask, Fetch, Revoke, Comes}
 use Rattle.calls.specs.Rules.{Out, Test, _when_, isRefusal, refused}
 use Rattle.calls.specs.Loans.{itemsOf}
 use Rattle.calls.specs.Calls.{refusalsGo, refusalsHold, refusalsRegister, refusalsDrop, refusalsPort, refusalsClose, refusalsAsk, refusalsFetch, refusalsReply, refusalsRefuse, refusalsRevoke, refusalsComes, refusals, effect, perform, callerOf}
@@ -33,8 +33,7 @@ Allowed st (Port p e) = PortAllowed st p e
 Allowed st (Close p c) = CloseAllowed st p c
 Allowed st (Ask p c is) = AskAllowed st p c (itemsOf is)
 Allowed st (Fetch p e) = FetchAllowed st p e
-Allowed st (Reply p e) = ReplyAllowed st p e
-Allowed st (Refuse p e) = ServerAllowed st p e
+Allowed st (Call.Answer p e served) = ReplyAllowed st p e
 Allowed st (Revoke p q) = RevokeAllowed st p q
 Allowed st (Comes e q) = ComesAllowed st e q
 
@@ -55,8 +54,7 @@ allowed st s (Ask p c is) g l w =
     let named = all-mono (λ i. isNumber (i .row)) (λ i. some (i .row)) (λ i q. number-some (i .row) q) (itemsOf is) (g .rows) in
     ask-allowed st p c (itemsOf is) (caller-listed st p (g .caller) l) (g .few) named (g .rights) (g .apart) w
 allowed st s (Fetch p e) g l w = fetch-allowed st p e (caller-listed st p (g .caller) l) w
-allowed st s (Reply p e) g l w = reply-allowed st p e (caller-listed st p (g .caller) l) w
-allowed st s (Refuse p e) g l w = refuse-allowed st p e (caller-listed st p (g .caller) l) w
+allowed st s (Call.Answer p e served) g l w = reply-allowed st p e (caller-listed st p (g .caller) l) w
 allowed st s (Revoke p q) g l w = revoke-allowed st p q (caller-listed st p (g .caller) l) (number-some q (g .number)) w
 allowed st s (Comes e q) g l w = comes-allowed st e q w
 
@@ -79,8 +77,7 @@ all-numbered st (Port p e) = refl
 all-numbered st (Close p c) = refl
 all-numbered st (Ask p c is) = refl
 all-numbered st (Fetch p e) = refl
-all-numbered st (Reply p e) = refl
-all-numbered st (Refuse p e) = refl
+all-numbered st (Call.Answer p e served) = refl
 all-numbered st (Revoke p q) = refl
 all-numbered st (Comes e q) = refl
 

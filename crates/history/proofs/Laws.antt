@@ -24,7 +24,7 @@ use Rattle.closing.specs.Closing.{closing, closeRequest, closePort, dropRow, is
 use Rattle.closing.proofs.Lookups.{left-keys}
 use Rattle.calls.specs.declared.Item.{Item}
 use Rattle.calls.specs.declared.Call.{Call}
-use Rattle.calls.specs.declared.Call.the-variants.{Go, Hold, Register, Drop, Port, Close, Ask, Fetch, Reply, Refuse, Revoke, Comes}
+use Rattle.calls.specs.declared.Call.the-variants.{Go, Hold, Register, Drop, Port, Close, Ask, Fetch, Revoke, Comes}
 use Rattle.calls.specs.Rules.{Out, refused, askedOf, withNewRows, withRecord}
 use Rattle.calls.specs.Loans.{Lending, itemsOf, moves, toSystem, lendEnd, lendCopy, lendItem, lendItems, lent, withRequest, handedTo, handedOver}
 use Rattle.calls.specs.Calls.{done, made, goHome, goThrough, withHeld, withRegistered, withPort, effect}
@@ -130,8 +130,7 @@ module _ (st : State) (s : Sound st) (n : ℕ) (e : isNode (rowOf (st .rows) n .
   effect-stays (Close p d) a = port-stays d
   effect-stays (Ask p d is) a = lending-stays st d (st .next) n (itemsOf is) _ t
   effect-stays (Fetch p d) a = fetch-stays p (askedOf st d)
-  effect-stays (Reply p d) a = request-stays (askedOf st d .number) (a .serves .asked)
-  effect-stays (Refuse p d) a = request-stays (askedOf st d .number) (a .asked)
+  effect-stays (Call.Answer p d served) a = request-stays (askedOf st d .number) (a .serves .asked)
   effect-stays (Revoke p q) a = request-stays q (a .number)
   effect-stays (Comes d q) a = t
 

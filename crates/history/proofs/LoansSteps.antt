@@ -3,7 +3,7 @@ use mathlib.Core.Path.{refl, _∙_}
 use Rattle.rows.specs.Tables.{State}
 use Rattle.tables.proofs.Sound.{Sound}
 use Rattle.calls.specs.declared.Call.{Call}
-use Rattle.calls.specs.declared.Call.the-variants.{Go, Hold, Register, Drop, Port, Close, Ask, Fetch, Reply, Refuse, Revoke, Comes}
+use Rattle.calls.specs.declared.Call.the-variants.{Go, Hold, Register, Drop, Port, Close, Ask, Fetch, Revoke, Comes}
 use Rattle.calls.specs.Answers.{refusalOf, valuesOf}
 use Rattle.calls.specs.Rules.{askedOf}
 use Rattle.calls.specs.Loans.{itemsOf}
@@ -34,8 +34,7 @@ module _ (h : History) (st : State) (i : Inv h st) (l : Lends h st) (s : Sound s
   effect-lends (Close p c) a k = taken-done _ k (close-settles h st i l s c)
   effect-lends (Ask p c is) a k = taken-made _ _ k (λ j. calm _ _ j (asked-loans h st i l s p c (itemsOf is) (a .held)))
   effect-lends (Fetch p e) a k = taken _ _ refl refl k (λ i. calm _ _ i (handed-same st s p (askedOf st e) ∙ l .lends))
-  effect-lends (Reply p e) a k = taken-done _ k (request-settles h st i l s _ _)
-  effect-lends (Refuse p e) a k = taken-done _ k (request-settles h st i l s _ _)
+  effect-lends (Call.Answer p e served) a k = taken-done _ k (request-settles h st i l s _ _)
   effect-lends (Revoke p q) a k = taken-done _ k (request-settles h st i l s q q)
   effect-lends (Comes e q) a k = taken _ _ refl refl k (λ i. calm _ _ i (l .lends))
 

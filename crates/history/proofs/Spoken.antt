@@ -18,7 +18,7 @@ use Rattle.rows.proofs.Places.{between-range}
 use Rattle.tables.proofs.SoundFacts.{requests-below}
 use Rattle.calls.specs.declared.Answer.the-variants.{Fetched, Told}
 use Rattle.calls.specs.declared.Call.{Call}
-use Rattle.calls.specs.declared.Call.the-variants.{Go, Hold, Register, Drop, Port, Close, Ask, Fetch, Reply, Refuse, Revoke, Comes}
+use Rattle.calls.specs.declared.Call.the-variants.{Go, Hold, Register, Drop, Port, Close, Ask, Fetch, Revoke, Comes}
 use Rattle.calls.specs.Answers.{refusalOf, valuesOf}
 use Rattle.calls.specs.Rules.{Out, isRefusal, refused, askedOf}
 use Rattle.calls.specs.Loans.{itemsOf, copies}
@@ -105,8 +105,7 @@ effect-spoken st s (Port p e) a = next-spoken st 2 _ (omega arith) (numbers-room
 effect-spoken st s (Close p c) a = done-spoken st _
 effect-spoken st s (Ask p c is) a = next-spoken st (suc (length (copies st (itemsOf is)))) _ (omega arith) (a .numbers-room)
 effect-spoken st s (Fetch p e) a = fetched-spoken st (askedOf st e .number) _ _ _ _ _ (asked-ranged st s e)
-effect-spoken st s (Reply p e) a = done-spoken st _
-effect-spoken st s (Refuse p e) a = done-spoken st _
+effect-spoken st s (Call.Answer p e served) a = done-spoken st _
 effect-spoken st s (Revoke p q) a = done-spoken st _
 effect-spoken st s (Comes e q) a = told-spoken st _ _
 

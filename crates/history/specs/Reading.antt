@@ -7,7 +7,7 @@ use Rattle.rows.specs.Lists.{if_then_else_, filter, some}
 use Rattle.calls.specs.declared.Item.{Item}
 use Rattle.calls.specs.declared.Items.{Items}
 use Rattle.calls.specs.declared.Call.{Call}
-use Rattle.calls.specs.declared.Call.the-variants.{Go, Hold, Register, Drop, Port, Close, Ask, Fetch, Reply, Refuse, Revoke, Comes}
+use Rattle.calls.specs.declared.Call.the-variants.{Go, Hold, Register, Drop, Port, Close, Ask, Fetch, Revoke, Comes}
 use Rattle.text.specs.declared.Read.{Read}
 use Rattle.text.specs.declared.Reading.{Reading}
 use Rattle.text.specs.declared.Reading.the-variants.{Asks, Crowded, Refused}
@@ -65,8 +65,7 @@ noteCall (Port p e) n h = notePort e n h
 noteCall (Close p c) n h = noteClose c h
 noteCall (Ask p c is) n h = noteAsk p c (itemsNamed is) n h
 noteCall (Fetch p v) n h = h
-noteCall (Reply p v) n h = noteEnd v h
-noteCall (Refuse p v) n h = noteEnd v h
+noteCall (Call.Answer p v served) n h = noteEnd v h
 noteCall (Revoke p q) n h = noteRevoke q h
 noteCall (Comes e q) n h = h
 

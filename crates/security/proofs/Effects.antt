@@ -23,7 +23,7 @@ use Rattle.closing.proofs.Lookups.{oldest-none}
 use Rattle.closing.specs.Closing.{listedIn, settled, closing, closeRequest, closePort, dropRow}
 use Rattle.calls.specs.declared.Items.{Items}
 use Rattle.calls.specs.declared.Call.{Call}
-use Rattle.calls.specs.declared.Call.the-variants.{Go, Hold, Register, Drop, Port, Close, Ask, Fetch, Reply, Refuse, Revoke, Comes}
+use Rattle.calls.specs.declared.Call.the-variants.{Go, Hold, Register, Drop, Port, Close, Ask, Fetch, Revoke, Comes}
 use Rattle.calls.specs.Rules.{askedOf, withNewRows, copyOf, withRecord}
 use Rattle.calls.specs.Loans.{itemsOf, handedOver}
 use Rattle.calls.specs.Calls.{heldDepth, registeredDepth, portDepth, portEnd, inUse, done, made, goHome, goThrough, withHeld, withRegistered, withPort, effect}
@@ -185,7 +185,6 @@ effect-of st s (Port p e) a = adds (Port p e) _ (suc (suc (st .next))) (makes p 
 effect-of st s (Close p c) a = shuts-off (Close p c) _ _ (port-closes st s p c (a .client)) (close-plain st s p c)
 effect-of st s (Ask p c is) a = subst (Effect st (Ask p c is)) (sym (closed-form st p c (itemsOf is))) (asks p c is a)
 effect-of st s (Fetch p e) a = fetches p e a
-effect-of st s (Reply p e) a = shuts-off (Reply p e) _ _ (request-closes st s (Reply p e) (askedOf st e .number) (a .serves .asked) refl (λ r. refl)) (reply-plain st p e)
-effect-of st s (Refuse p e) a = shuts-off (Refuse p e) _ _ (request-closes st s (Refuse p e) (askedOf st e .number) (a .asked) refl (λ r. refl)) (refuse-plain st p e)
+effect-of st s (Call.Answer p e served) a = shuts-off (Call.Answer p e served) _ _ (request-closes st s (Call.Answer p e served) (askedOf st e .number) (a .serves .asked) refl (λ r. refl)) (reply-plain st p e)
 effect-of st s (Revoke p q) a = revoke-effect st s p q (a .number)
 effect-of st s (Comes e q) a = tells e q

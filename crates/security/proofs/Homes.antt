@@ -23,7 +23,7 @@ use Rattle.tables.proofs.SoundFacts.{row-below, next-some}
 use Rattle.calls.specs.declared.Item.{Item}
 use Rattle.calls.specs.declared.Items.{Items}
 use Rattle.calls.specs.declared.Call.{Call}
-use Rattle.calls.specs.declared.Call.the-variants.{Go, Hold, Register, Drop, Port, Close, Ask, Fetch, Reply, Refuse, Revoke, Comes}
+use Rattle.calls.specs.declared.Call.the-variants.{Go, Hold, Register, Drop, Port, Close, Ask, Fetch, Revoke, Comes}
 use Rattle.calls.specs.Answers.{valuesOf}
 use Rattle.calls.specs.Rules.{notHeld, withNewRows, withRecord, copyOf}
 use Rattle.calls.specs.Loans.{itemsOf, itemRow, moves, copies, copyLent}
@@ -240,8 +240,7 @@ unnoted fs h st (Port p e) n hs z = absurd (omega arith)
 unnoted fs h st (Close p e) n hs z = refl
 unnoted fs h st (Ask p c is) n hs z = absurd (omega arith)
 unnoted fs h st (Fetch p e) n hs z = refl
-unnoted fs h st (Reply p e) n hs z = refl
-unnoted fs h st (Refuse p e) n hs z = refl
+unnoted fs h st (Call.Answer p e served) n hs z = refl
 unnoted fs h st (Revoke p e) n hs z = refl
 unnoted fs h st (Comes e q) n hs z = refl
 

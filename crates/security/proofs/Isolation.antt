@@ -26,7 +26,7 @@ use Rattle.closing.proofs.Facts.{request-number}
 use Rattle.calls.specs.declared.Item.{Item}
 use Rattle.calls.specs.declared.Items.{Items}
 use Rattle.calls.specs.declared.Call.{Call}
-use Rattle.calls.specs.declared.Call.the-variants.{Go, Hold, Register, Drop, Port, Close, Ask, Fetch, Reply, Refuse, Revoke, Comes}
+use Rattle.calls.specs.declared.Call.the-variants.{Go, Hold, Register, Drop, Port, Close, Ask, Fetch, Revoke, Comes}
 use Rattle.calls.specs.declared.Answer.the-variants.{Fetched}
 use Rattle.calls.specs.Answers.{refusalOf}
 use Rattle.calls.specs.Rules.{_when_, lowest, refused, judge, notHeld, hasOpen, askedOf, tooDeep}
@@ -397,8 +397,7 @@ module _ (st st′ : State) (s : Sound st) (s′ : Sound st′) (p : ℕ) (same 
   by-call l lo (Close q e) z = subst (λ k. Alikes (Close k e)) (sym z) (close-alike e)
   by-call l lo (Ask q c is) z = subst (λ k. Alikes (Ask k c is)) (sym z) (ask-alike c is)
   by-call l lo (Fetch q e) z = subst (λ k. Alikes (Fetch k e)) (sym z) (fetch-alike e)
-  by-call l lo (Reply q e) z = subst (λ k. Alikes (Reply k e)) (sym z) (reply-alike e)
-  by-call l lo (Refuse q e) z = subst (λ k. Alikes (Refuse k e)) (sym z) (refuse-alike e)
+  by-call l lo (Call.Answer q e served) z = subst (λ k. Alikes (Call.Answer k e served)) (sym z) (reply-alike e)
   by-call l lo (Revoke q e) z = subst (λ k. Alikes (Revoke k e)) (sym z) (revoke-alike e)
   by-call l lo (Comes e q) z = absurd (omega arith)
 

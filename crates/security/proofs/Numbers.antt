@@ -21,7 +21,7 @@ use Rattle.tables.proofs.Standing.{standing-shape}
 use Rattle.closing.proofs.Facts.{copy-listed, lists-open}
 use Rattle.calls.specs.declared.Answer.the-variants.{Made}
 use Rattle.calls.specs.declared.Call.{Call}
-use Rattle.calls.specs.declared.Call.the-variants.{Go, Hold, Register, Drop, Port, Close, Ask, Fetch, Reply, Refuse, Revoke, Comes}
+use Rattle.calls.specs.declared.Call.the-variants.{Go, Hold, Register, Drop, Port, Close, Ask, Fetch, Revoke, Comes}
 use Rattle.calls.specs.Rules.{Out, refused, withNewRows, copyOf}
 use Rattle.calls.specs.Loans.{itemsOf, copies, newRequest}
 use Rattle.calls.specs.Calls.{portEnd, done, made, fetchedAnswer, effect}
@@ -177,8 +177,7 @@ module _ (st : State) (s : Sound st) where
   effect-answers (Close p c) a n k = done-made _ n k
   effect-answers (Ask p c is) a n k = next-made (Ask p c is) a (omega arith) n k
   effect-answers (Fetch p e) a n k = absurd (let z : _≡_ {A = ℕ} 0 1 = cc in omega arith)
-  effect-answers (Reply p e) a n k = done-made _ n k
-  effect-answers (Refuse p e) a n k = done-made _ n k
+  effect-answers (Call.Answer p e served) a n k = done-made _ n k
   effect-answers (Revoke p q) a n k = done-made _ n k
   effect-answers (Comes e q) a n k = absurd (let z : _≡_ {A = ℕ} 0 1 = cc in omega arith)
 

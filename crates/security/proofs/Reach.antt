@@ -22,7 +22,7 @@ use Rattle.tables.proofs.Standing.{nodes-stay, via-listed}
 use Rattle.tables.proofs.Marking.{marked-reaches}
 use Rattle.closing.proofs.Facts.{copy-at}
 use Rattle.calls.specs.declared.Call.{Call}
-use Rattle.calls.specs.declared.Call.the-variants.{Go, Hold, Register, Drop, Port, Close, Ask, Fetch, Reply, Refuse, Revoke, Comes}
+use Rattle.calls.specs.declared.Call.the-variants.{Go, Hold, Register, Drop, Port, Close, Ask, Fetch, Revoke, Comes}
 use Rattle.security.specs.Sessions.{IsRow}
 use Rattle.security.specs.Changes.{discards, falls, goes, closedBy, recordHomed, recordAfter}
 use Rattle.security.specs.Reach.{Reaches, here, down, Behind, taken, copied, FirstLender, has-it, of-copy, of-way}
@@ -84,8 +84,7 @@ prime-after st (Port q e) p = refl
 prime-after st (Close q c) p = homed-prime st (Close q c) p
 prime-after st (Ask q c is) p = refl
 prime-after st (Fetch q e) p = refl
-prime-after st (Reply q e) p = homed-prime st (Reply q e) p
-prime-after st (Refuse q e) p = homed-prime st (Refuse q e) p
+prime-after st (Call.Answer q e served) p = homed-prime st (Call.Answer q e served) p
 prime-after st (Revoke q v) p = homed-prime st (Revoke q v) p
 prime-after st (Comes e q) p = refl
 

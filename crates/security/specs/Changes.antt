@@ -14,7 +14,7 @@ use Rattle.rows.specs.Tables.{State, rowOf, requestOf, openOn, processAt, numbe
 use Rattle.rows.specs.Setters.{withPlace, withItems, withFetched, inPrimeNode, wentThrough}
 use Rattle.closing.specs.Closing.{oldestListing}
 use Rattle.calls.specs.declared.Call.{Call}
-use Rattle.calls.specs.declared.Call.the-variants.{Go, Hold, Register, Drop, Port, Close, Ask, Fetch, Reply, Refuse, Revoke, Comes}
+use Rattle.calls.specs.declared.Call.the-variants.{Go, Hold, Register, Drop, Port, Close, Ask, Fetch, Revoke, Comes}
 use Rattle.calls.specs.Rules.{askedOf}
 use Rattle.calls.specs.Loans.{itemsOf, copies}
 use Rattle.security.specs.Sessions.{IsRow, IsOpen}
@@ -30,8 +30,7 @@ closedBy st (Port p e) = 0
 closedBy st (Close p c) = openOn (st .requests) c .number
 closedBy st (Ask p c is) = 0
 closedBy st (Fetch p v) = 0
-closedBy st (Reply p v) = askedOf st v .number
-closedBy st (Refuse p v) = askedOf st v .number
+closedBy st (Call.Answer p v served) = askedOf st v .number
 closedBy st (Revoke p q) = q
 closedBy st (Comes e q) = 0
 
@@ -45,8 +44,7 @@ discards (Port p e) r = false
 discards (Close p c) r = isEnd (r .kind) && eqb (r .object) c
 discards (Ask p c is) r = false
 discards (Fetch p v) r = false
-discards (Reply p v) r = false
-discards (Refuse p v) r = false
+discards (Call.Answer p v served) r = false
 discards (Revoke p q) r = false
 discards (Comes e q) r = false
 
@@ -78,8 +76,7 @@ placeAfter st (Close p c) r = placeBack st (Close p c) r
 placeAfter st (Ask p c is) r = if isEnd (r .kind) && any (λ i. eqb (i .row) (r .number)) (itemsOf is) then withSystem else r .place
 -- what the request lists comes to the caller
 placeAfter st (Fetch p v) r = if lists (r .number) (askedOf st v) then inClist p else r .place
-placeAfter st (Reply p v) r = placeBack st (Reply p v) r
-placeAfter st (Refuse p v) r = placeBack st (Refuse p v) r
+placeAfter st (Call.Answer p v served) r = placeBack st (Call.Answer p v served) r
 placeAfter st (Revoke p q) r = placeBack st (Revoke p q) r
 placeAfter st (Comes e q) r = r .place
 
@@ -97,8 +94,7 @@ fetchedBy st (Port p e) w = w
 fetchedBy st (Close p c) w = w
 fetchedBy st (Ask p c is) w = w
 fetchedBy st (Fetch p v) w = if eqb (w .number) (askedOf st v .number) then withFetched fetchedMark w else w
-fetchedBy st (Reply p v) w = w
-fetchedBy st (Refuse p v) w = w
+fetchedBy st (Call.Answer p v served) w = w
 fetchedBy st (Revoke p q) w = w
 fetchedBy st (Comes e q) w = w
 
@@ -121,8 +117,7 @@ recordAfter st (Port q e) p = processAt (st .processes) p
 recordAfter st (Close q c) p = recordHomed st (Close q c) p
 recordAfter st (Ask q c is) p = processAt (st .processes) p
 recordAfter st (Fetch q v) p = processAt (st .processes) p
-recordAfter st (Reply q v) p = recordHomed st (Reply q v) p
-recordAfter st (Refuse q v) p = recordHomed st (Refuse q v) p
+recordAfter st (Call.Answer q v served) p = recordHomed st (Call.Answer q v served) p
 recordAfter st (Revoke q v) p = recordHomed st (Revoke q v) p
 recordAfter st (Comes e q) p = processAt (st .processes) p
 
@@ -136,8 +131,7 @@ takes st (Port p e) = 2
 takes st (Close p c) = 0
 takes st (Ask p c is) = suc (length (copies st (itemsOf is)))
 takes st (Fetch p v) = 0
-takes st (Reply p v) = 0
-takes st (Refuse p v) = 0
+takes st (Call.Answer p v served) = 0
 takes st (Revoke p q) = 0
 takes st (Comes e q) = 0
 

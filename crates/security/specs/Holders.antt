@@ -12,7 +12,7 @@ use Rattle.rows.specs.Codes.{inNode, inClist, withSystem}
 use Rattle.rows.specs.Tables.{rowOf}
 use Rattle.calls.specs.declared.Item.{Item}
 use Rattle.calls.specs.declared.Call.{Call}
-use Rattle.calls.specs.declared.Call.the-variants.{Go, Hold, Register, Drop, Port, Close, Ask, Fetch, Reply, Refuse, Revoke, Comes}
+use Rattle.calls.specs.declared.Call.the-variants.{Go, Hold, Register, Drop, Port, Close, Ask, Fetch, Revoke, Comes}
 use Rattle.text.specs.declared.Entry.{Entry}
 use Rattle.text.specs.declared.Reading.{Reading}
 use Rattle.text.specs.declared.Reading.the-variants.{Asks, Crowded, Refused}
@@ -88,8 +88,7 @@ noteHomes fs h (Port p e) n hs = withHome (suc n) n (inClist (homedOf hs e .obje
 noteHomes fs h (Close p c) n hs = hs
 noteHomes fs h (Ask p c is) n hs = copyHomes (suc n) (copied (h .rows) (itemsNamed is)) hs
 noteHomes fs h (Fetch p v) n hs = hs
-noteHomes fs h (Reply p v) n hs = hs
-noteHomes fs h (Refuse p v) n hs = hs
+noteHomes fs h (Call.Answer p v served) n hs = hs
 noteHomes fs h (Revoke p q) n hs = hs
 noteHomes fs h (Comes e q) n hs = hs
 

@@ -9,7 +9,7 @@ use Rattle.rows.specs.Tables.{State, rowOf, numbers}
 use Rattle.rows.specs.Sound.{sound}
 use Rattle.rows.specs.Layout.{rightLengths}
 use Rattle.calls.specs.declared.Call.{Call}
-use Rattle.calls.specs.declared.Call.the-variants.{Go, Hold, Register, Drop, Port, Close, Ask, Fetch, Reply, Refuse, Revoke, Comes}
+use Rattle.calls.specs.declared.Call.the-variants.{Go, Hold, Register, Drop, Port, Close, Ask, Fetch, Revoke, Comes}
 use Rattle.calls.specs.Answers.{refusalOf}
 use Rattle.calls.specs.Rules.{askedOf}
 use Rattle.text.specs.declared.Reading.{Reading}
@@ -57,8 +57,7 @@ logged st (Port p e) log = log
 logged st (Close p c) log = log
 logged st (Ask p c is) log = log
 logged st (Fetch p v) log = record { request = askedOf st v .number; process = p } ∷ log
-logged st (Reply p v) log = log
-logged st (Refuse p v) log = log
+logged st (Call.Answer p v served) log = log
 logged st (Revoke p q) log = log
 logged st (Comes e q) log = log
 
@@ -97,8 +96,7 @@ noteFetchCall (Port p e) q log = log
 noteFetchCall (Close p c) q log = log
 noteFetchCall (Ask p c is) q log = log
 noteFetchCall (Fetch p v) q log = record { request = q; process = p } ∷ log
-noteFetchCall (Reply p v) q log = log
-noteFetchCall (Refuse p v) q log = log
+noteFetchCall (Call.Answer p v served) q log = log
 noteFetchCall (Revoke p q′) q log = log
 noteFetchCall (Comes e q′) q log = log
 

@@ -11,7 +11,7 @@ use Rattle.rows.proofs.Bools.{or-cases}
 use Rattle.rows.proofs.Places.{between-range}
 use Rattle.calls.specs.declared.Items.{Items}
 use Rattle.calls.specs.declared.Call.{Call}
-use Rattle.calls.specs.declared.Call.the-variants.{Go, Hold, Register, Drop, Port, Close, Ask, Fetch, Reply, Refuse, Revoke, Comes}
+use Rattle.calls.specs.declared.Call.the-variants.{Go, Hold, Register, Drop, Port, Close, Ask, Fetch, Revoke, Comes}
 use Rattle.calls.specs.contracts.Effects.{IsProcess}
 use Rattle.calls.specs.contracts.Performs.{CallerInRange}
 use Rattle.test_exports.specs.contracts.Calls.{callOfCode}

@@ -13,7 +13,7 @@ use Rattle.rows.proofs.Bools.{and-l, and-r, clash}
 use Rattle.calls.specs.declared.Item.{Item}
 use Rattle.calls.specs.declared.Items.{Items}
 use Rattle.calls.specs.declared.Call.{Call}
-use Rattle.calls.specs.declared.Call.the-variants.{Go, Hold, Register, Drop, Port, Close, Ask, Fetch, Reply, Refuse, Revoke, Comes}
+use Rattle.calls.specs.declared.Call.the-variants.{Go, Hold, Register, Drop, Port, Close, Ask, Fetch, Revoke, Comes}
 use Rattle.calls.specs.Loans.{itemsOf}
 use Rattle.changes.proofs.Removed.{length-filter}
 use Rattle.text.specs.declared.Read.{Read}
@@ -351,7 +351,6 @@ call-read (Port p e) h = named p e h 112 (111 ∷ 114 ∷ 116 ∷ []) refl refl 
 call-read (Close p e) h = named p e h 99 (108 ∷ 111 ∷ 115 ∷ 101 ∷ []) refl refl (omega arith) (Asks (Close p e)) (rw h refl)
 call-read (Ask p c is) h = ask-back _ p c (itemsOf is) (h .caller) (h .port) (h .items) (h .apart) (few-items is) (at-start _) ∙ ap (λ (x : Items). Asks (Ask p c x)) (h .first)
 call-read (Fetch p e) h = named p e h 102 (101 ∷ 116 ∷ 99 ∷ 104 ∷ []) refl refl (omega arith) (Asks (Fetch p e)) (rw h refl)
-call-read (Reply p e) h = named p e h 114 (101 ∷ 112 ∷ 108 ∷ 121 ∷ []) refl refl (omega arith) (Asks (Reply p e)) (rw h refl)
-call-read (Refuse p e) h = named p e h 114 (101 ∷ 102 ∷ 117 ∷ 115 ∷ 101 ∷ []) refl refl (omega arith) (Asks (Refuse p e)) (rw h refl)
+call-read (Call.Answer p e served) h = named p e h 114 (101 ∷ 112 ∷ 108 ∷ 121 ∷ []) refl refl (omega arith) (Asks (Call.Answer p e served)) (rw h refl)
 call-read (Revoke p e) h = named p e h 114 (101 ∷ 118 ∷ 111 ∷ 107 ∷ 101 ∷ []) refl refl (omega arith) (Asks (Revoke p e)) (rw h refl)
 call-read (Comes e q) h = comes-back e q (and-l (isNumber e) (isNumber q) h) (and-r (isNumber e) (isNumber q) h)

@@ -13,7 +13,7 @@ use Rattle.rows.proofs.Bools.{and-l, and-r, all-mono}
 use Rattle.rows.proofs.Places.{between-range}
 use Rattle.calls.specs.declared.Item.{Item}
 use Rattle.calls.specs.declared.Call.{Call}
-use Rattle.calls.specs.declared.Call.the-variants.{Go, Hold, Register, Drop, Port, Close, Ask, Fetch, Reply, Refuse, Revoke, Comes}
+use Rattle.calls.specs.declared.Call.the-variants.{Go, Hold, Register, Drop, Port, Close, Ask, Fetch, Revoke, Comes}
 use Rattle.calls.specs.Rules.{isRefusal}
 use Rattle.calls.specs.Loans.{itemsOf}
 use Rattle.calls.specs.contracts.Effects.{IsProcess}
@@ -53,8 +53,7 @@ Good (Port p e) = GoodNumber p e
 Good (Close p c) = GoodNumber p c
 Good (Ask p c is) = GoodAsk p c (itemsOf is)
 Good (Fetch p v) = GoodNumber p v
-Good (Reply p v) = GoodNumber p v
-Good (Refuse p v) = GoodNumber p v
+Good (Call.Answer p v served) = GoodNumber p v
 Good (Revoke p q) = GoodNumber p q
 Good (Comes e q) = GoodComes e q
 
@@ -204,8 +203,7 @@ good-in-range (Port p e) g = process-range p (g .caller)
 good-in-range (Close p c) g = process-range p (g .caller)
 good-in-range (Ask p c is) g = process-range p (g .caller)
 good-in-range (Fetch p v) g = process-range p (g .caller)
-good-in-range (Reply p v) g = process-range p (g .caller)
-good-in-range (Refuse p v) g = process-range p (g .caller)
+good-in-range (Call.Answer p v served) g = process-range p (g .caller)
 good-in-range (Revoke p q) g = process-range p (g .caller)
 good-in-range (Comes e q) g = tt
 

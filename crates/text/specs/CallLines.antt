@@ -9,7 +9,7 @@ use Rattle.rows.specs.Limits.{processes, allRights, greatestNumber, mostItems, 
 use Rattle.calls.specs.declared.Item.{Item}
 use Rattle.calls.specs.declared.Items.{Items}
 use Rattle.calls.specs.declared.Call.{Call}
-use Rattle.calls.specs.declared.Call.the-variants.{Go, Hold, Register, Drop, Port, Close, Ask, Fetch, Reply, Refuse, Revoke, Comes}
+use Rattle.calls.specs.declared.Call.the-variants.{Go, Hold, Register, Drop, Port, Close, Ask, Fetch, Revoke, Comes}
 use Rattle.text.specs.declared.Read.{Read}
 use Rattle.text.specs.declared.Reading.{Reading}
 use Rattle.text.specs.declared.Reading.the-variants.{Asks, Crowded, Refused}
@@ -27,7 +27,7 @@ unfoldable pub ranged : Bool → Call → Reading
 ranged inRange c = if inRange then Asks c else Refused 3
 
 -- ---- calls of one number
--- (rules F2, F3, F4) `(p W n)` with one of ten words; any other word is 2; `go` takes 0 too
+-- (rules F2, F3, F4) `(p W n)` with one of eight words; any other word is 2; `go` takes 0 too
 unfoldable pub simple : ℕ → ℕ → ℕ → Reading
 simple w p e =
     let good = isProcess p && isNumber e in
@@ -38,13 +38,19 @@ simple w p e =
     else if eqb w (wordOf "port") then ranged good (Port p e)
     else if eqb w (wordOf "close") then ranged good (Close p e)
     else if eqb w (wordOf "fetch") then ranged good (Fetch p e)
-    else if eqb w (wordOf "reply") then ranged good (Reply p e)
-    else if eqb w (wordOf "refuse") then ranged good (Refuse p e)
     else if eqb w (wordOf "revoke") then ranged good (Revoke p e)
     else Refused 2
 
-unfoldable pub simpleForm : List ℕ → Reading
-simpleForm s = let f = form s 0 "(# @ #)\n" in if whole s f then simple (f .word) (f .b) (f .c) else Refused 2
+unfoldable pub simpleForm : List ℕ → Reading → Reading
+simpleForm s other = let f = form s 0 "(# @ #)\n" in if whole s f then simple (f .word) (f .b) (f .c) else other
+
+-- ---- answer
+-- (rules F2, F3, F4) `(p answer v x)`, x 0 or 1: with 1 the request was served; every other line is 2
+unfoldable pub answerForm : List ℕ → Reading
+answerForm s =
+    let f = form s 0 "(# answer # #)\n" in
+    let good = isProcess (f .a) && (isNumber (f .b) && leb (f .c) 1) in
+    if whole s f then ranged good (Call.Answer (f .a) (f .b) (eqb (f .c) 1)) else Refused 2
 
 -- ---- comes
 -- (rules F2, F3) `(comes e q)`, with no caller
@@ -100,4 +106,4 @@ askForm s other =
 
 -- (rules T1, F1, F3) a call is one line, whose line feed is the last byte, of at most 255 bytes before it; every other line is 2
 unfoldable pub readingOf : List ℕ → Reading
-readingOf s = if ltb (suc mostBytes) (length s) then Refused 2 else askForm s (comesForm s (simpleForm s))
+readingOf s = if ltb (suc mostBytes) (length s) then Refused 2 else askForm s (comesForm s (simpleForm s (answerForm s)))

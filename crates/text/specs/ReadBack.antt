@@ -10,7 +10,7 @@ use Rattle.rows.specs.Limits.{greatestNumber, mostItems}
 use Rattle.calls.specs.declared.Item.{Item}
 use Rattle.calls.specs.declared.Items.{Items}
 use Rattle.calls.specs.declared.Call.{Call}
-use Rattle.calls.specs.declared.Call.the-variants.{Go, Hold, Register, Drop, Port, Close, Ask, Fetch, Reply, Refuse, Revoke, Comes}
+use Rattle.calls.specs.declared.Call.the-variants.{Go, Hold, Register, Drop, Port, Close, Ask, Fetch, Revoke, Comes}
 use Rattle.calls.specs.declared.Answer.{Answer}
 use Rattle.calls.specs.Loans.{itemsOf}
 use Rattle.calls.specs.Answers.{refusalOf, valuesOf}
@@ -31,6 +31,14 @@ itemsText (i ∷ is) = bytes " (" ++ (digitsOf (i .row) ++ (bytes " " ++ (digits
 unfoldable pub askText : ℕ → ℕ → List Item → List ℕ
 askText p c is = bytes "(" ++ (digitsOf p ++ (bytes " ask " ++ (digitsOf c ++ (itemsText is ++ bytes ")\n"))))
 
+-- (rules F2, F4) `(p answer v x)`: x is 1 where the request was served, else 0
+unfoldable pub lastOf : Bool → ℕ
+lastOf served = if served then 1 else 0
+
+unfoldable pub answerText : ℕ → ℕ → ℕ → List ℕ
+answerText p v x =
+    bytes "(" ++ (digitsOf p ++ (bytes " answer " ++ (digitsOf v ++ (bytes " " ++ (digitsOf x ++ bytes ")\n")))))
+
 unfoldable pub comesText : ℕ → ℕ → List ℕ
 comesText e q = bytes "(comes " ++ (digitsOf e ++ (bytes " " ++ (digitsOf q ++ bytes ")\n")))
 
@@ -44,8 +52,7 @@ callText (Port p e) = simpleText p "port" e
 callText (Close p c) = simpleText p "close" c
 callText (Ask p c is) = askText p c (itemsOf is)
 callText (Fetch p e) = simpleText p "fetch" e
-callText (Reply p e) = simpleText p "reply" e
-callText (Refuse p e) = simpleText p "refuse" e
+callText (Call.Answer p e served) = answerText p e (lastOf served)
 callText (Revoke p q) = simpleText p "revoke" q
 callText (Comes e q) = comesText e q
 
@@ -66,8 +73,7 @@ InRange (Port p e) = isProcess p && isNumber e ≡ true
 InRange (Close p c) = isProcess p && isNumber c ≡ true
 InRange (Ask p c is) = AskInRange p c is
 InRange (Fetch p e) = isProcess p && isNumber e ≡ true
-InRange (Reply p e) = isProcess p && isNumber e ≡ true
-InRange (Refuse p e) = isProcess p && isNumber e ≡ true
+InRange (Call.Answer p e served) = isProcess p && isNumber e ≡ true
 InRange (Revoke p q) = isProcess p && isNumber q ≡ true
 InRange (Comes e q) = isNumber e && isNumber q ≡ true
 

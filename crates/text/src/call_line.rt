@@ -17,8 +17,8 @@ ghost use Prim.Native.Nat.{_+_, _<_};
 ghost use lib.ListN.{length};
 ghost use Rattle.rows.specs.Lists.{member};
 ghost use Rattle.text.specs.Patterns.{form};
-ghost use Rattle.text.specs.CallLines.{isProcess, isNumber, ranged, simple, simpleForm, Gathered, gathered};
-ghost use Rattle.text.specs.CallLines.{packed, judged, askForm, readingOf};
+ghost use Rattle.text.specs.CallLines.{isProcess, isNumber, ranged, simple, simpleForm, answerForm};
+ghost use Rattle.text.specs.CallLines.{Gathered, gathered, packed, judged, askForm, readingOf};
 ghost use Rattle.text.specs.contracts.Sizes.{GROUPS};
 ghost use Rattle.text.specs.contracts.Asks.{askedFrom, withItem, otherCall, JudgesAsk};
 
@@ -44,10 +44,6 @@ const PORT: u64 = 540244;
 const CLOSE: u64 = 3554917;
 
 const FETCH: u64 = 6475880;
-
-const REPLY: u64 = 19055001;
-
-const REFUSE: u64 = 609441381;
 
 const REVOKE: u64 = 609959269;
 
@@ -76,6 +72,19 @@ fn if_ranged(in_range: bool, c: Call) -> Reading
     }
 }
 
+// ---- answer
+// `(p answer v x)`; any other form is a bad one.
+fn answer_form(line: &[u8]) -> Reading
+    ensures { λ r. ⌜ r ≡ answerForm (now (line .entry)) ⌝ }
+{
+    let f = read_form(line, 0, b"(# answer # #)\n");
+    if is_whole(line, f) {
+        let good = is_process(f.a) & (is_number(f.b) & (f.c <= 1));
+        return if_ranged(good, Call::Answer(f.a, f.b, f.c == 1));
+    }
+    Reading::Refused(2)
+}
+
 // ---- calls of one number
 // The call of a word; any other word is a bad form.
 fn simple_call(w: u64, p: u32, e: u32) -> Reading
@@ -91,20 +100,18 @@ fn simple_call(w: u64, p: u32, e: u32) -> Reading
         PORT => if_ranged(good, Call::Port(p, e)),
         CLOSE => if_ranged(good, Call::Close(p, e)),
         FETCH => if_ranged(good, Call::Fetch(p, e)),
-        REPLY => if_ranged(good, Call::Reply(p, e)),
-        REFUSE => if_ranged(good, Call::Refuse(p, e)),
         REVOKE => if_ranged(good, Call::Revoke(p, e)),
         _ => Reading::Refused(2),
     }
 }
 
-// `(p word e)`.
+// `(p word e)`, else an answer.
 fn simple_form(line: &[u8]) -> Reading
-    ensures { λ r. ⌜ r ≡ simpleForm (now (line .entry)) ⌝ }
+    ensures { λ r. ⌜ r ≡ simpleForm (now (line .entry)) (answerForm (now (line .entry))) ⌝ }
 {
     let f = read_form(line, 0, b"(# @ #)\n");
     if !is_whole(line, f) {
-        return Reading::Refused(2);
+        return answer_form(line);
     }
     let w = f.word;
     simple_call(w, f.b, f.c)

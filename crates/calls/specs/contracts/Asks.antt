@@ -26,7 +26,7 @@ use Rattle.calls.specs.Loans.{itemsOf, moves, copies, copyDepth, Lending
 use Rattle.calls.specs.Calls.{lacksRight, isBusy, refusalsAsk, perform}
 use Rattle.calls.specs.contracts.Lookups.{HasRows, HasRequests, StandsAt}
 use Rattle.calls.specs.contracts.Performs.{Answers, HeldAt}
-use Rattle.calls.specs.contracts.Replies.{HasBoth}
+use Rattle.calls.specs.contracts.Answering.{HasBoth}
 
 -- ---- an item with its row looked up
 -- the item is named and is no end: a copy is made of its row

@@ -18,7 +18,7 @@ use Rattle.rows.specs.contracts.Sizes.{ROWS, PROCESSES, LAST-NEXT}
 use Rattle.calls.specs.declared.Answer.{Answer}
 use Rattle.calls.specs.declared.Answer.the-variants.{Refused}
 use Rattle.calls.specs.declared.Call.{Call}
-use Rattle.calls.specs.declared.Call.the-variants.{Go, Hold, Register, Drop, Port, Close, Ask, Fetch, Reply, Refuse, Revoke, Comes}
+use Rattle.calls.specs.declared.Call.the-variants.{Go, Hold, Register, Drop, Port, Close, Ask, Fetch, Revoke, Comes}
 use Rattle.calls.specs.Rules.{Out, _when_, lowest, tooDeep, rowsFull, numbersSpent}
 use Rattle.calls.specs.Calls.{refusalsHold, heldDepth, refusalsRegister, registeredDepth, refusalsPort, portDepth, refusalsClose, refusalsDrop, perform, callerOf}
 use Rattle.calls.specs.contracts.Lookups.{HasRows, HasRequests, StandsAt}
@@ -70,8 +70,7 @@ CallerInRange (Port p e) = IsProcess p
 CallerInRange (Close p c) = IsProcess p
 CallerInRange (Ask p c is) = IsProcess p
 CallerInRange (Fetch p e) = IsProcess p
-CallerInRange (Reply p e) = IsProcess p
-CallerInRange (Refuse p e) = IsProcess p
+CallerInRange (Call.Answer p e served) = IsProcess p
 CallerInRange (Revoke p q) = IsProcess p
 CallerInRange (Comes e q) = Unit {0}
 
@@ -148,7 +147,7 @@ abbrev pub RefusesClose : List ℕ → ℕ → ℕ → ℕ → Type 0
 RefusesClose t i c r =
     (st : State) (p : ℕ) → sound st ≡ true → Represents t st → HeldAt st p c i → r ≡ lowest (refusalsClose st p c)
 
--- ---- fetch, reply, refuse
+-- ---- fetch, answer
 -- r is the slot of the request that the server sees at its end, which stands in slot i
 abbrev pub FindsAsked : List ℕ → ℕ → ℕ → Found → Type 0
 FindsAsked t m i r =
@@ -170,11 +169,6 @@ abbrev pub FetchesEnd : List ℕ → ℕ → ℕ → ℕ → List ℕ → Answer
 FetchesEnd t n i p after r =
     (st : State) (e : ℕ) → sound st ≡ true → HasRows t n st → HeldAt st p e i → p ≤ PROCESSES
     → Answers after r (perform st (Fetch p e))
-
-abbrev pub RefusesEnd : List ℕ → List ℕ → ℕ → List ℕ → List ℕ → Answer → Type 0
-RefusesEnd t ps i after left r =
-    (st : State) (p e : ℕ) → sound st ≡ true → Represents t st → st .processes ≡ recordsIn ps → HeldAt st p e i
-    → Agrees after (recordsIn left) r (perform st (Refuse p e))
 
 -- ---- drop
 -- r says whether a row has the row in slot i for a source

@@ -16,7 +16,7 @@ use Rattle.calls.specs.declared.Items.{Items}
 use Rattle.calls.specs.declared.Answer.{Answer}
 use Rattle.calls.specs.declared.Answer.the-variants.{Done, Made, Fetched, Told, Refused}
 use Rattle.calls.specs.declared.Call.{Call}
-use Rattle.calls.specs.declared.Call.the-variants.{Go, Hold, Register, Drop, Port, Close, Ask, Fetch, Reply, Refuse, Revoke, Comes}
+use Rattle.calls.specs.declared.Call.the-variants.{Go, Hold, Register, Drop, Port, Close, Ask, Fetch, Revoke, Comes}
 use Rattle.calls.specs.Calls.{perform}
 use Rattle.calls.specs.contracts.Performs.{RunsAfter, CallerListed}
 use Rattle.test_exports.specs.contracts.Exports.{Unless}

@@ -10,10 +10,19 @@ use std::collections::BTreeMap;
 /// How many calls are proposed for one.
 const PROPOSALS: usize = 40;
 
-/// How often each ground decided so far, by its rule's name.
+/// How often each ground decided so far.
 #[derive(Default)]
 pub struct Calls {
     pub seen: BTreeMap<String, u64>,
+}
+
+/// What decides, by the rule's name; of an answer with its last number too.
+fn ground(tables: &Tables, call: &Call) -> Option<String> {
+    let rule = decided_by(tables, call)?;
+    match call {
+        Call::Answer { last, .. } => Some(format!("{rule} with {}", last.min(&2))),
+        _ => Some(rule),
+    }
 }
 
 impl Calls {
@@ -21,10 +30,10 @@ impl Calls {
     pub fn call(&mut self, rng: &mut Rng, tables: &Tables) -> Call {
         let profile = rng.pick(&PROFILES).unwrap_or(PROFILES[0]);
         let mut chosen = near_call(rng, profile, tables);
-        let mut name = decided_by(tables, &chosen);
+        let mut name = ground(tables, &chosen);
         for _ in 0..PROPOSALS {
             let call = near_call(rng, profile, tables);
-            let other = decided_by(tables, &call);
+            let other = ground(tables, &call);
             if other.is_some() && (name.is_none() || self.often(&other) < self.often(&name)) {
                 (chosen, name) = (call, other);
             }

@@ -5,7 +5,7 @@ use denote.Ref.{now}
 use Rattle.calls.specs.Calls.{refusals}
 use Rattle.calls.specs.declared.Call.the-variants.{Ask}
 use Rattle.calls.specs.contracts.Asks.{itemsIn}
-use Rattle.calls.specs.contracts.Replies.{HasBoth}
+use Rattle.calls.specs.contracts.Answering.{HasBoth}
 use Rattle.calls.proofs.Judging.{refused-answers, accepted-answers}
 use Rattle.calls.proofs.Effected.{made-request}
 use Rattle.calls.proofs.ask.ask_held.Statement.{statement}

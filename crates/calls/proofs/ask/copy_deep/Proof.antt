@@ -6,7 +6,7 @@ use Rattle.rows.specs.Limits.{greatestDepth}
 use Rattle.calls.specs.Rules.{tooDeep}
 use Rattle.calls.specs.Loans.{copyDepth}
 use Rattle.calls.proofs.LookedUp.{depth-most}
-use Rattle.calls.proofs.Replied.{and-both, and-first}
+use Rattle.calls.proofs.LentEnds.{and-both, and-first}
 use Rattle.calls.proofs.Asked.{word-of, no-copy, is-copy}
 use Rattle.calls.proofs.ask.copy_deep.Statement.{statement}
 use Rattle.calls.proofs.ask.copy_deep.Tie as tie

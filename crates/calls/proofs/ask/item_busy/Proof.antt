@@ -7,7 +7,7 @@ use Rattle.rows.proofs.Bools.{and-rf}
 use Rattle.rows.proofs.Slots.{represented-well, row-words}
 use Rattle.calls.specs.Calls.{isBusy}
 use Rattle.calls.specs.Loans.{itemRow}
-use Rattle.calls.proofs.Replied.{and-both, and-first}
+use Rattle.calls.proofs.LentEnds.{and-both, and-first}
 use Rattle.calls.proofs.Asked.{no-item, an-item, copy-stays, end-moves, slot-of, copy-free, busy-read}
 use Rattle.calls.proofs.ask.item_busy.Statement.{statement}
 use Rattle.calls.proofs.ask.item_busy.Tie as tie

@@ -3,7 +3,7 @@ use borrow.Author.Needs.{needs}
 use mathlib.Core.Path.{refl}
 use Rattle.rows.proofs.Slots.{represented-well, row-words}
 use Rattle.calls.specs.Loans.{itemRow}
-use Rattle.calls.proofs.Replied.{and-both, and-first}
+use Rattle.calls.proofs.LentEnds.{and-both, and-first}
 use Rattle.calls.proofs.Asked.{no-item, an-item, copied-test, slot-of, lacks-read}
 use Rattle.calls.proofs.ask.lacks_right.Statement.{statement}
 use Rattle.calls.proofs.ask.lacks_right.Tie as tie

@@ -82,32 +82,23 @@ fetch-requires c κs =
 enum-known-c-9 : tie.Need-enum-known-c-9
 enum-known-c-9 c = search needs
 
-reply-requires : tie.Need-reply-requires
+answer-requires : tie.Need-answer-requires
 unfolding CallerInRange
-reply-requires c κs =
+answer-requires c κs =
     let pre = c .before .before .before .before .before .before .before .pre in
     (pre .0, pre .1, subst CallerInRange (c .before .before .before .c9 .given .1) (pre .2))
 
 enum-known-c-10 : tie.Need-enum-known-c-10
 enum-known-c-10 c = search needs
 
-refuse-requires : tie.Need-refuse-requires
+revoke-requires : tie.Need-revoke-requires
 unfolding CallerInRange
-refuse-requires c κs =
+revoke-requires c κs =
     let pre = c .before .before .before .before .before .before .before .pre in
     (pre .0, pre .1, subst CallerInRange (c .before .before .before .c10 .given .1) (pre .2))
 
 enum-known-c-11 : tie.Need-enum-known-c-11
 enum-known-c-11 c = search needs
-
-revoke-requires : tie.Need-revoke-requires
-unfolding CallerInRange
-revoke-requires c κs =
-    let pre = c .before .before .before .before .before .before .before .pre in
-    (pre .0, pre .1, subst CallerInRange (c .before .before .before .c11 .given .1) (pre .2))
-
-enum-known-c-12 : tie.Need-enum-known-c-12
-enum-known-c-12 c = search needs
 
 comes-requires : tie.Need-comes-requires
 comes-requires c κs = search needs
@@ -215,7 +206,7 @@ same-length-15 c = search needs
 
 returns-9 : tie.Need-returns-9
 returns-9 c =
-    let done = c .before .before .before .before .reply in
+    let done = c .before .before .before .before .answer in
     let pre = c .before .before .before .before .before .before .before .before .before .before .before .before .pre in
     let a = c .before .before .before .before .before .before .before .before .before .before .before .before .args in
     carried (now (a .t)) (done .last .0) (now (a .ps)) (done .last .1 .0) (done .result) (pre .1) (done .ensures .1) (a .c) _ (c .before .before .before .before .before .before .before .before .c9 .given .1) (done .ensures .0)
@@ -228,7 +219,7 @@ same-length-17 c = search needs
 
 returns-10 : tie.Need-returns-10
 returns-10 c =
-    let done = c .before .before .before .before .refuse in
+    let done = c .before .before .before .before .revoke in
     let pre = c .before .before .before .before .before .before .before .before .before .before .before .before .pre in
     let a = c .before .before .before .before .before .before .before .before .before .before .before .before .args in
     carried (now (a .t)) (done .last .0) (now (a .ps)) (done .last .1 .0) (done .result) (pre .1) (done .ensures .1) (a .c) _ (c .before .before .before .before .before .before .before .before .c10 .given .1) (done .ensures .0)
@@ -236,25 +227,12 @@ returns-10 c =
 same-length-18 : tie.Need-same-length-18
 same-length-18 c = search needs
 
-same-length-19 : tie.Need-same-length-19
-same-length-19 c = search needs
-
 returns-11 : tie.Need-returns-11
 returns-11 c =
-    let done = c .before .before .before .before .revoke in
-    let pre = c .before .before .before .before .before .before .before .before .before .before .before .before .pre in
-    let a = c .before .before .before .before .before .before .before .before .before .before .before .before .args in
-    carried (now (a .t)) (done .last .0) (now (a .ps)) (done .last .1 .0) (done .result) (pre .1) (done .ensures .1) (a .c) _ (c .before .before .before .before .before .before .before .before .c11 .given .1) (done .ensures .0)
-
-same-length-20 : tie.Need-same-length-20
-same-length-20 c = search needs
-
-returns-12 : tie.Need-returns-12
-returns-12 c =
     let done = c .comes in
     let pre = c .before .before .before .before .before .before .before .pre in
     let a = c .before .before .before .before .before .before .before .args in
-    carried (now (a .t)) (now (a .t)) (now (a .ps)) (now (a .ps)) (done .result) (pre .1) (pre .0, pre .1) (a .c) _ (c .before .before .before .c12 .given .1) (done .ensures (now (a .ps)))
+    carried (now (a .t)) (now (a .t)) (now (a .ps)) (now (a .ps)) (done .result) (pre .1) (pre .0, pre .1) (a .c) _ (c .before .before .before .c11 .given .1) (done .ensures (now (a .ps)))
 
 pub perform-spec : {M : Type 1} → statement M
 perform-spec =
@@ -277,12 +255,10 @@ perform-spec =
     enum-known-c-8
     fetch-requires
     enum-known-c-9
-    reply-requires
+    answer-requires
     enum-known-c-10
-    refuse-requires
-    enum-known-c-11
     revoke-requires
-    enum-known-c-12
+    enum-known-c-11
     comes-requires
     same-length
     same-length-2
@@ -312,7 +288,4 @@ perform-spec =
     same-length-17
     returns-10
     same-length-18
-    same-length-19
-    returns-11
-    same-length-20
-    returns-12)
+    returns-11)

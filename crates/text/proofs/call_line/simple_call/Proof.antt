@@ -39,12 +39,6 @@ if-ranged-requires-7 c κs = search needs
 if-ranged-requires-8 : tie.Need-if-ranged-requires-8
 if-ranged-requires-8 c κs = search needs
 
-if-ranged-requires-9 : tie.Need-if-ranged-requires-9
-if-ranged-requires-9 c κs = search needs
-
-if-ranged-requires-10 : tie.Need-if-ranged-requires-10
-if-ranged-requires-10 c κs = search needs
-
 returns : tie.Need-returns
 unfolding simple wordOf wordFrom bytes spelt greatestNumber
 returns c =
@@ -96,31 +90,17 @@ returns-8 c =
 returns-9 : tie.Need-returns-9
 unfolding simple wordOf wordFrom bytes spelt greatestNumber
 returns-9 c =
-    let t = c .before .before in
-    c .if-ranged9 .ensures ∙ rw (t .before .is-process .ensures, t .is-number .ensures, c .before .match .keys9)
-
-returns-10 : tie.Need-returns-10
-unfolding simple wordOf wordFrom bytes spelt greatestNumber
-returns-10 c =
-    let t = c .before .before in
-    c .if-ranged10 .ensures ∙ rw (t .before .is-process .ensures, t .is-number .ensures, c .before .match .keys10)
-
-returns-11 : tie.Need-returns-11
-unfolding simple wordOf wordFrom bytes spelt greatestNumber
-returns-11 c =
     let w = c .before .before .before .args .w in
     let r = c .match .rest in
-    let r5 = r .0 .0 .0 .0 .0 in
-    let go = ne-eqb w 239 (r5 .0 .0 .0 .0 .1) in
-    let hold = ne-eqb w 277892 (r5 .0 .0 .0 .1) in
-    let register = ne-eqb w 624088961202 (r5 .0 .0 .1) in
-    let drops = ne-eqb w 150000 (r5 .0 .1) in
-    let port = ne-eqb w 540244 (r5 .1) in
-    let close = ne-eqb w 3554917 (r .0 .0 .0 .0 .1) in
-    let fetch = ne-eqb w 6475880 (r .0 .0 .0 .1) in
-    let reply = ne-eqb w 19055001 (r .0 .0 .1) in
-    let refuse = ne-eqb w 609441381 (r .0 .1) in
-    rw (go, hold, register, drops, port, close, fetch, reply, refuse, ne-eqb w 609959269 (r .1))
+    let r3 = r .0 .0 .0 in
+    let go = ne-eqb w 239 (r3 .0 .0 .0 .0 .1) in
+    let hold = ne-eqb w 277892 (r3 .0 .0 .0 .1) in
+    let register = ne-eqb w 624088961202 (r3 .0 .0 .1) in
+    let drops = ne-eqb w 150000 (r3 .0 .1) in
+    let port = ne-eqb w 540244 (r3 .1) in
+    let close = ne-eqb w 3554917 (r .0 .0 .1) in
+    let fetch = ne-eqb w 6475880 (r .0 .1) in
+    rw (go, hold, register, drops, port, close, fetch, ne-eqb w 609959269 (r .1))
 
 pub simple-call-spec : {M : Type 1} → statement M
 simple-call-spec =
@@ -136,8 +116,6 @@ simple-call-spec =
     if-ranged-requires-6
     if-ranged-requires-7
     if-ranged-requires-8
-    if-ranged-requires-9
-    if-ranged-requires-10
     returns
     returns-2
     returns-3
@@ -146,6 +124,4 @@ simple-call-spec =
     returns-6
     returns-7
     returns-8
-    returns-9
-    returns-10
-    returns-11)
+    returns-9)

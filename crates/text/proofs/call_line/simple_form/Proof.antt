@@ -17,9 +17,14 @@ read-form-requires c κs = search needs
 is-whole-requires : tie.Need-is-whole-requires
 is-whole-requires c κs = search needs
 
+answer-form-requires : tie.Need-answer-form-requires
+answer-form-requires c κs = search needs
+
 returns : tie.Need-returns
 unfolding simpleForm form bytes
-returns c = rw (sym (c .before .before .read-form .ensures), sym (c .before .is-whole .ensures) ∙ not-true _ (c .if1 .taken))
+returns c =
+    let t = c .before in
+    c .answer-form .ensures ∙ rw (sym (t .before .before .read-form .ensures), sym (t .before .is-whole .ensures) ∙ not-true _ (t .if1 .taken))
 
 simple-call-requires : tie.Need-simple-call-requires
 simple-call-requires c κs = search needs
@@ -37,6 +42,7 @@ simple-form-spec =
     slice-aggregate-read-form
     read-form-requires
     is-whole-requires
+    answer-form-requires
     returns
     simple-call-requires
     returns-2)
