@@ -237,7 +237,7 @@ pub fn lent_replies(entry: &Entry) {
 /// All conformance cases: what a session prints, what a call answers and leaves.
 pub fn conformance(entry: &Entry) {
     let sessions = conformance_inputs(usize::MAX).expect("the sessions");
-    assert_eq!(sessions.len(), 101);
+    assert_eq!(sessions.len(), 133);
     for (name, input) in sessions {
         let mut lent = (vec![3; TABLES_WORDS], vec![3; PROCESS_WORDS]);
         let mut printed = entry.open(&mut lent, &input);
@@ -253,7 +253,7 @@ pub fn conformance(entry: &Entry) {
         assert!(printed == case_file(&name, "answers"), "{name}");
     }
     let calls = conformance_calls().expect("the tables");
-    assert_eq!(calls.len(), 304);
+    assert_eq!(calls.len(), 364);
     let mut compared = 0;
     for (name, tables, line) in calls {
         let Some(mut lent) = encode(&tables) else {
@@ -265,7 +265,7 @@ pub fn conformance(entry: &Entry) {
         assert!(after.starts_with(&said), "{name}");
         compared += 1;
     }
-    assert!(compared > 180, "{compared} tables compared");
+    assert_eq!(compared, 357, "tables that fit into words");
 }
 
 /// The file beside a case with that ending.
