@@ -6,7 +6,7 @@ use mathlib.Core.Bool.{Bool, true, false, cond, _&&_}
 use mathlib.Core.List.{List, [], _∷_, _++_, map, append-assoc}
 use lib.Dec.{leb, eqb}
 use lib.ListN.{length, getD, length-append}
-use borrow.Author.Tests.{leb-true, le-ltb, eq-eqb, ne-eqb}
+use borrow.Author.Tests.{leb-true, le-leb, le-ltb, eq-eqb, ne-eqb}
 use Rattle.rows.specs.Lists.{bytes, between, all, some, distinct}
 use Rattle.rows.specs.Limits.{greatestNumber, processes, mostBytes, mostItems, allRights}
 use Rattle.rows.proofs.Bools.{and-l, and-r, clash}
@@ -20,10 +20,10 @@ use Rattle.text.specs.declared.Read.{Read}
 use Rattle.text.specs.declared.Reading.{Reading}
 use Rattle.text.specs.declared.Reading.the-variants.{Asks}
 use Rattle.text.specs.Patterns.{isDigit, isLetter, spelt, bad, began, form, whole, wordFrom, wordOf, mostGroups}
-use Rattle.text.specs.CallLines.{isProcess, isNumber, ranged, simple, simpleForm, comesForm, Gathered, itemOf, addItem, gathered, itemRanged, packed, judged, askForm, readingOf}
+use Rattle.text.specs.CallLines.{isProcess, isNumber, ranged, simple, simpleForm, answerForm, comesForm, Gathered, itemOf, addItem, gathered, itemRanged, packed, judged, askForm, readingOf}
 use Rattle.text.specs.Answers.{decimal, digitsOf}
 use Rattle.text.proofs.Answers.{leads-decimal}
-use Rattle.text.specs.ReadBack.{simpleText, itemsText, askText, comesText, callText, InRange}
+use Rattle.text.specs.ReadBack.{simpleText, itemsText, askText, lastOf, answerText, comesText, callText, InRange}
 use Rattle.text.proofs.Cursor.{At, at-start, at-skip, at-next, reading, takes-byte, other-byte, no-number, takes-number, takes-word, then-reads, reads-all, then-bad}
 
 -- ---- numbers as text
@@ -61,7 +61,7 @@ ends : (s : List ℕ) (i w x y z : ℕ) → At s i [] → whole s (reading i w x
 unfolding whole
 ends s i w x y z a = let e = a .size in eq-eqb i (length s) (omega arith)
 
-short : (s : List ℕ) → length s ≤ 256 → readingOf s ≡ askForm s (comesForm s (simpleForm s))
+short : (s : List ℕ) → length s ≤ 256 → readingOf s ≡ askForm s (comesForm s (simpleForm s (answerForm s)))
 unfolding readingOf mostBytes
 short s h = rw (le-ltb 256 (length s) h) refl
 
@@ -116,9 +116,9 @@ module _ (s : List ℕ) (p n b : ℕ) (ws : List ℕ) (l : all isLetter (b ∷ w
       (then-reads s _ _ _ 41 _ (takes-byte s _ w 0 p n 41 _ a6 refl refl)
       (then-reads s _ _ _ 10 _ (takes-byte s _ w 0 p n 10 _ a7 refl refl) (reads-all s _))))))))
 
-  simple-form : simpleForm s ≡ simple (wordFrom 0 (b ∷ ws)) p n
+  simple-form : (other : Reading) → simpleForm s other ≡ simple (wordFrom 0 (b ∷ ws)) p n
   unfolding simpleForm
-  simple-form = rw (simple-read, ends s _ (wordFrom 0 (b ∷ ws)) 0 p n a8) refl
+  simple-form other = rw (simple-read, ends s _ (wordFrom 0 (b ∷ ws)) 0 p n a8) refl
 
   -- a word that does not begin with a is not ask
   no-ask : (other : Reading) → eqb b 97 ≡ false → askForm s other ≡ other
@@ -134,7 +134,95 @@ module _ (s : List ℕ) (p n b : ℕ) (ws : List ℕ) (l : all isLetter (b ∷ w
       let e = a8 .size in
       let dp = digits-short p in
       let dn = digits-short n in
-      short s (omega arith) ∙ no-ask (comesForm s (simpleForm s)) d ∙ no-comes s p _ (simpleForm s) a0 hp ∙ simple-form
+      short s (omega arith) ∙ no-ask _ d ∙ no-comes s p _ _ a0 hp ∙ simple-form (answerForm s)
+
+-- ---- answer
+module _ (s : List ℕ) (p v x : ℕ) (hp : p ≤ greatestNumber) (hv : v ≤ greatestNumber) (hx : x ≤ greatestNumber)
+    (a0 : At s 0 (40 ∷ (digitsOf p ++ (32 ∷ (97 ∷ 110 ∷ 115 ∷ 119 ∷ 101 ∷ 114 ∷ (32 ∷ (digitsOf v ++ (32 ∷ (digitsOf x ++ (41 ∷ 10 ∷ [])))))))))) where
+  b1 : At s 1 (digitsOf p ++ (32 ∷ (97 ∷ 110 ∷ 115 ∷ 119 ∷ 101 ∷ 114 ∷ (32 ∷ (digitsOf v ++ (32 ∷ (digitsOf x ++ (41 ∷ 10 ∷ []))))))))
+  b1 = at-next s 0 40 _ a0
+
+  b2 : At s (1 + length (digitsOf p)) (32 ∷ (97 ∷ 110 ∷ 115 ∷ 119 ∷ 101 ∷ 114 ∷ (32 ∷ (digitsOf v ++ (32 ∷ (digitsOf x ++ (41 ∷ 10 ∷ [])))))))
+  b2 = at-skip s 1 (digitsOf p) _ b1
+
+  b3 : At s (1 + length (digitsOf p) + 1) (97 ∷ 110 ∷ 115 ∷ 119 ∷ 101 ∷ 114 ∷ (32 ∷ (digitsOf v ++ (32 ∷ (digitsOf x ++ (41 ∷ 10 ∷ []))))))
+  b3 = at-next s _ 32 _ b2
+
+  b4 : At s (1 + length (digitsOf p) + 1 + 6) (32 ∷ (digitsOf v ++ (32 ∷ (digitsOf x ++ (41 ∷ 10 ∷ [])))))
+  b4 = at-skip s _ (97 ∷ 110 ∷ 115 ∷ 119 ∷ 101 ∷ 114 ∷ []) _ b3
+
+  b5 : At s (1 + length (digitsOf p) + 1 + 6 + 1) (digitsOf v ++ (32 ∷ (digitsOf x ++ (41 ∷ 10 ∷ []))))
+  b5 = at-next s _ 32 _ b4
+
+  b6 : At s (1 + length (digitsOf p) + 1 + 6 + 1 + length (digitsOf v)) (32 ∷ (digitsOf x ++ (41 ∷ 10 ∷ [])))
+  b6 = at-skip s _ (digitsOf v) _ b5
+
+  -- its word is not ask: the second letter differs
+  answer-no-ask : (other : Reading) → askForm s other ≡ other
+  unfolding askForm form began bytes bad isDigit between
+  answer-no-ask other =
+      rw (then-reads s (reading 0 0 0 0 0) _ bad 40 (35 ∷ 32 ∷ 97 ∷ 115 ∷ 107 ∷ 32 ∷ 35 ∷ []) (takes-byte s 0 0 0 0 0 40 _ a0 refl refl)
+      (then-reads s _ _ _ 35 _ (takes-number s 1 0 0 0 0 p _ b1 hp refl)
+      (then-reads s _ _ _ 32 _ (takes-byte s _ 0 0 0 p 32 _ b2 refl refl)
+      (then-reads s _ _ _ 97 _ (takes-byte s _ 0 0 0 p 97 _ b3 refl refl)
+      (then-bad s _ 115 _ (other-byte s _ 0 0 0 p 110 115 _ (at-next s _ 97 _ b3) refl refl refl)))))) refl
+
+  -- it is no call of one number: a space follows the first
+  answer-no-simple : (other : Reading) → simpleForm s other ≡ other
+  unfolding simpleForm whole form began bytes bad isDigit isLetter between all
+  answer-no-simple other =
+      let w = wordFrom 0 (97 ∷ 110 ∷ 115 ∷ 119 ∷ 101 ∷ 114 ∷ []) in
+      rw (then-reads s (reading 0 0 0 0 0) _ bad 40 (35 ∷ 32 ∷ 64 ∷ 32 ∷ 35 ∷ 41 ∷ 10 ∷ []) (takes-byte s 0 0 0 0 0 40 _ a0 refl refl)
+      (then-reads s _ _ _ 35 _ (takes-number s 1 0 0 0 0 p _ b1 hp refl)
+      (then-reads s _ _ _ 32 _ (takes-byte s _ 0 0 0 p 32 _ b2 refl refl)
+      (then-reads s _ _ _ 64 _ (takes-word s _ 0 0 0 p 97 (110 ∷ 115 ∷ 119 ∷ 101 ∷ 114 ∷ []) _ b3 refl refl)
+      (then-reads s _ _ _ 32 _ (takes-byte s _ w 0 0 p 32 _ b4 refl refl)
+      (then-reads s _ _ _ 35 _ (takes-number s _ w 0 0 p v _ b5 hv refl)
+      (then-bad s _ 41 _ (other-byte s _ w 0 p v 32 41 _ b6 refl refl refl)))))))) refl
+
+  answer-read : (form s 0 "(# answer # #)\n" ≡ reading (1 + length (digitsOf p) + 1 + 1 + 1 + 1 + 1 + 1 + 1 + 1 + length (digitsOf v) + 1 + length (digitsOf x) + 1 + 1) 0 p v x)
+      × At s (1 + length (digitsOf p) + 1 + 1 + 1 + 1 + 1 + 1 + 1 + 1 + length (digitsOf v) + 1 + length (digitsOf x) + 1 + 1) []
+  unfolding form began bytes isDigit between
+  answer-read =
+      let c1 = at-next s _ 97 _ b3 in
+      let c2 = at-next s _ 110 _ c1 in
+      let c3 = at-next s _ 115 _ c2 in
+      let c4 = at-next s _ 119 _ c3 in
+      let c5 = at-next s _ 101 _ c4 in
+      let c6 = at-next s _ 114 _ c5 in
+      let c7 = at-next s _ 32 _ c6 in
+      let c8 = at-skip s _ (digitsOf v) _ c7 in
+      let c9 = at-next s _ 32 _ c8 in
+      let d1 = at-skip s _ (digitsOf x) _ c9 in
+      let d2 = at-next s _ 41 _ d1 in (
+        then-reads s _ _ _ 40 _ (takes-byte s 0 0 0 0 0 40 _ a0 refl refl)
+            (then-reads s _ _ _ 35 _ (takes-number s 1 0 0 0 0 p _ b1 hp refl)
+            (then-reads s _ _ _ 32 _ (takes-byte s _ 0 0 0 p 32 _ b2 refl refl)
+            (then-reads s _ _ _ 97 _ (takes-byte s _ 0 0 0 p 97 _ b3 refl refl)
+            (then-reads s _ _ _ 110 _ (takes-byte s _ 0 0 0 p 110 _ c1 refl refl)
+            (then-reads s _ _ _ 115 _ (takes-byte s _ 0 0 0 p 115 _ c2 refl refl)
+            (then-reads s _ _ _ 119 _ (takes-byte s _ 0 0 0 p 119 _ c3 refl refl)
+            (then-reads s _ _ _ 101 _ (takes-byte s _ 0 0 0 p 101 _ c4 refl refl)
+            (then-reads s _ _ _ 114 _ (takes-byte s _ 0 0 0 p 114 _ c5 refl refl)
+            (then-reads s _ _ _ 32 _ (takes-byte s _ 0 0 0 p 32 _ c6 refl refl)
+            (then-reads s _ _ _ 35 _ (takes-number s _ 0 0 0 p v _ c7 hv refl)
+            (then-reads s _ _ _ 32 _ (takes-byte s _ 0 0 p v 32 _ c8 refl refl)
+            (then-reads s _ _ _ 35 _ (takes-number s _ 0 0 p v x _ c9 hx refl)
+            (then-reads s _ _ _ 41 _ (takes-byte s _ 0 p v x 41 _ d1 refl refl)
+            (then-reads s _ _ _ 10 _ (takes-byte s _ 0 p v x 10 _ d2 refl refl) (reads-all s _))))))))))))))),
+        at-next s _ 10 _ d2,
+      )
+
+  answer-back : isProcess p ≡ true → isNumber v ≡ true → leb x 1 ≡ true → readingOf s ≡ Asks (Call.Answer p v (eqb x 1))
+  unfolding answerForm ranged
+  answer-back cp cv cx =
+      let (read, there) = answer-read in
+      let z = there .size in
+      let dp = digits-short p in
+      let dv = digits-short v in
+      let dx = digits-short x in
+      short s (omega arith) ∙ answer-no-ask _ ∙ no-comes s p _ _ a0 hp ∙ answer-no-simple _
+      ∙ rw (read, ends s _ 0 p v x there, cp, cv, cx) refl
 
 -- ---- comes
 comes-read : (s : List ℕ) (e q : ℕ) → e ≤ greatestNumber → q ≤ greatestNumber → At s 0 (bytes "(comes " ++ (digitsOf e ++ (32 ∷ (digitsOf q ++ (41 ∷ 10 ∷ [])))))
@@ -326,6 +414,15 @@ named : (p e : ℕ) → isProcess p && isNumber e ≡ true → (b : ℕ) (ws : L
     → (r : Reading) → simple (wordFrom 0 (b ∷ ws)) p e ≡ r → readingOf (40 ∷ (digitsOf p ++ (32 ∷ ((b ∷ ws) ++ (32 ∷ (digitsOf e ++ (41 ∷ 10 ∷ []))))))) ≡ r
 named p e h b ws l d few r q = one-number p e b ws l d few (and-l (isProcess p) (isNumber e) h) (number-fits e (and-r (isProcess p) (isNumber e) h)) r q
 
+-- an answer, by its last number
+answered : (p e x : ℕ) → isProcess p && isNumber e ≡ true → x ≤ 1
+    → readingOf (40 ∷ (digitsOf p ++ (32 ∷ (97 ∷ 110 ∷ 115 ∷ 119 ∷ 101 ∷ 114 ∷ (32 ∷ (digitsOf e ++ (32 ∷ (digitsOf x ++ (41 ∷ 10 ∷ []))))))))) ≡ Asks (Call.Answer p e (eqb x 1))
+unfolding greatestNumber
+answered p e x h few =
+    let hp = and-l (isProcess p) (isNumber e) h in
+    let he = and-r (isProcess p) (isNumber e) h in
+    answer-back _ p e x (process-fits p hp) (number-fits e he) (omega arith) (at-start _) hp he (le-leb x 1 few)
+
 comes-back : (e q : ℕ) → isNumber e ≡ true → isNumber q ≡ true → readingOf (bytes "(comes " ++ (digitsOf e ++ (32 ∷ (digitsOf q ++ (41 ∷ 10 ∷ []))))) ≡ Asks (Comes e q)
 unfolding comesForm ranged bytes
 comes-back e q he hq =
@@ -334,14 +431,14 @@ comes-back e q he hq =
     let z = f .1 .size in
     let de = digits-short e in
     let dq = digits-short q in
-    short s (omega arith) ∙ comes-no-ask s _ (comesForm s (simpleForm s)) (at-start s) ∙ (rw (f .0, ends s _ 0 0 e q (f .1), he, hq) refl)
+    short s (omega arith) ∙ comes-no-ask s _ _ (at-start s) ∙ (rw (f .0, ends s _ 0 0 e q (f .1), he, hq) refl)
 
 few-items : (is : Items) → length (itemsOf is) ≤ 4
 unfolding itemsOf
 few-items is = length-filter (λ i. some (i .row)) (is .first ∷ is .second ∷ is .third ∷ is .fourth ∷ [])
 
 pub call-read : (c : Call) → InRange c → readingOf (callText c) ≡ Asks c
-unfolding InRange callText simpleText askText comesText simple ranged bytes wordOf wordFrom spelt all isLetter between
+unfolding InRange callText simpleText askText answerText lastOf comesText simple ranged bytes wordOf wordFrom spelt all isLetter between
 call-read (Go p e) h =
     one-number p e 103 (111 ∷ []) refl refl (omega arith) (and-l (isProcess p) (leb e greatestNumber) h) (leb-true e greatestNumber (and-r (isProcess p) (leb e greatestNumber) h)) (Asks (Go p e)) (rw h refl)
 call-read (Hold p e) h = named p e h 104 (111 ∷ 108 ∷ 100 ∷ []) refl refl (omega arith) (Asks (Hold p e)) (rw h refl)
@@ -351,6 +448,7 @@ call-read (Port p e) h = named p e h 112 (111 ∷ 114 ∷ 116 ∷ []) refl refl 
 call-read (Close p e) h = named p e h 99 (108 ∷ 111 ∷ 115 ∷ 101 ∷ []) refl refl (omega arith) (Asks (Close p e)) (rw h refl)
 call-read (Ask p c is) h = ask-back _ p c (itemsOf is) (h .caller) (h .port) (h .items) (h .apart) (few-items is) (at-start _) ∙ ap (λ (x : Items). Asks (Ask p c x)) (h .first)
 call-read (Fetch p e) h = named p e h 102 (101 ∷ 116 ∷ 99 ∷ 104 ∷ []) refl refl (omega arith) (Asks (Fetch p e)) (rw h refl)
-call-read (Call.Answer p e served) h = named p e h 114 (101 ∷ 112 ∷ 108 ∷ 121 ∷ []) refl refl (omega arith) (Asks (Call.Answer p e served)) (rw h refl)
+call-read (Call.Answer p e true) h = answered p e 1 h (omega arith)
+call-read (Call.Answer p e false) h = answered p e 0 h (omega arith)
 call-read (Revoke p e) h = named p e h 114 (101 ∷ 118 ∷ 111 ∷ 107 ∷ 101 ∷ []) refl refl (omega arith) (Asks (Revoke p e)) (rw h refl)
 call-read (Comes e q) h = comes-back e q (and-l (isNumber e) (isNumber q) h) (and-r (isNumber e) (isNumber q) h)

@@ -21,7 +21,7 @@ use Rattle.calls.specs.contracts.Performs.{CallerInRange}
 use Rattle.text.specs.declared.Reading.{Reading}
 use Rattle.text.specs.declared.Reading.the-variants.{Asks, Crowded, Refused}
 use Rattle.text.specs.Patterns.{form, whole, wordOf, mostGroups}
-use Rattle.text.specs.CallLines.{isProcess, isNumber, ranged, simple, simpleForm, comesForm, gathered, itemRanged, noItem, packed, judged, askForm, readingOf}
+use Rattle.text.specs.CallLines.{isProcess, isNumber, ranged, simple, simpleForm, answerForm, comesForm, gathered, itemRanged, noItem, packed, judged, askForm, readingOf}
 
 -- ---- what is guaranteed
 pub record GoodNumber (p e : ℕ) : Type 0 where
@@ -93,13 +93,24 @@ simple-reads w p e =
     (if-reads (eqb w (wordOf "port")) _ _ (number-reads p e Port (λ g. g))
     (if-reads (eqb w (wordOf "close")) _ _ (number-reads p e Close (λ g. g))
     (if-reads (eqb w (wordOf "fetch")) _ _ (number-reads p e Fetch (λ g. g))
-    (if-reads (eqb w (wordOf "reply")) _ _ (number-reads p e Reply (λ g. g))
-    (if-reads (eqb w (wordOf "refuse")) _ _ (number-reads p e Refuse (λ g. g))
-    (if-reads (eqb w (wordOf "revoke")) _ _ (number-reads p e Revoke (λ g. g)) refl)))))))))
+    (if-reads (eqb w (wordOf "revoke")) _ _ (number-reads p e Revoke (λ g. g)) refl)))))))
 
-simple-form-reads : (s : List ℕ) → Reads (simpleForm s)
-unfolding simpleForm Reads
-simple-form-reads s = let f = form s 0 "(# @ #)\n" in if-reads (whole s f) (simple (f .word) (f .b) (f .c)) (Refused 2) (simple-reads (f .word) (f .b) (f .c)) refl
+simple-form-reads : (s : List ℕ) (other : Reading) → Reads other → Reads (simpleForm s other)
+unfolding simpleForm
+simple-form-reads s other h =
+    let f = form s 0 "(# @ #)\n" in
+    if-reads (whole s f) (simple (f .word) (f .b) (f .c)) other (simple-reads (f .word) (f .b) (f .c)) h
+
+answer-form-reads : (s : List ℕ) → Reads (answerForm s)
+unfolding answerForm Good Reads
+answer-form-reads s =
+    let f = form s 0 "(# answer # #)\n" in
+    let p = isProcess (f .a) in
+    let v = isNumber (f .b) in
+    let x = leb (f .c) 1 in
+    let call = Call.Answer (f .a) (f .b) (eqb (f .c) 1) in
+    if-reads (whole s f) (ranged (p && (v && x)) call) (Refused 2)
+    (ranged-reads (p && (v && x)) call (λ e. record { caller = and-l p (v && x) e; number = and-l v x (and-r p (v && x) e) })) refl
 
 comes-form-reads : (s : List ℕ) (other : Reading) → Reads other → Reads (comesForm s other)
 unfolding comesForm Good
@@ -176,8 +187,10 @@ ask-form-reads s other h =
 line-reads : (s : List ℕ) → Reads (readingOf s)
 unfolding readingOf Reads
 line-reads s =
-    if-reads (ltb (suc mostBytes) (length s)) (Refused 2) (askForm s (comesForm s (simpleForm s))) refl
-    (ask-form-reads s (comesForm s (simpleForm s)) (comes-form-reads s (simpleForm s) (simple-form-reads s)))
+    let answered = answerForm s in
+    let one = simpleForm s answered in
+    if-reads (ltb (suc mostBytes) (length s)) (Refused 2) (askForm s (comesForm s one)) refl
+    (ask-form-reads s (comesForm s one) (comes-form-reads s one (simple-form-reads s answered (answer-form-reads s))))
 
 -- ---- what other files use
 pub reading-good : (line : List ℕ) (c : Call) → readingOf line ≡ Asks c → Good c

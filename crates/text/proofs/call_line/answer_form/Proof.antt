@@ -28,7 +28,7 @@ if-ranged-requires c κs = search needs
 returns : tie.Need-returns
 unfolding answerForm form bytes
 returns c =
-    let n = c .before in
+    let n = c .before .before .before in
     let t = n .before .before in
     let form-read = sym (t .before .before .read-form .ensures) in
     let ends = sym (t .before .is-whole .ensures) ∙ t .if1 .taken in
