@@ -87,7 +87,7 @@ pub enum Part {
 pub fn changes(step: &Step) -> Vec<(Part, String)> {
     let (before, after) = (&step.before, &step.after);
     let change = change(before, after);
-    let answered = answered(step);
+    let closed = |q| closed(step, q);
     let moves = if change.closed.is_empty() {
         Part::Moved
     } else {
@@ -105,10 +105,7 @@ pub fn changes(step: &Step) -> Vec<(Part, String)> {
         Part::Moved,
         &mut change.fetched.iter().map(|q| fetched(after, q)),
     );
-    tell(
-        Part::Closed,
-        &mut change.closed.iter().map(|q| closed(q, answered.as_ref())),
-    );
+    tell(Part::Closed, &mut change.closed.iter().map(closed));
     tell(
         Part::Made,
         &mut change.made.iter().filter_map(|row| made(after, row)),
@@ -154,34 +151,26 @@ fn fetched(state: &State, q: &Request) -> String {
     )
 }
 
-/// The port whose request a call answered, and what the server did.
-struct Answered {
-    port: u32,
-    told: String,
+/// Of the request that the call answered, what the server did with it too.
+fn closed(step: &Step, q: &Request) -> String {
+    let answered = answered(step, q.port).unwrap_or_default();
+    format!(
+        "request {} of process {} on port {} is closed{answered}",
+        q.number, q.asker, q.port
+    )
 }
 
-fn answered(step: &Step) -> Option<Answered> {
+/// `: process 2 served it`, if the call answered the request on that port.
+fn answered(step: &Step, port: u32) -> Option<String> {
     let Ok(Call::Answer { caller, end, last }) = read_call(&step.line) else {
         return None;
     };
-    let port = step.before.row(end.value)?.port()?;
-    let did = if last.value == 1 {
-        "served"
-    } else {
-        "declined"
+    let at = step.before.row(end.value)?.port()?;
+    let did = match last.value {
+        1 => "served",
+        _ => "declined",
     };
-    let told = format!(": process {} {did} it", caller.value);
-    Some(Answered { port, told })
-}
-
-/// Of the request that was answered, whether it was served or declined.
-fn closed(q: &Request, answered: Option<&Answered>) -> String {
-    let answered = answered.filter(|a| a.port == q.port);
-    let told = answered.map_or("", |a| a.told.as_str());
-    format!(
-        "request {} of process {} on port {} is closed{told}",
-        q.number, q.asker, q.port
-    )
+    (at == port).then(|| format!(": process {} {did} it", caller.value))
 }
 
 /// A new row; a server end is told with its client end.

@@ -265,26 +265,27 @@ fn grounds_in_random_sessions() {
     assert!(seen.len() > 35, "{seen:?}");
 }
 
+/// The words of these lines, and what follows the number.
+const AIMED: [(&str, &str); 10] = [
+    ("go", ""),
+    ("hold", ""),
+    ("register", ""),
+    ("drop", ""),
+    ("port", ""),
+    ("close", ""),
+    ("fetch", ""),
+    ("answer", " 1"),
+    ("answer", " 0"),
+    ("revoke", ""),
+];
+
 /// Lines about what stands, whoever has it: most are refused, for many grounds.
 fn aimed(t: &Tables, seed: u64, seen: &mut BTreeSet<&'static str>) {
     let mut rng = Rng::new(seed ^ u64::from(t.next) << 8 ^ t.requests.len() as u64);
     let rows: Vec<u32> = t.rows.iter().map(|r| r.number).collect();
     let requests: Vec<u32> = t.requests.iter().map(|q| q.number).collect();
-    // a word, and what follows its number
-    let words = [
-        ("go", ""),
-        ("hold", ""),
-        ("register", ""),
-        ("drop", ""),
-        ("port", ""),
-        ("close", ""),
-        ("fetch", ""),
-        ("answer", " 1"),
-        ("answer", " 0"),
-        ("revoke", ""),
-    ];
     let state = state_of(t);
-    for (word, last) in words {
+    for (word, last) in AIMED {
         let n = rng
             .pick(if word == "revoke" { &requests } else { &rows })
             .unwrap_or(1);
