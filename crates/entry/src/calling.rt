@@ -31,8 +31,7 @@ fn caller_of(c: Call) -> u32
         Call::Close(p, e) => p,
         Call::Ask(p, e, items) => p,
         Call::Fetch(p, e) => p,
-        Call::Reply(p, e) => p,
-        Call::Refuse(p, e) => p,
+        Call::Answer(p, e, served) => p,
         Call::Revoke(p, q) => p,
         Call::Comes(e, q) => 0,
     }

@@ -14,9 +14,9 @@ use Rattle.calls.specs.declared.Call.{Call}
 use Rattle.calls.specs.declared.Call.the-variants.{Go, Hold, Register, Drop, Port, Close, Ask, Fetch, Revoke, Comes}
 use Rattle.calls.specs.Rules.{Out, Test, _when_, isRefusal, refused}
 use Rattle.calls.specs.Loans.{itemsOf}
-use Rattle.calls.specs.Calls.{refusalsGo, refusalsHold, refusalsRegister, refusalsDrop, refusalsPort, refusalsClose, refusalsAsk, refusalsFetch, refusalsReply, refusalsRefuse, refusalsRevoke, refusalsComes, refusals, effect, perform, callerOf}
+use Rattle.calls.specs.Calls.{refusalsGo, refusalsHold, refusalsRegister, refusalsDrop, refusalsPort, refusalsClose, refusalsAsk, refusalsFetch, refusalsAnswer, refusalsRevoke, refusalsComes, refusals, effect, perform, callerOf}
 use Rattle.kept.proofs.Judged.{Passed, numbered, judged}
-use Rattle.kept.proofs.Allowed.{GoAllowed, HoldAllowed, RegisterAllowed, DropAllowed, PortAllowed, CloseAllowed, AskAllowed, ServerAllowed, FetchAllowed, ReplyAllowed, RevokeAllowed, ComesAllowed, go-allowed, hold-allowed, register-allowed, drop-allowed, port-allowed, close-allowed, ask-allowed, fetch-allowed, reply-allowed, refuse-allowed, revoke-allowed, comes-allowed}
+use Rattle.kept.proofs.Allowed.{GoAllowed, HoldAllowed, RegisterAllowed, DropAllowed, PortAllowed, CloseAllowed, AskAllowed, ServerAllowed, FetchAllowed, RevokeAllowed, ComesAllowed, go-allowed, hold-allowed, register-allowed, drop-allowed, port-allowed, close-allowed, ask-allowed, fetch-allowed, answer-allowed, revoke-allowed, comes-allowed}
 use Rattle.text.specs.declared.Reading.{Reading}
 use Rattle.text.specs.declared.Reading.the-variants.{Asks, Crowded, Refused as BadLine}
 use Rattle.text.specs.CallLines.{readingOf, isProcess, isNumber}
@@ -33,7 +33,7 @@ Allowed st (Port p e) = PortAllowed st p e
 Allowed st (Close p c) = CloseAllowed st p c
 Allowed st (Ask p c is) = AskAllowed st p c (itemsOf is)
 Allowed st (Fetch p e) = FetchAllowed st p e
-Allowed st (Call.Answer p e served) = ReplyAllowed st p e
+Allowed st (Call.Answer p e served) = ServerAllowed st p e
 Allowed st (Revoke p q) = RevokeAllowed st p q
 Allowed st (Comes e q) = ComesAllowed st e q
 
@@ -54,7 +54,7 @@ allowed st s (Ask p c is) g l w =
     let named = all-mono (λ i. isNumber (i .row)) (λ i. some (i .row)) (λ i q. number-some (i .row) q) (itemsOf is) (g .rows) in
     ask-allowed st p c (itemsOf is) (caller-listed st p (g .caller) l) (g .few) named (g .rights) (g .apart) w
 allowed st s (Fetch p e) g l w = fetch-allowed st p e (caller-listed st p (g .caller) l) w
-allowed st s (Call.Answer p e served) g l w = reply-allowed st p e (caller-listed st p (g .caller) l) w
+allowed st s (Call.Answer p e served) g l w = answer-allowed st p e (caller-listed st p (g .caller) l) served w
 allowed st s (Revoke p q) g l w = revoke-allowed st p q (caller-listed st p (g .caller) l) (number-some q (g .number)) w
 allowed st s (Comes e q) g l w = comes-allowed st e q w
 
@@ -68,7 +68,7 @@ go-numbered st p e = pick (eqb e 0) _ refl
     pick false ts n = n
 
 all-numbered : (st : State) (c : Call) → numbered (refusals st c) ≡ true
-unfolding refusals numbered all refusalsHold refusalsRegister refusalsDrop refusalsPort refusalsClose refusalsAsk refusalsFetch refusalsReply refusalsRefuse refusalsRevoke refusalsComes
+unfolding refusals numbered all refusalsHold refusalsRegister refusalsDrop refusalsPort refusalsClose refusalsAsk refusalsFetch refusalsAnswer refusalsRevoke refusalsComes
 all-numbered st (Go p e) = go-numbered st p e
 all-numbered st (Hold p s) = refl
 all-numbered st (Register p e) = refl

@@ -27,7 +27,7 @@ effect-kept st s (Port p e) a = port-kept st s p e a
 effect-kept st s (Close p c) a = close-port-kept st s c
 effect-kept st s (Ask p c is) a = ask-kept st s p c (itemsOf is) a
 effect-kept st s (Fetch p e) a = fetch-kept st s p e a
-effect-kept st s (Call.Answer p e served) a = close-request-kept st s (askedOf st e .number) (a .serves .asked)
+effect-kept st s (Call.Answer p e served) a = close-request-kept st s (askedOf st e .number) (a .asked)
 effect-kept st s (Revoke p q) a = close-request-kept st s q (a .number)
 effect-kept st s (Comes e q) a = s
 

@@ -130,7 +130,7 @@ module _ (st : State) (s : Sound st) (n : ℕ) (e : isNode (rowOf (st .rows) n .
   effect-stays (Close p d) a = port-stays d
   effect-stays (Ask p d is) a = lending-stays st d (st .next) n (itemsOf is) _ t
   effect-stays (Fetch p d) a = fetch-stays p (askedOf st d)
-  effect-stays (Call.Answer p d served) a = request-stays (askedOf st d .number) (a .serves .asked)
+  effect-stays (Call.Answer p d served) a = request-stays (askedOf st d .number) (a .asked)
   effect-stays (Revoke p q) a = request-stays q (a .number)
   effect-stays (Comes d q) a = t
 

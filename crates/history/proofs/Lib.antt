@@ -37,7 +37,7 @@ pub mod Find
 pub mod Closed
 -- hold, register, port
 pub mod StepAdd
--- drop, close, revoke, reply, refuse
+-- drop, close, revoke, answer
 pub mod StepClose
 -- go, fetch, comes
 pub mod StepGo

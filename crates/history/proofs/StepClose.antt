@@ -1,4 +1,4 @@
--- drop, close, revoke, reply and refuse keep the invariant.
+-- drop, close, revoke and answer keep the invariant.
 use Prim.Native.Nat.{ℕ, pred, _<_}
 use mathlib.Core.Bool.{Bool, true, false, not, cond, _&&_, _||_}
 use mathlib.Core.List.{List, [], _∷_, map}
@@ -117,7 +117,7 @@ member-one v q ks = pick (eqb v q)
     pick false = refl
 
 module _ (h : History) (st : State) (i : Inv h st) (s : Sound st) where
-  -- ---- revoke, reply, refuse
+  -- ---- revoke, answer
   revoked-inv : (q : ℕ) → 0 < q → q < st .next → Inv (noteRevoke q h) (closeRequest q st)
   unfolding closeRequest noteRevoke
   revoked-inv q lo hi =

@@ -31,7 +31,7 @@ effect-keeps h st i s (Port p e) a = taken-made _ _ (port-inv h st i s p e (a .r
 effect-keeps h st i s (Close p c) a = taken-done _ (closed-inv h st i s p c a)
 effect-keeps h st i s (Ask p c is) a = taken-made _ _ (ask-inv h st i s p c (itemsOf is) a)
 effect-keeps h st i s (Fetch p e) a = taken _ (askedOf st e .number) refl refl (fetched-inv h st i p (askedOf st e))
-effect-keeps h st i s (Call.Answer p e served) a = taken-done _ (served-inv h st i s p e (a .serves))
+effect-keeps h st i s (Call.Answer p e served) a = taken-done _ (served-inv h st i s p e a)
 effect-keeps h st i s (Revoke p q) a = taken-done _ (revoke-inv h st i s p q a)
 effect-keeps h st i s (Comes e q) a = taken _ _ refl refl i
 

@@ -139,6 +139,6 @@ noteClose c h = withClosedPorts (c ∷ h .closedPorts) h
 unfoldable pub noteRevoke : ℕ → History → History
 noteRevoke q h = withClosedRequests (q ∷ h .closedRequests) h
 
--- (rule H2) `reply v`, `refuse v`: the request open on port v - 1 is closed
+-- (rule H2) `answer v x`: the request open on port v - 1 is closed
 unfoldable pub noteEnd : ℕ → History → History
 noteEnd v h = noteRevoke (openRequest h (pred v)) h

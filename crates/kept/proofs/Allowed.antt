@@ -19,7 +19,7 @@ use Rattle.tables.proofs.SoundFacts.{active-node, clist-there}
 use Rattle.calls.specs.declared.Item.{Item}
 use Rattle.calls.specs.Rules.{notHeld, hasOpen, askedOf, tooDeep, rowsFull, requestsFull, numbersSpent}
 use Rattle.calls.specs.Loans.{moves, copies, copyDepth}
-use Rattle.calls.specs.Calls.{heldDepth, registeredDepth, portDepth, inUse, lacksRight, isBusy, lentEnds, isAway, refusalsGo, refusalsHold, refusalsRegister, refusalsDrop, refusalsPort, refusalsClose, refusalsAsk, refusalsFetch, refusalsReply, refusalsRefuse, refusalsRevoke, refusalsComes}
+use Rattle.calls.specs.Calls.{heldDepth, registeredDepth, portDepth, inUse, lacksRight, isBusy, lentEnds, isAway, refusalsGo, refusalsHold, refusalsRegister, refusalsDrop, refusalsPort, refusalsClose, refusalsAsk, refusalsFetch, refusalsAnswer, refusalsRevoke, refusalsComes}
 use Rattle.kept.proofs.AddRow.{rows-room, numbers-room}
 use Rattle.kept.proofs.AskCopy.{lendable}
 use Rattle.kept.proofs.Judged.{Passed}
@@ -198,7 +198,7 @@ module _ (st : State) (p c : ℕ) (is : List Item) where
         numbers-room = numbers-room st (suc (length (copies st is))) (w .1 .1 .1 .1 .1 .1 .1 .0);
       }
 
--- ---- fetch, reply, refuse: the server end of a port, and the request that its server sees
+-- ---- fetch, answer: the server end of a port, and the request that its server sees
 pub record ServerAllowed (st : State) (p e : ℕ) : Type 0 where
   pub caller : isListed (st .processes) p ≡ true
   pub row : InHand st p e
@@ -208,12 +208,6 @@ pub record ServerAllowed (st : State) (p e : ℕ) : Type 0 where
 pub record FetchAllowed (st : State) (p e : ℕ) : Type 0 where
   pub serves : ServerAllowed st p e
   pub unfetched : isFetched (askedOf st e) ≡ false
-
-pub record ReplyAllowed (st : State) (p e : ℕ) : Type 0 where
-  pub serves : ServerAllowed st p e
-  pub idle : any (λ x. hasOpen st (rowOf (st .rows) x .object)) (lentEnds st (askedOf st e)) ≡ false
-  pub fetched : isFetched (askedOf st e) ≡ true
-  pub back : any (isAway st p (askedOf st e)) (lentEnds st (askedOf st e)) ≡ false
 
 module _ (st : State) (p e : ℕ) (l : isListed (st .processes) p ≡ true) where
   serving : notHeld st p e ≡ false → not (isServer (rowOf (st .rows) e .kind)) ≡ false → eqb (askedOf st e .number) 0 ≡ false → ServerAllowed st p e
@@ -226,21 +220,10 @@ module _ (st : State) (p e : ℕ) (l : isListed (st .processes) p ≡ true) wher
       let none = eqb (v .number) 0 in
       record { serves = serving (w .0) (w .1 .0) (or-fl none (isFetched v) (w .1 .1 .0)); unfetched = or-fr none (isFetched v) (w .1 .1 .0) }
 
-  pub reply-allowed : Passed (refusalsReply st p e) → ReplyAllowed st p e
-  unfolding refusalsReply Passed
-  reply-allowed w =
-      let v = askedOf st e in
-      let none = eqb (v .number) 0 in
-      record {
-        serves = serving (w .0) (w .1 .0) (or-fl none (not (isFetched v)) (w .1 .1 .1 .0));
-        idle = w .1 .1 .0;
-        fetched = not-f (isFetched v) (or-fr none (not (isFetched v)) (w .1 .1 .1 .0));
-        back = w .1 .1 .1 .1 .0;
-      }
-
-  pub refuse-allowed : Passed (refusalsRefuse st p e) → ServerAllowed st p e
-  unfolding refusalsRefuse Passed
-  refuse-allowed w = serving (w .0) (w .1 .0) (w .1 .1 .0)
+  -- whether it was served or not
+  pub answer-allowed : (served : Bool) → Passed (refusalsAnswer st p e served) → ServerAllowed st p e
+  unfolding refusalsAnswer Passed
+  answer-allowed served w = serving (w .0) (w .1 .0) (or-fl (eqb (askedOf st e .number) 0) (served && not (isFetched (askedOf st e))) (w .1 .1 .1 .0))
 
 -- ---- revoke: of the line, the request has a number
 pub record RevokeAllowed (st : State) (p q : ℕ) : Type 0 where

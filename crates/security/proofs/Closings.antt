@@ -59,7 +59,7 @@ module _ (st : State) (s : Sound st) (c : Call) where
   up : rowsRise (st .rows) ≡ true
   up = s .numbers .rows-rise
 
-  -- ---- a request: reply, refuse, revoke
+  -- ---- a request: answer, revoke
   module _ (q : ℕ) (h : some q ≡ true) (by : closedBy st c ≡ q) (none : (r : Row) → discards c r ≡ false) where
     abbrev g : List ℕ
     g = marked (bears q) (st .rows)

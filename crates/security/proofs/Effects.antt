@@ -159,13 +159,9 @@ module _ (st : State) where
         spares = λ n k. ap (λ b. b && eqb (rowOf (st .rows) n .object) c) (node-no-end st s n k);
       }
 
-  reply-plain : (p e : ℕ) → Plain st (Reply p e)
+  answer-plain : (p e : ℕ) (served : Bool) → Plain st (Call.Answer p e served)
   unfolding placeAfter recordAfter fetchedBy takes logged discards
-  reply-plain p e = record { placed = λ r. refl; homed = λ p. refl; unfetched = λ v. refl; unnumbered = refl; unlogged = λ log. refl; spares = λ n k. refl }
-
-  refuse-plain : (p e : ℕ) → Plain st (Refuse p e)
-  unfolding placeAfter recordAfter fetchedBy takes logged discards
-  refuse-plain p e = record { placed = λ r. refl; homed = λ p. refl; unfetched = λ v. refl; unnumbered = refl; unlogged = λ log. refl; spares = λ n k. refl }
+  answer-plain p e served = record { placed = λ r. refl; homed = λ p. refl; unfetched = λ v. refl; unnumbered = refl; unlogged = λ log. refl; spares = λ n k. refl }
 
   revoke-plain : (p q : ℕ) → Plain st (Revoke p q)
   unfolding placeAfter recordAfter fetchedBy takes logged discards
@@ -185,6 +181,6 @@ effect-of st s (Port p e) a = adds (Port p e) _ (suc (suc (st .next))) (makes p 
 effect-of st s (Close p c) a = shuts-off (Close p c) _ _ (port-closes st s p c (a .client)) (close-plain st s p c)
 effect-of st s (Ask p c is) a = subst (Effect st (Ask p c is)) (sym (closed-form st p c (itemsOf is))) (asks p c is a)
 effect-of st s (Fetch p e) a = fetches p e a
-effect-of st s (Call.Answer p e served) a = shuts-off (Call.Answer p e served) _ _ (request-closes st s (Call.Answer p e served) (askedOf st e .number) (a .serves .asked) refl (λ r. refl)) (reply-plain st p e)
+effect-of st s (Call.Answer p e served) a = shuts-off (Call.Answer p e served) _ _ (request-closes st s (Call.Answer p e served) (askedOf st e .number) (a .asked) refl (λ r. refl)) (answer-plain st p e served)
 effect-of st s (Revoke p q) a = revoke-effect st s p q (a .number)
 effect-of st s (Comes e q) a = tells e q

@@ -31,7 +31,7 @@ use Rattle.calls.specs.declared.Answer.the-variants.{Fetched}
 use Rattle.calls.specs.Answers.{refusalOf}
 use Rattle.calls.specs.Rules.{_when_, lowest, refused, judge, notHeld, hasOpen, askedOf, tooDeep}
 use Rattle.calls.specs.Loans.{itemsOf, itemRow, moves, copies, copyDepth}
-use Rattle.calls.specs.Calls.{registeredDepth, inUse, lacksRight, isBusy, lentEnds, isAway, refusalsGo, refusalsHold, refusalsRegister, refusalsDrop, refusalsPort, refusalsClose, refusalsAsk, refusalsFetch, refusalsReply, refusalsRefuse, refusalsRevoke, refusals, done, made, fetchedAnswer, effect, perform, callerOf}
+use Rattle.calls.specs.Calls.{registeredDepth, inUse, lacksRight, isBusy, lentEnds, isAway, refusalsGo, refusalsHold, refusalsRegister, refusalsDrop, refusalsPort, refusalsClose, refusalsAsk, refusalsFetch, refusalsAnswer, refusalsRevoke, refusals, done, made, fetchedAnswer, effect, perform, callerOf}
 use Rattle.text.specs.declared.Reading.the-variants.{Asks}
 use Rattle.text.specs.Entry.{callerUnlisted, answered}
 use Rattle.security.specs.Isolation.{SeenEnd, seenEnd, seenRequest, nothingSeen, seenRow, view, Alike, refused as both-refused, same as same-answer, new-number, ViewDecides, Isolation}
@@ -170,13 +170,6 @@ module _ (st st′ : State) (s : Sound st) (s′ : Sound st′) (p : ℕ) (same 
       test 12 _ _ _ _ (omega arith) (omega arith) (away-same e h (not-f (isClient (R e .kind)) k)) λ _. rest [] [] refl refl (done-alike st st′ _ _)
 
   -- ---- the server's
-  refuse-alike : (e : ℕ) → Alikes (Refuse p e)
-  unfolding refusals refusalsRefuse effect all seenRequest
-  refuse-alike e =
-      test 7 _ _ _ _ (omega arith) (omega arith) (held-same e) λ h.
-      test 8 _ _ _ _ (omega arith) (omega arith) (ap not (kind-test e h isServer)) λ k.
-      test 11 _ _ _ _ (omega arith) (omega arith) (ap (λ x. eqb (x .number) 0) (request-same e h (not-f (isServer (R e .kind)) k))) λ _. rest [] [] refl refl (done-alike st st′ _ _)
-
   fetch-alike : (e : ℕ) → Alikes (Fetch p e)
   unfolding refusals refusalsFetch effect all seenRequest
   fetch-alike e =
@@ -205,14 +198,14 @@ module _ (st st′ : State) (s : Sound st) (s′ : Sound st′) (p : ℕ) (same 
           answer : fetchedAnswer v ≡ fetchedAnswer v′
           answer = unfold fetchedAnswer in (ap₂ (λ n is. Fetched n (getD is 0 0) (getD is 1 0) (getD is 2 0) (getD is 3 0)) number-so items)
 
-  reply-alike : (e : ℕ) → Alikes (Reply p e)
-  unfolding refusals refusalsReply effect all seenRequest seenEnd isAway
-  reply-alike e =
+  answer-alike : (e : ℕ) (served : Bool) → Alikes (Call.Answer p e served)
+  unfolding refusals refusalsAnswer effect all seenRequest seenEnd isAway
+  answer-alike e served =
       test 7 _ _ _ _ (omega arith) (omega arith) (held-same e) λ h.
       test 8 _ _ _ _ (omega arith) (omega arith) (ap not (kind-test e h isServer)) λ k.
-      test 10 _ _ _ _ (omega arith) (omega arith) (busy (request-same e h (not-f (isServer (R e .kind)) k))) λ _.
-      test 11 _ _ _ _ (omega arith) (omega arith) (ap (λ x. eqb (x .number) 0 || not (x .fetched)) (request-same e h (not-f (isServer (R e .kind)) k))) λ _.
-      test 14 _ _ _ _ (omega arith) (omega arith) (away (request-same e h (not-f (isServer (R e .kind)) k))) λ _. rest [] [] refl refl (done-alike st st′ _ _)
+      test 10 _ _ _ _ (omega arith) (omega arith) (ap (λ b. served && b) (busy (request-same e h (not-f (isServer (R e .kind)) k)))) λ _.
+      test 11 _ _ _ _ (omega arith) (omega arith) (ap (λ x. eqb (x .number) 0 || (served && not (x .fetched))) (request-same e h (not-f (isServer (R e .kind)) k))) λ _.
+      test 14 _ _ _ _ (omega arith) (omega arith) (ap (λ b. served && b) (away (request-same e h (not-f (isServer (R e .kind)) k)))) λ _. rest [] [] refl refl (done-alike st st′ _ _)
     where
       busy-of : SeenEnd → Bool
       busy-of z = z .busy
@@ -397,7 +390,7 @@ module _ (st st′ : State) (s : Sound st) (s′ : Sound st′) (p : ℕ) (same 
   by-call l lo (Close q e) z = subst (λ k. Alikes (Close k e)) (sym z) (close-alike e)
   by-call l lo (Ask q c is) z = subst (λ k. Alikes (Ask k c is)) (sym z) (ask-alike c is)
   by-call l lo (Fetch q e) z = subst (λ k. Alikes (Fetch k e)) (sym z) (fetch-alike e)
-  by-call l lo (Call.Answer q e served) z = subst (λ k. Alikes (Call.Answer k e served)) (sym z) (reply-alike e)
+  by-call l lo (Call.Answer q e served) z = subst (λ k. Alikes (Call.Answer k e served)) (sym z) (answer-alike e served)
   by-call l lo (Revoke q e) z = subst (λ k. Alikes (Revoke k e)) (sym z) (revoke-alike e)
   by-call l lo (Comes e q) z = absurd (omega arith)
 

@@ -20,8 +20,8 @@ either-in-range : (b : Bool) (x y : Call) → CallerInRange x → CallerInRange 
 either-in-range true x y h k = h
 either-in-range false x y h k = k
 
-module _ (k p e : ℕ) (is : Items) where
-  pub last-code : 11 ≤ k → Comes p e ≡ callOfCode k p e is
+module _ (k p e : ℕ) (is : Items) (served : Bool) where
+  pub last-code : 10 ≤ k → Comes p e ≡ callOfCode k p e is served
   unfolding callOfCode
   last-code h =
       rw (
@@ -35,20 +35,19 @@ module _ (k p e : ℕ) (is : Items) where
         ne-eqb k 7 (λ z. omega arith),
         ne-eqb k 8 (λ z. omega arith),
         ne-eqb k 9 (λ z. omega arith),
-        ne-eqb k 10 (λ z. omega arith),
       ) refl
 
-  process-in-range : IsProcess p → CallerInRange (callOfCode k p e is)
+  process-in-range : IsProcess p → CallerInRange (callOfCode k p e is served)
   unfolding callOfCode CallerInRange
   process-in-range h =
       either-in-range (eqb k 0) (Go p e) _ h (either-in-range (eqb k 1) (Hold p e) _ h (either-in-range (eqb k 2) (Register p e) _ h
       (either-in-range (eqb k 3) (Drop p e) _ h (either-in-range (eqb k 4) (Port p e) _ h (either-in-range (eqb k 5) (Close p e) _ h
-      (either-in-range (eqb k 6) (Ask p e is) _ h (either-in-range (eqb k 7) (Fetch p e) _ h (either-in-range (eqb k 8) (Reply p e) _ h
-      (either-in-range (eqb k 9) (Refuse p e) _ h (either-in-range (eqb k 10) (Revoke p e) (Comes p e) h tt))))))))))
+      (either-in-range (eqb k 6) (Ask p e is) _ h (either-in-range (eqb k 7) (Fetch p e) _ h (either-in-range (eqb k 8) (Call.Answer p e served) _ h
+      (either-in-range (eqb k 9) (Revoke p e) (Comes p e) h tt)))))))))
 
-  pub fits-in-range : leb 11 k || between 1 64 p ≡ true → CallerInRange (callOfCode k p e is)
+  pub fits-in-range : leb 10 k || between 1 64 p ≡ true → CallerInRange (callOfCode k p e is served)
   unfolding CallerInRange
   fits-in-range h =
-      ⊎-elim (λ q. subst CallerInRange (last-code (leb-true 11 k q)) tt)
+      ⊎-elim (λ q. subst CallerInRange (last-code (leb-true 10 k q)) tt)
       (λ q. let (lo, hi) = between-range 1 64 p q in process-in-range (omega arith, hi))
-      (or-cases (leb 11 k) (between 1 64 p) h)
+      (or-cases (leb 10 k) (between 1 64 p) h)

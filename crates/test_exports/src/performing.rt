@@ -11,13 +11,14 @@ ghost use mathlib.Core.Path.{_≡_};
 ghost use Rattle.test_exports.specs.contracts.Calls.{itemsOfWords, callOfWords, callFits, wordsOfAnswer};
 ghost use Rattle.test_exports.specs.contracts.Calls.{PerformsWords, AllStay};
 
-// a call: its code, its two numbers, row and rights of each item of an ask; an answer: its code and its numbers
+// a call: its code, its two numbers, row and rights of each item of an ask, or 1 for a request served; an answer: its
+// code and its numbers
 pub const CALL_WORDS: usize = 11;
 
 pub const ANSWER_WORDS: usize = 6;
 
 // the code of comes, which has no caller
-const COMES: u32 = 11;
+const COMES: u32 = 10;
 
 fn items_of(w: &[u32; CALL_WORDS]) -> Items
     ensures { λ r. ⌜ r ≡ itemsOfWords (now (w .entry)) ⌝ }
@@ -53,6 +54,7 @@ fn call_of(w: &[u32; CALL_WORDS]) -> Call
     let code = w[0];
     let p = w[1];
     let e = w[2];
+    let served = w[3] == 1;
     match code {
         0 => Call::Go(p, e),
         1 => Call::Hold(p, e),
@@ -62,9 +64,8 @@ fn call_of(w: &[u32; CALL_WORDS]) -> Call
         5 => Call::Close(p, e),
         6 => Call::Ask(p, e, items_of(w)),
         7 => Call::Fetch(p, e),
-        8 => Call::Reply(p, e),
-        9 => Call::Refuse(p, e),
-        10 => Call::Revoke(p, e),
+        8 => Call::Answer(p, e, served),
+        9 => Call::Revoke(p, e),
         _ => Call::Comes(p, e),
     }
 }

@@ -129,7 +129,7 @@ starred =
           ∷ "(1 ask 9 (4 7) (5 7) (4 3))" ⇒ "(no 4)"
           ∷ "(1 ask 9 (4 7) (5 7) (6 7) (7 7))" ⇒ "(ok 11)"
           ∷ "(2 fetch 10)" ⇒ "(ok 11 12 13 14 15)"
-          ∷ "(2 reply 10)" ⇒ "(ok 0)"
+          ∷ "(2 answer 10 1)" ⇒ "(ok 0)"
           ∷ "(1 ask 9)" ⇒ "(ok 16)"
           ∷ [];
     }
@@ -162,7 +162,7 @@ starred =
           ∷ [];
     }
     ∷ record {
-      name = "reply while a lent end's port has an open request gives 10; afterwards it is accepted";
+      name = "answer with 1 while a lent end's port has an open request gives 10; afterwards it is accepted";
       opening = offices;
       opened = "(ok 0)";
       calls =
@@ -173,10 +173,10 @@ starred =
           ∷ "(1 ask 8 (11 0))" ⇒ "(ok 13)"
           ∷ "(2 fetch 9)" ⇒ "(ok 13 11)"
           ∷ "(2 ask 11)" ⇒ "(ok 14)"
-          ∷ "(2 reply 9)" ⇒ "(no 10)"
+          ∷ "(2 answer 9 1)" ⇒ "(no 10)"
           ∷ "(3 fetch 12)" ⇒ "(ok 14)"
-          ∷ "(3 reply 12)" ⇒ "(ok 0)"
-          ∷ "(2 reply 9)" ⇒ "(ok 0)"
+          ∷ "(3 answer 12 1)" ⇒ "(ok 0)"
+          ∷ "(2 answer 9 1)" ⇒ "(ok 0)"
           ∷ "(1 close 11)" ⇒ "(ok 0)"
           ∷ [];
     }
@@ -206,7 +206,7 @@ misreadings =
           ∷ "(comes 18 17)" ⇒ "(ok 1)"
           ∷ "(3 port 18)" ⇒ "(ok 19)"
           ∷ "(3 fetch 9)" ⇒ "(no 7)"
-          ∷ "(2 reply 9)" ⇒ "(ok 0)"
+          ∷ "(2 answer 9 1)" ⇒ "(ok 0)"
           ∷ "(3 ask 19)" ⇒ "(no 7)"
           ∷ [];
     }
@@ -231,7 +231,7 @@ misreadings =
           ∷ "(2 ask 11)" ⇒ "(no 7)"
           ∷ "(3 ask 11)" ⇒ "(no 7)"
           ∷ "(1 ask 11)" ⇒ "(ok 18)"
-          ∷ "(3 reply 15)" ⇒ "(ok 0)"
+          ∷ "(3 answer 15 1)" ⇒ "(ok 0)"
           ∷ "(1 close 11)" ⇒ "(ok 0)"
           ∷ [];
     }

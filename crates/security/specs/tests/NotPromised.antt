@@ -36,7 +36,7 @@ neighbours =
       calls =
           "(3 hold 1)" ⇒ "(ok 3)" ∷ "(3 port 3)" ⇒ "(ok 4)" ∷ "(1 hold 2)" ⇒ "(ok 6)" ∷ "(1 port 6)" ⇒ "(ok 7)"
           ∷ "(1 ask 7 (5 0))" ⇒ "(ok 9)" ∷ "(2 fetch 8)" ⇒ "(ok 9 5)" ∷ "(3 ask 4 (3 7))" ⇒ "(ok 10)" ∷ "(2 fetch 5)" ⇒ "(ok 10 11)"
-          ∷ "(1 revoke 9)" ⇒ "(ok 0)" ∷ "(2 port 11)" ⇒ "(ok 12)" ∷ "(1 refuse 5)" ⇒ "(ok 0)" ∷ "(2 port 11)" ⇒ "(no 7)"
+          ∷ "(1 revoke 9)" ⇒ "(ok 0)" ∷ "(2 port 11)" ⇒ "(ok 12)" ∷ "(1 answer 5 0)" ⇒ "(ok 0)" ∷ "(2 port 11)" ⇒ "(no 7)"
           ∷ [];
     }
     -- (rule N4)
@@ -120,7 +120,7 @@ neighbours =
       calls =
           "(1 hold 1)" ⇒ "(ok 3)" ∷ "(2 hold 2)" ⇒ "(ok 4)" ∷ "(1 port 3)" ⇒ "(ok 5)" ∷ "(1 port 3)" ⇒ "(ok 7)"
           ∷ "(2 port 4)" ⇒ "(ok 9)" ∷ "(1 ask 5 (7 0))" ⇒ "(ok 11)" ∷ "(2 fetch 6)" ⇒ "(ok 11 7)" ∷ "(2 ask 9 (7 0))" ⇒ "(ok 12)"
-          ∷ "(3 fetch 10)" ⇒ "(ok 12 7)" ∷ "(2 reply 6)" ⇒ "(no 14)" ∷ "(3 ask 7)" ⇒ "(ok 13)" ∷ "(2 reply 6)" ⇒ "(no 10)"
+          ∷ "(3 fetch 10)" ⇒ "(ok 12 7)" ∷ "(2 answer 6 1)" ⇒ "(no 14)" ∷ "(3 ask 7)" ⇒ "(ok 13)" ∷ "(2 answer 6 1)" ⇒ "(no 10)"
           ∷ [];
     }
     -- (rule N9)

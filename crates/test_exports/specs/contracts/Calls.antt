@@ -21,7 +21,7 @@ use Rattle.calls.specs.Calls.{perform}
 use Rattle.calls.specs.contracts.Performs.{RunsAfter, CallerListed}
 use Rattle.test_exports.specs.contracts.Exports.{Unless}
 
--- ---- a call in words: its code, its two numbers, row and rights of each item of an ask
+-- ---- a call in words: its code, its two numbers, row and rights of each item of an ask, or 1 for a request served
 abbrev itemOfWords : List ℕ → ℕ → Item
 itemOfWords w k = record { row = getD w k 0; rights = getD w (suc k) 0 }
 
@@ -29,8 +29,8 @@ abbrev pub itemsOfWords : List ℕ → Items
 itemsOfWords w = record { first = itemOfWords w 3; second = itemOfWords w 5; third = itemOfWords w 7; fourth = itemOfWords w 9 }
 
 -- the calls in the order of their type; any other code is that of comes
-unfoldable pub callOfCode : ℕ → ℕ → ℕ → Items → Call
-callOfCode k p e is =
+unfoldable pub callOfCode : ℕ → ℕ → ℕ → Items → Bool → Call
+callOfCode k p e is served =
     if eqb k 0 then Go p e
     else if eqb k 1 then Hold p e
     else if eqb k 2 then Register p e
@@ -39,17 +39,16 @@ callOfCode k p e is =
     else if eqb k 5 then Close p e
     else if eqb k 6 then Ask p e is
     else if eqb k 7 then Fetch p e
-    else if eqb k 8 then Reply p e
-    else if eqb k 9 then Refuse p e
-    else if eqb k 10 then Revoke p e
+    else if eqb k 8 then Call.Answer p e served
+    else if eqb k 9 then Revoke p e
     else Comes p e
 
 abbrev pub callOfWords : List ℕ → Call
-callOfWords w = callOfCode (getD w 0 0) (getD w 1 0) (getD w 2 0) (itemsOfWords w)
+callOfWords w = callOfCode (getD w 0 0) (getD w 1 0) (getD w 2 0) (itemsOfWords w) (eqb (getD w 3 0) 1)
 
 -- it has no caller, or a process's number for it
 abbrev pub callFits : List ℕ → Bool
-callFits w = leb 11 (getD w 0 0) || between 1 PROCESSES (getD w 1 0)
+callFits w = leb 10 (getD w 0 0) || between 1 PROCESSES (getD w 1 0)
 
 -- ---- an answer in words: its code, its numbers, 0 after them
 unfoldable pub wordsOfAnswer : Answer → List ℕ

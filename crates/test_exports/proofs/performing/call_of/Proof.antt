@@ -14,6 +14,9 @@ element-copy-out-p c = search needs
 element-copy-out-e : tie.Need-element-copy-out-e
 element-copy-out-e c = search needs
 
+element-copy-out-served : tie.Need-element-copy-out-served
+element-copy-out-served c = search needs
+
 items-of-requires : tie.Need-items-of-requires
 items-of-requires c κs = search needs
 
@@ -59,25 +62,20 @@ returns-10 c = rw (c .match .keys10)
 
 returns-11 : tie.Need-returns-11
 unfolding callOfCode
-returns-11 c = rw (c .match .keys11)
-
-returns-12 : tie.Need-returns-12
-unfolding callOfCode
-returns-12 c =
+returns-11 c =
     let r = c .match .rest in
-    let r5 = r .0 .0 .0 .0 .0 in
+    let r4 = r .0 .0 .0 .0 in
     rw (
-      ne-eqb _ 0 (r5 .0 .0 .0 .0 .0 .1),
-      ne-eqb _ 1 (r5 .0 .0 .0 .0 .1),
-      ne-eqb _ 2 (r5 .0 .0 .0 .1),
-      ne-eqb _ 3 (r5 .0 .0 .1),
-      ne-eqb _ 4 (r5 .0 .1),
-      ne-eqb _ 5 (r5 .1),
-      ne-eqb _ 6 (r .0 .0 .0 .0 .1),
-      ne-eqb _ 7 (r .0 .0 .0 .1),
-      ne-eqb _ 8 (r .0 .0 .1),
-      ne-eqb _ 9 (r .0 .1),
-      ne-eqb _ 10 (r .1),
+      ne-eqb _ 0 (r4 .0 .0 .0 .0 .0 .1),
+      ne-eqb _ 1 (r4 .0 .0 .0 .0 .1),
+      ne-eqb _ 2 (r4 .0 .0 .0 .1),
+      ne-eqb _ 3 (r4 .0 .0 .1),
+      ne-eqb _ 4 (r4 .0 .1),
+      ne-eqb _ 5 (r4 .1),
+      ne-eqb _ 6 (r .0 .0 .0 .1),
+      ne-eqb _ 7 (r .0 .0 .1),
+      ne-eqb _ 8 (r .0 .1),
+      ne-eqb _ 9 (r .1),
     )
 
 pub call-of-spec : {M : Type 1} → statement M
@@ -87,6 +85,7 @@ call-of-spec =
     element-copy-out-code
     element-copy-out-p
     element-copy-out-e
+    element-copy-out-served
     items-of-requires
     returns
     returns-2
@@ -98,5 +97,4 @@ call-of-spec =
     returns-8
     returns-9
     returns-10
-    returns-11
-    returns-12)
+    returns-11)
