@@ -78,6 +78,8 @@ static void calls(void) {
     check("a call", answered(call(t, p, "(1 hold 1)\n", 256), "(ok 2)\n") && !unchanged());
     check("a refused call", answered(call(t, p, "(1 hold 2)\n", 256), "(no 7)\n") && unchanged());
     check("a line without its line feed", answered(call(t, p, "(1 hold 1)", 256), "(no 2)\n") && unchanged());
+    check("a word that is no call", answered(call(t, p, "(1 reply 2)\n", 256), "(no 2)\n") && unchanged());
+    check("an answer with 2", answered(call(t, p, "(1 answer 2 2)\n", 256), "(no 3)\n") && unchanged());
     check("no line", answered(call(t, p, "", 256), "(no 2)\n") && unchanged());
     check("a run too short", answered(call(t - 1, p, "(1 hold 1)\n", 256), "(no 1)\n") && unchanged());
     check("a run too long", answered(call(t, p + 1, "(1 hold 1)\n", 256), "(no 1)\n") && unchanged());
@@ -86,12 +88,13 @@ static void calls(void) {
     check("words that are not sound", answered(call(t, p, "(1 hold 1)\n", 256), "(no 1)\n") && unchanged());
 }
 
-/* every call once, so that the stack of each is seen */
-static void twelve(void) {
+/* every call, answer with 1 and with 0, so that the stack of each is seen */
+static void eleven(void) {
     static const char *const lines[] = {
-        "(1 hold 1)\n", "(1 port 2)\n",  "(1 ask 3 (2 7))\n", "(1 fetch 4)\n", "(1 port 6)\n",   "(comes 7 5)\n",   "(1 revoke 5)\n",
-        "(1 port 2)\n", "(1 ask 9)\n",   "(1 fetch 10)\n",    "(1 reply 10)\n", "(1 ask 9)\n",   "(1 refuse 10)\n", "(1 close 9)\n",
-        "(1 go 0)\n",   "(1 register 2)\n", "(1 hold 1)\n",   "(1 drop 14)\n",
+        "(1 hold 1)\n",      "(1 port 2)\n",  "(1 ask 3 (2 7))\n", "(1 fetch 4)\n",    "(1 port 6)\n",
+        "(comes 7 5)\n",     "(1 revoke 5)\n", "(1 port 2)\n",      "(1 ask 9)\n",      "(1 fetch 10)\n",
+        "(1 answer 10 1)\n", "(1 ask 9)\n",   "(1 answer 10 0)\n", "(1 close 9)\n",    "(1 go 0)\n",
+        "(1 register 2)\n",  "(1 hold 1)\n",  "(1 drop 14)\n",
     };
     const char *text = "(node 1 (op 1 0 7))\n(process 1 1)\n(open)\n";
     open_text(TABLET_TABLES_WORDS, TABLET_PROCESSES_WORDS, text, 256);
@@ -129,7 +132,7 @@ static ucontext_t here, there;
 static void on_that_stack(void) {
     openings();
     calls();
-    twelve();
+    eleven();
     longest();
 }
 

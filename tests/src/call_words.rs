@@ -5,14 +5,15 @@ use model::limits::ITEMS;
 use model::relations::request_on;
 use model::{Answer, Tables};
 
-/// The call's code, its two numbers, row and rights of each item of an ask, 0 for no item.
+/// The call's code and its two numbers; then the last number of answer, or row and rights of each
+/// item of an ask, 0 for no item.
 pub type CallWords = [u32; 3 + 2 * ITEMS];
 
 /// The answer's code and its numbers, 0 after them.
 pub type AnswerWords = [u32; 2 + ITEMS];
 
-/// The words in the order of their codes; the ask and comes are no words with one number.
-const CODES: [Option<Word>; 12] = [
+/// The words in the order of their codes; ask, answer and comes are no words with one number.
+const CODES: [Option<Word>; 11] = [
     Some(Word::Go),
     Some(Word::Hold),
     Some(Word::Register),
@@ -21,20 +22,14 @@ const CODES: [Option<Word>; 12] = [
     Some(Word::Close),
     None,
     Some(Word::Fetch),
-    Some(Word::Reply),
-    Some(Word::Refuse),
+    None,
     Some(Word::Revoke),
     None,
 ];
 
 pub const ASK: u32 = 6;
-pub const COMES: u32 = 11;
-
-/// The names of the calls, by code.
-pub const NAMES: [&str; 12] = [
-    "go", "hold", "register", "drop", "port", "close", "ask", "fetch", "reply", "refuse", "revoke",
-    "comes",
-];
+pub const ANSWER: u32 = 8;
+pub const COMES: u32 = 10;
 
 pub const DONE: u32 = 0;
 pub const MADE: u32 = 1;
@@ -45,6 +40,7 @@ pub const REFUSED: u32 = 4;
 pub fn code(call: &Call) -> u32 {
     match call {
         Call::Ask { .. } => ASK,
+        Call::Answer { .. } => ANSWER,
         Call::Comes { .. } => COMES,
         Call::One { word, .. } => {
             let at = CODES.iter().position(|w| *w == Some(*word));
@@ -53,11 +49,22 @@ pub fn code(call: &Call) -> u32 {
     }
 }
 
-/// The words of a call; none for an ask of more than four items, or with row 0 among them.
+/// The name under which a call is counted: its word, and for answer whether its last number is 1.
+pub fn counted_as(call: &Call) -> String {
+    match call {
+        Call::Answer { last: 1, .. } => "answer 1".to_string(),
+        Call::Answer { .. } => "answer 0".to_string(),
+        _ => call.word(),
+    }
+}
+
+/// The words of a call; none for an ask of more than four items, or with row 0 among them, and
+/// for an answer whose last number is not 0 or 1.
 pub fn call_words(call: &Call) -> Option<CallWords> {
     let (first, second) = match call {
         Call::One { caller, number, .. } => (*caller, *number),
         Call::Ask { caller, client, .. } => (*caller, *client),
+        Call::Answer { caller, end, .. } => (*caller, *end),
         Call::Comes { row, request } => (*row, *request),
     };
     let items: &[Item] = call.items();
@@ -68,6 +75,9 @@ pub fn call_words(call: &Call) -> Option<CallWords> {
     words[..3].copy_from_slice(&[code(call), first, second]);
     for (pair, item) in words[3..].chunks_exact_mut(2).zip(items) {
         pair.copy_from_slice(&[item.row, item.rights]);
+    }
+    if let Call::Answer { last, .. } = call {
+        words[3] = Some(*last).filter(|last| *last <= 1)?;
     }
     Some(words)
 }

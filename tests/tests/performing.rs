@@ -1,4 +1,4 @@
-//! The twelve calls on sound tables: the answer and every word of both runs,
+//! The eleven calls on sound tables: the answer and every word of both runs,
 //! against the model. A longer run, by so many rounds of the one in the gate:
 //!
 //!     ROUNDS=50 cargo test --release --offline --manifest-path tests/Cargo.toml --test performing -- --ignored
@@ -13,7 +13,7 @@ const PERFORM: Perform = perform;
 
 #[test]
 fn calls_as_the_model_makes_them() {
-    let seen = calls_of(&PERFORM, 0..5);
+    let seen = calls_of(&PERFORM, 0..6);
     seen.print("performed as the model performs");
     seen.check(100);
     assert!(seen.calls() >= 300_000, "{} calls", seen.calls());
@@ -23,7 +23,7 @@ fn calls_as_the_model_makes_them() {
 #[ignore = "the longer run"]
 fn more_calls() {
     let rounds = std::env::var("ROUNDS").map_or(50, |n| n.parse().expect("a number of rounds"));
-    let seen = calls_of(&PERFORM, 5..5 + rounds);
+    let seen = calls_of(&PERFORM, 6..6 + rounds);
     seen.print("performed as the model performs");
     seen.check(100);
 }

@@ -11,7 +11,7 @@ const PERFORM: Perform = perform;
 
 #[test]
 fn calls_as_the_model_makes_them() {
-    calls_of(&PERFORM, 0..5).check(100);
+    calls_of(&PERFORM, 0..6).check(100);
 }
 
 #[test]

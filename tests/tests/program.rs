@@ -65,7 +65,7 @@ fn conformance() -> Vec<(String, Vec<u8>, Vec<u8>)> {
 #[test]
 fn conformance_sessions_are_answered() {
     let sessions = conformance();
-    assert!(sessions.len() >= 80, "{}", sessions.len());
+    assert!(sessions.len() >= 133, "{}", sessions.len());
     for (name, input, answers) in sessions {
         assert!(printed(&input, input.len().max(1)) == answers, "{name}");
     }

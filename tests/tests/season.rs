@@ -37,7 +37,8 @@ fn passes(points: Points, calls: u64, seed: u64) -> Report {
     first
 }
 
-/// Four of five calls are accepted, each of the twelve at times; near the end a register may be none.
+/// Four of five calls are accepted, each of the eleven at times, answer with 0 and with 1; near the
+/// end a register may be none.
 fn lively(report: &Report) {
     let calls: u64 = report.refused.iter().sum();
     assert_eq!(calls, report.calls);

@@ -12,12 +12,10 @@ pub enum Verb {
     Port,
     Close,
     Fetch,
-    Reply,
-    Refuse,
     Revoke,
 }
 
-const VERBS: [(&str, Verb); 10] = [
+const VERBS: [(&str, Verb); 8] = [
     ("go", Verb::Go),
     ("hold", Verb::Hold),
     ("register", Verb::Register),
@@ -25,8 +23,6 @@ const VERBS: [(&str, Verb); 10] = [
     ("port", Verb::Port),
     ("close", Verb::Close),
     ("fetch", Verb::Fetch),
-    ("reply", Verb::Reply),
-    ("refuse", Verb::Refuse),
     ("revoke", Verb::Revoke),
 ];
 
@@ -50,6 +46,12 @@ pub enum Call {
         client: Number,
         items: Vec<Item>,
     },
+    Answer {
+        caller: Number,
+        end: Number,
+        /// 1 if the request was served, 0 if it is declined.
+        last: Number,
+    },
     Comes {
         row: Number,
         request: Number,
@@ -68,6 +70,15 @@ pub fn read_call(line: &[u8]) -> Result<Call, BadForm> {
         [Part::Number(caller), Part::Word(word, _), rest @ ..] if word == "ask" => {
             ask(*caller, rest, line)
         }
+        [Part::Number(caller), Part::Word(word, _), rest @ ..] if word == "answer" => {
+            let why = "answer wants a server end and 0 or 1: (p answer v x)";
+            let [end, last] = numbers(rest, line, why)?;
+            Ok(Call::Answer {
+                caller: *caller,
+                end,
+                last,
+            })
+        }
         [Part::Number(caller), Part::Word(word, span), rest @ ..] => {
             let verb = VERBS.into_iter().find(|(text, _)| text == word);
             let (_, verb) = verb.ok_or_else(|| no_call(word, *span))?;
@@ -79,24 +90,31 @@ pub fn read_call(line: &[u8]) -> Result<Call, BadForm> {
                 number,
             })
         }
-        [Part::Word(_, span), ..] => Err(bad(
+        parts => Err(no_front(parts, line)),
+    }
+}
+
+/// (rule F3) Parts that do not begin with a caller and a word.
+fn no_front(parts: &[Part], line: &[u8]) -> BadForm {
+    match parts {
+        [Part::Word(_, span), ..] => bad(
             span.from,
             span.to,
             "F3",
             "a call begins with the caller's number, only comes does not",
-        )),
-        [Part::Form(_, span), ..] | [_, Part::Form(_, span), ..] => Err(bad(
+        ),
+        [Part::Form(_, span), ..] | [_, Part::Form(_, span), ..] => bad(
             span.from,
             span.to,
             "F3",
             "here should be the caller's number and a word",
-        )),
-        _ => Err(bad(
+        ),
+        _ => bad(
             0,
             line.len() - 1,
             "F3",
             "the word of the call is missing: (p WORD n)",
-        )),
+        ),
     }
 }
 
@@ -177,7 +195,9 @@ impl Call {
     /// None for `(comes e q)`.
     pub fn caller(&self) -> Option<Number> {
         match self {
-            Call::One { caller, .. } | Call::Ask { caller, .. } => Some(*caller),
+            Call::One { caller, .. } | Call::Ask { caller, .. } | Call::Answer { caller, .. } => {
+                Some(*caller)
+            }
             Call::Comes { .. } => None,
         }
     }

@@ -96,6 +96,13 @@ fn out_of_range(call: &Call) -> Option<Ground> {
             let client = caller(*p).or_else(|| number(*client, "a client end"));
             client.or_else(|| items.iter().find_map(item))
         }
+        Call::Answer {
+            caller: p,
+            end,
+            last,
+        } => caller(*p)
+            .or_else(|| number(*end, "a row"))
+            .or_else(|| range(*last, "the last number of answer", 0, 1)),
         Call::Comes { row, request } => {
             number(*row, "a row").or_else(|| number(*request, "a request"))
         }
@@ -172,8 +179,6 @@ fn in_state(state: &State, call: &Call) -> Option<Ground> {
                 Verb::Port => grounds_one::port(state, p, n),
                 Verb::Close => grounds_one::close(state, p, n),
                 Verb::Fetch => grounds_ask::fetch(state, p, n),
-                Verb::Reply => grounds_ask::reply(state, p, n),
-                Verb::Refuse => grounds_ask::refuse(state, p, n),
                 Verb::Revoke => grounds_ask::revoke(state, p, n),
             }
         }
@@ -187,6 +192,9 @@ fn in_state(state: &State, call: &Call) -> Option<Ground> {
                 .map(|i| (i.row.value, i.rights.value))
                 .collect();
             grounds_ask::ask(state, caller.value, client.value, &items)
+        }
+        Call::Answer { caller, end, last } => {
+            grounds_ask::answer(state, caller.value, end.value, last.value == 1)
         }
         Call::Comes { row, request } => grounds_ask::comes(state, row.value, request.value),
     }

@@ -140,21 +140,26 @@ pub fn fetch(state: &State, p: u32, v: u32) -> Option<Ground> {
     }
 }
 
-/// (rules reply-7, reply-8, reply-10, reply-11a, reply-11b, reply-14a, reply-14b)
-pub fn reply(state: &State, p: u32, v: u32) -> Option<Ground> {
-    let request = match at_server(state, p, v, ["reply-7", "reply-8"]) {
-        Err(ground) => return Some(ground),
-        Ok(None) => return none_open(v, "reply-11a"),
-        Ok(Some(request)) => request,
-    };
+/// (rules answer-7, answer-8, answer-11a) With 1 the request is served, with 0 it is declined.
+pub fn answer(state: &State, p: u32, v: u32, served: bool) -> Option<Ground> {
+    match at_server(state, p, v, ["answer-7", "answer-8"]) {
+        Err(ground) => Some(ground),
+        Ok(None) => none_open(v, "answer-11a"),
+        Ok(Some(request)) if served => not_served(state, p, request),
+        Ok(Some(_)) => None,
+    }
+}
+
+/// (rules answer-10, answer-11b, answer-14a, answer-14b) What stands in the way of an answer with 1 alone.
+fn not_served(state: &State, p: u32, request: &Request) -> Option<Ground> {
     let listed = request.listed().filter_map(|i| state.row(i));
     let ends: Vec<&Row> = listed.filter(|r| r.is_end()).collect();
     let elsewhere = |r: &&&Row| r.place != Place::CList(p);
     ends.iter()
-        .find_map(|r| end_busy(state, r, "reply-10"))
+        .find_map(|r| end_busy(state, r, "answer-10"))
         .or_else(|| {
             let text = format!("request {} is not fetched yet", request.number);
-            (request.fetched == 0).then(|| of_state(11, "reply-11b", request.number, text))?
+            (request.fetched == 0).then(|| of_state(11, "answer-11b", request.number, text))?
         })
         .or_else(|| {
             let end = ends.iter().find(elsewhere)?;
@@ -165,7 +170,7 @@ pub fn reply(state: &State, p: u32, v: u32) -> Option<Ground> {
                 request.number,
                 at(end.place)
             );
-            of_state(14, "reply-14a", end.number, text)
+            of_state(14, "answer-14a", end.number, text)
         })
         .or_else(|| {
             let newer = |end: &&Row| listing(state, end.number).find(|q| q.number > request.number);
@@ -174,17 +179,8 @@ pub fn reply(state: &State, p: u32, v: u32) -> Option<Ground> {
                 "{} {} is in the list of the newer request {}",
                 end.kind, end.number, newer.number
             );
-            of_state(14, "reply-14b", end.number, text)
+            of_state(14, "answer-14b", end.number, text)
         })
-}
-
-/// (rules refuse-7, refuse-8, refuse-11)
-pub fn refuse(state: &State, p: u32, v: u32) -> Option<Ground> {
-    match at_server(state, p, v, ["refuse-7", "refuse-8"]) {
-        Err(ground) => Some(ground),
-        Ok(None) => none_open(v, "refuse-11"),
-        Ok(Some(_)) => None,
-    }
 }
 
 /// (rule F11) What a number names instead of an open request.

@@ -27,7 +27,7 @@ pub fn told(step: &Step, gone: &Gone) -> Vec<String> {
 
 /// What an accepted call changed.
 fn accepted(step: &Step) -> Vec<String> {
-    let told = changes(&step.before, &step.after);
+    let told = changes(step);
     if told.is_empty() {
         return vec!["nothing is changed".to_string()];
     }
@@ -84,8 +84,10 @@ pub enum Part {
 }
 
 /// What is different after a call that was accepted.
-pub fn changes(before: &State, after: &State) -> Vec<(Part, String)> {
+pub fn changes(step: &Step) -> Vec<(Part, String)> {
+    let (before, after) = (&step.before, &step.after);
     let change = change(before, after);
+    let closed = |q| closed(step, q);
     let moves = if change.closed.is_empty() {
         Part::Moved
     } else {
@@ -149,11 +151,26 @@ fn fetched(state: &State, q: &Request) -> String {
     )
 }
 
-fn closed(q: &Request) -> String {
+/// Of the request that the call answered, what the server did with it too.
+fn closed(step: &Step, q: &Request) -> String {
+    let answered = answered(step, q.port).unwrap_or_default();
     format!(
-        "request {} of process {} on port {} is closed",
+        "request {} of process {} on port {} is closed{answered}",
         q.number, q.asker, q.port
     )
+}
+
+/// `: process 2 served it`, if the call answered the request on that port.
+fn answered(step: &Step, port: u32) -> Option<String> {
+    let Ok(Call::Answer { caller, end, last }) = read_call(&step.line) else {
+        return None;
+    };
+    let at = step.before.row(end.value)?.port()?;
+    let did = match last.value {
+        1 => "served",
+        _ => "declined",
+    };
+    (at == port).then(|| format!(": process {} {did} it", caller.value))
 }
 
 /// A new row; a server end is told with its client end.

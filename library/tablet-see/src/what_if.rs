@@ -24,7 +24,7 @@ pub fn what_if(session: &Session, line: &str, out: &mut dyn Write) -> io::Result
         return writeln!(out, "Nothing would change.");
     }
     writeln!(out, "{} -> {}", shown::line(&step.line), step.answer)?;
-    let changes = changes(&step.before, &step.after);
+    let changes = changes(&step);
     if changes.is_empty() {
         told(&step, session.gone())
             .iter()

@@ -9,7 +9,7 @@ use model::random::{session, tables, Rng, PROFILES, SMALL};
 use model::refusals::refusal;
 use model::relations::{lent, listed_ends, request_on};
 use model::session::{call_sound, Session};
-use model::tables::{Kind, Place, Row, Tables};
+use model::tables::{Kind, Place, Request, Row, Tables};
 use model::words::encode;
 use std::collections::BTreeSet;
 use tablet::State;
@@ -47,17 +47,37 @@ fn candidates(t: &Tables, call: &Call) -> Vec<Candidate> {
             all.extend([("ask-16", 0), ("ask-17", 0), ("ask-18", 0)]);
             all
         }
+        Call::Answer { end, last, .. } => answer(t, *end, *last),
         Call::Comes { row, request } => vec![("comes-7a", *row), ("comes-7b", *request)],
     }
 }
 
-fn one(t: &Tables, p: u32, word: Word, n: u32) -> Vec<Candidate> {
-    let request = t.row(n).and_then(|r| request_on(t, r.object));
+/// The request on the port of an end.
+fn request_at(t: &Tables, end: u32) -> Option<&Request> {
+    t.row(end).and_then(|r| request_on(t, r.object))
+}
+
+/// With 0 the request need not be fetched, nor its ends be back.
+fn answer(t: &Tables, v: u32, last: u32) -> Vec<Candidate> {
+    let request = request_at(t, v);
     let q = request.map_or(0, |q| q.number);
     let ends = |rule: &'static str| {
         let ends = request.into_iter().flat_map(|q| listed_ends(t, q));
         ends.map(move |r| (rule, r.number))
     };
+    let mut all = vec![("answer-7", v), ("answer-8", v)];
+    if last == 0 {
+        all.push(("answer-11a", v));
+        return all;
+    }
+    all.extend(ends("answer-10"));
+    all.extend([("answer-11a", v), ("answer-11b", q)]);
+    all.extend(ends("answer-14a").chain(ends("answer-14b")));
+    all
+}
+
+fn one(t: &Tables, p: u32, word: Word, n: u32) -> Vec<Candidate> {
+    let q = request_at(t, n).map_or(0, |q| q.number);
     let through = t.process(p).map_or(0, |record| record.through);
     match word {
         Word::Go => vec![("go-7", n), ("go-8", n)],
@@ -111,14 +131,6 @@ fn one(t: &Tables, p: u32, word: Word, n: u32) -> Vec<Candidate> {
             ("fetch-11a", n),
             ("fetch-11b", q),
         ],
-        Word::Reply => {
-            let mut all = vec![("reply-7", n), ("reply-8", n)];
-            all.extend(ends("reply-10"));
-            all.extend([("reply-11a", n), ("reply-11b", q)]);
-            all.extend(ends("reply-14a").chain(ends("reply-14b")));
-            all
-        }
-        Word::Refuse => vec![("refuse-7", n), ("refuse-8", n), ("refuse-11", n)],
         Word::Revoke => vec![("revoke-7a", n), ("revoke-7b", n)],
     }
 }
@@ -139,13 +151,14 @@ fn holds(t: &Tables, call: &Call, (rule, n): Candidate) -> bool {
     let named = match call {
         Call::One { number, .. } => *number,
         Call::Ask { client, .. } => *client,
+        Call::Answer { end, .. } => *end,
         Call::Comes { row, .. } => *row,
     };
     let deep = |r: u32| t.row(r).is_some_and(|r| r.depth >= 12);
     let busy = row
         .and_then(Row::port)
         .is_some_and(|port| request_on(t, port).is_some());
-    let on_named = t.row(named).and_then(|r| request_on(t, r.object));
+    let on_named = request_at(t, named);
     match rule {
         "hold-7" => !t
             .process(p)
@@ -169,17 +182,17 @@ fn holds(t: &Tables, call: &Call, (rule, n): Candidate) -> bool {
             .any(|i| i.row == n && row.is_some_and(|r| !r.permits(i.rights))),
         "ask-10a" => t.request(n).is_some_and(|q| q.port == named),
         "ask-10b" => row.and_then(Row::port) == Some(named),
-        "ask-10c" | "reply-10" => busy,
+        "ask-10c" | "answer-10" => busy,
         "fetch-11b" => t.request(n).is_some_and(|q| q.fetched == 1),
-        "reply-11b" => t.request(n).is_some_and(|q| q.fetched == 0),
+        "answer-11b" => t.request(n).is_some_and(|q| q.fetched == 0),
         _ if number(rule) == 11 => on_named.is_none(),
         "hold-12" => lent(t, n) && t.row(named).is_some_and(|r| r.kind == Kind::Subdirectory),
         "register-12" => lent(t, n),
         "close-12" => t.request(n).is_some_and(|q| q.lists(named)),
         "drop-13a" => row.is_some_and(|r| r.comes_directly_from(named)),
         "drop-13b" => t.process(p).is_some_and(|record| record.through == n),
-        "reply-14a" => !with_caller,
-        "reply-14b" => t
+        "answer-14a" => !with_caller,
+        "answer-14b" => t
             .requests
             .iter()
             .any(|q| on_named.is_some_and(|o| q.number > o.number) && q.lists(n)),
@@ -252,16 +265,27 @@ fn grounds_in_random_sessions() {
     assert!(seen.len() > 35, "{seen:?}");
 }
 
+/// The words of these lines, and what follows the number.
+const AIMED: [(&str, &str); 10] = [
+    ("go", ""),
+    ("hold", ""),
+    ("register", ""),
+    ("drop", ""),
+    ("port", ""),
+    ("close", ""),
+    ("fetch", ""),
+    ("answer", " 1"),
+    ("answer", " 0"),
+    ("revoke", ""),
+];
+
 /// Lines about what stands, whoever has it: most are refused, for many grounds.
 fn aimed(t: &Tables, seed: u64, seen: &mut BTreeSet<&'static str>) {
     let mut rng = Rng::new(seed ^ u64::from(t.next) << 8 ^ t.requests.len() as u64);
     let rows: Vec<u32> = t.rows.iter().map(|r| r.number).collect();
     let requests: Vec<u32> = t.requests.iter().map(|q| q.number).collect();
-    let words = [
-        "go", "hold", "register", "drop", "port", "close", "fetch", "reply", "refuse", "revoke",
-    ];
     let state = state_of(t);
-    for word in words {
+    for (word, last) in AIMED {
         let n = rng
             .pick(if word == "revoke" { &requests } else { &rows })
             .unwrap_or(1);
@@ -273,7 +297,8 @@ fn aimed(t: &Tables, seed: u64, seen: &mut BTreeSet<&'static str>) {
         } else {
             rng.between(1, 4)
         };
-        check_on(&state, t, format!("({p} {word} {n})\n").as_bytes(), seen);
+        let line = format!("({p} {word} {n}{last})\n");
+        check_on(&state, t, line.as_bytes(), seen);
         let (e, f) = (rng.pick(&rows).unwrap_or(1), rng.pick(&rows).unwrap_or(1));
         let line = format!(
             "({p} ask {n} ({e} {}) ({f} {}))\n",
@@ -316,8 +341,8 @@ fn grounds_in_the_manual() {
 
     let all = model::manual::read().expect("the manual");
     for call in [
-        "go", "hold", "register", "drop", "port", "close", "ask", "fetch", "reply", "refuse",
-        "revoke", "comes",
+        "go", "hold", "register", "drop", "port", "close", "ask", "fetch", "answer", "revoke",
+        "comes",
     ] {
         let rules = all
             .lines()

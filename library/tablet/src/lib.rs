@@ -23,6 +23,11 @@
 //! // the lender takes the loan back
 //! assert!(tables.call("(1 revoke 5)\n").accepted());
 //! assert!(tables.state().row(6).is_none());
+//!
+//! // or the server answers: with 1 that it served the request, with 0 that it declines it
+//! assert_eq!(tables.call("(1 ask 3 (2 3))\n").to_string(), "(ok 7)");
+//! assert_eq!(tables.call("(2 answer 4 1)\n").to_string(), "(no 11)"); // it is not fetched
+//! assert!(tables.call("(2 answer 4 0)\n").accepted());
 //! # Ok::<(), tablet::Refusal>(())
 //! ```
 //!

@@ -30,7 +30,7 @@ const MEANINGS: [(&str, &str); 18] = [
     ),
     (
         "A number is out of its range.",
-        "Correct it; 0 is right only for go, operations and rights.",
+        "Correct it; 0 is right only for go, operations, rights and the last number of answer.",
     ),
     (
         "Two forms for one node or process; one row twice in an ask.",
@@ -51,7 +51,7 @@ const MEANINGS: [(&str, &str); 18] = [
     ),
     (
         "It is of another kind.",
-        "go wants a subdirectory; port an operation; ask and close a client end; fetch, reply, refuse a server end; \
+        "go wants a subdirectory; port an operation; ask and close a client end; fetch and answer a server end; \
          register and drop anything but an end.",
     ),
     (
@@ -60,11 +60,11 @@ const MEANINGS: [(&str, &str); 18] = [
     ),
     (
         "A port is busy with an open request, or an ask would lend an end of its own port.",
-        "Wait for the reply, revoke the request, or use another port.",
+        "Wait for the answer, revoke the request, or use another port.",
     ),
     (
-        "The port has no request for this: none open, fetched already (fetch), not fetched (reply).",
-        "fetch before reply; refuse needs no fetch.",
+        "The port has no request for this: none open, fetched already (fetch), not fetched (answer with 1).",
+        "fetch before an answer with 1; an answer with 0 needs no fetch.",
     ),
     (
         "A loan forbids it: a lent row cannot be registered, a port whose client end is on loan cannot be closed, and \
@@ -77,7 +77,7 @@ const MEANINGS: [(&str, &str); 18] = [
     ),
     (
         "A lent end is not back: with another, or listed by a newer request.",
-        "Get it back (revoke the loan), or refuse.",
+        "Get it back (revoke the loan), or answer with 0.",
     ),
     (
         "The row would be of depth 13.",
@@ -86,7 +86,7 @@ const MEANINGS: [(&str, &str); 18] = [
     ("Too few free rows.", "Drop, close, end loans."),
     (
         "128 requests are open.",
-        "Reply, refuse or revoke some.",
+        "Answer or revoke some.",
     ),
     ("Too few numbers are left.", "Open again."),
 ];

@@ -14,6 +14,8 @@ struct Line {
     first: u32,
     second: u32,
     kind: Kind,
+    /// The last number of answer; 0 for any other call.
+    last: u32,
     items: [Item; MOST_ITEMS],
     count: usize,
 }
@@ -22,6 +24,7 @@ struct Line {
 enum Kind {
     Go,
     Ask,
+    Answer,
     Comes,
     Other,
 }
@@ -46,6 +49,7 @@ pub fn read_call(line: &[u8], p: &Records) -> Result<Call, u32> {
             let items = std::array::from_fn(|k| line.items[k]);
             Call::Ask(line.first, line.second, items)
         }
+        Kind::Answer => Call::Answer(line.first, line.second, line.last == 1),
         _ => (line.call)(line.first, line.second),
     })
 }
@@ -63,6 +67,10 @@ fn read_line(line: &[u8]) -> Option<Line> {
         _ => return None,
     };
     let second = reader.next_number()?;
+    let last = match kind {
+        Kind::Answer => reader.next_number()?,
+        _ => 0,
+    };
     let (items, count) = match kind {
         Kind::Ask => read_items(&mut reader)?,
         _ => ([Item::default(); MOST_ITEMS], 0),
@@ -72,6 +80,7 @@ fn read_line(line: &[u8]) -> Option<Line> {
         first,
         second,
         kind,
+        last,
         items,
         count,
     })
@@ -87,8 +96,7 @@ fn call_of(word: &[u8]) -> Option<(Kind, fn(u32, u32) -> Call)> {
         b"close" => (Kind::Other, Call::Close),
         b"ask" => (Kind::Ask, Call::Close),
         b"fetch" => (Kind::Other, Call::Fetch),
-        b"reply" => (Kind::Other, Call::Reply),
-        b"refuse" => (Kind::Other, Call::Refuse),
+        b"answer" => (Kind::Answer, |p, v| Call::Answer(p, v, false)),
         b"revoke" => (Kind::Other, Call::Revoke),
         _ => return None,
     })
@@ -118,7 +126,8 @@ impl Line {
         };
         let home = self.kind == Kind::Go && self.second == 0;
         let mut items = self.items[..self.count].iter();
-        first && (number(self.second) || home) && items.all(|i| number(i.row) && i.rights <= 7)
+        let numbers = first && (number(self.second) || home) && self.last <= 1;
+        numbers && items.all(|i| number(i.row) && i.rights <= 7)
     }
 
     fn names_twice(&self) -> bool {

@@ -1,5 +1,6 @@
 //! What the calls of one part of a season came to.
 
+use crate::call_words::counted_as;
 use model::call::read_call;
 use model::{Answer, Tables};
 use std::collections::BTreeMap;
@@ -10,7 +11,7 @@ pub struct Report {
     pub calls: u64,
     /// Calls by their refusal; at 0 those accepted.
     pub refused: [u64; 19],
-    /// Those accepted, by name.
+    /// Those accepted, by name, answer by its last number.
     pub accepted: BTreeMap<String, u64>,
     /// How often all words were compared.
     pub compared: u64,
@@ -25,7 +26,7 @@ impl Report {
         self.calls += 1;
         self.refused[refusal as usize] += 1;
         if let Some(call) = read_call(line).filter(|_| answer.accepted()) {
-            *self.accepted.entry(call.word()).or_default() += 1;
+            *self.accepted.entry(counted_as(&call)).or_default() += 1;
         }
         self.greatest = after.next - 1;
         self.most_rows = self.most_rows.max(after.rows.len());

@@ -86,6 +86,7 @@ impl Waves {
             None => self.rng.percent(ODD_PERCENT),
             Some(_) if !self.falling => true,
             Some(Call::Ask { .. }) => false,
+            Some(Call::Answer { .. }) => true,
             Some(Call::Comes { .. }) => self.rng.percent(ODD_PERCENT),
             Some(Call::One { word, .. }) => match word {
                 Word::Hold | Word::Register | Word::Port => false,

@@ -3,7 +3,7 @@
 
 use super::refused::Refused;
 use super::{words, Lent};
-use kernel::call_words::{answer_words, call_words, code, AnswerWords, CallWords};
+use kernel::call_words::{answer_words, call_words, AnswerWords, CallWords};
 use model::call::{read_call, Call};
 use model::effects::perform;
 use model::refusals::refusal;
@@ -96,7 +96,7 @@ impl Pair {
         let expected = after.as_ref().map_or(&self.lent, |after| &after.lent);
         assert!(lent.0 == expected.0, "the tables after {}", about(&asked));
         assert!(lent.1 == expected.1, "the records after {}", about(&asked));
-        seen.count(code(call), asked.answer.refusal());
+        seen.count(call, asked.answer.refusal());
         after
     }
 

@@ -1,4 +1,5 @@
-//! Calls to try on tables: every word with every number, asks with many lists.
+//! Calls to try on tables: every word with every number, answer with 0 and with 1, asks with many
+//! lists.
 
 use model::call::{Call, Item, Word, WORDS};
 use model::limits::{ALL_RIGHTS, ITEMS, LAST_NUMBER, PROCESSES};
@@ -10,7 +11,7 @@ use model::Tables;
 const NUMBERS: usize = 60;
 
 /// Every word with the numbers of rows and requests and some others, by the
-/// process that the call fits or by another; and asks and comes.
+/// process that the call fits or by another; and answers, asks and comes.
 pub fn calls(rng: &mut Rng, tables: &Tables) -> Vec<Call> {
     let mut rows: Vec<&Row> = tables.rows.iter().collect();
     rng.shuffle(&mut rows);
@@ -24,12 +25,19 @@ pub fn calls(rng: &mut Rng, tables: &Tables) -> Vec<Call> {
     let mut calls = Vec::new();
     for number in &numbers {
         for (_, word) in WORDS {
-            let caller = caller(rng, tables, word, *number);
-            let number = *number;
+            let fitting = fitting(rng, tables, word, *number);
             calls.push(Call::One {
-                caller,
+                caller: caller(rng, tables, fitting),
                 word,
-                number,
+                number: *number,
+            });
+        }
+        for last in [1, 0] {
+            let fitting = tables.row(*number).and_then(holder);
+            calls.push(Call::Answer {
+                caller: caller(rng, tables, fitting),
+                end: *number,
+                last,
             });
         }
         let request = rng.pick(&requests).unwrap_or(1);
@@ -61,20 +69,24 @@ fn holder(row: &Row) -> Option<u32> {
     }
 }
 
-/// Most often a process that may make the call, if there is one.
-fn caller(rng: &mut Rng, tables: &Tables, word: Word, number: u32) -> u32 {
+/// Most often the process that fits, if there is one.
+fn caller(rng: &mut Rng, tables: &Tables, fitting: Option<u32>) -> u32 {
     let all = listed(tables);
     let any = rng.pick(&all).expect("a process");
     if rng.percent(15) {
         return any;
     }
+    fitting.unwrap_or(any)
+}
+
+/// A process that may make the call of that word.
+fn fitting(rng: &mut Rng, tables: &Tables, word: Word, number: u32) -> Option<u32> {
     let row = tables.row(number);
-    let fitting = match word {
+    match word {
         Word::Revoke => tables.request(number).map(|q| q.asker),
         Word::Hold => row.and_then(|r| in_node_of(rng, tables, r)),
         _ => row.and_then(holder),
-    };
-    fitting.unwrap_or(any)
+    }
 }
 
 /// A process whose active node the row is in.

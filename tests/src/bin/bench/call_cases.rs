@@ -73,7 +73,7 @@ const LENT_ON: Start = Start {
     calls: &[&["(1 hold 1)"], LEND, LEND_ON],
 };
 
-/// The call's name, the start, the line, its refusal or 0, and the rows that it adds.
+/// The call's name, answer's with its last number, the start, the line, its refusal or 0, and the rows that it adds.
 type Measured = (&'static str, &'static Start, &'static str, u32, usize);
 
 const CASES: [Measured; 24] = [
@@ -93,10 +93,10 @@ const CASES: [Measured; 24] = [
     ("ask", &PORTS, "(1 ask 5 (3 7) (4 7) (7 0))", 18, 2),
     ("fetch", &ASKED, "(2 fetch 6)", 0, 0),
     ("fetch", &FETCHED, "(2 fetch 6)", 11, 0),
-    ("reply", &FETCHED, "(2 reply 6)", 0, 0),
-    ("reply", &LENT_ON, "(2 reply 4)", 14, 0),
-    ("refuse", &FETCHED, "(2 refuse 6)", 0, 0),
-    ("refuse", &PORTS, "(2 refuse 6)", 11, 0),
+    ("answer 1", &FETCHED, "(2 answer 6 1)", 0, 0),
+    ("answer 1", &LENT_ON, "(2 answer 4 1)", 14, 0),
+    ("answer 0", &FETCHED, "(2 answer 6 0)", 0, 0),
+    ("answer 0", &PORTS, "(2 answer 6 0)", 11, 0),
     ("revoke", &FETCHED, "(1 revoke 9)", 0, 0),
     ("revoke", &FETCHED, "(2 revoke 9)", 7, 0),
     ("comes", &FETCHED, "(comes 10 9)", 0, 0),

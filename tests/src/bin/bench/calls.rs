@@ -47,7 +47,7 @@ fn reads(case: &Case, call: &Call) -> usize {
     let searches = 1 + call.items().len();
     let steps = usize::BITS - case.tables.rows.len().leading_zeros();
     let searched = 4 * searches * (steps as usize + 5);
-    let closes = ["close", "reply", "refuse", "revoke", "drop"].contains(&case.name.as_str());
+    let closes = ["close", "answer 1", "answer 0", "revoke", "drop"].contains(&case.name.as_str());
     let sources = if case.name.starts_with("drop") {
         8 * case.tables.rows.len()
     } else {

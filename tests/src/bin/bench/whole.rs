@@ -40,7 +40,7 @@ pub fn on_whole_calls(by: &mut dyn Measured) {
         grown(by, 1024, requests);
     }
     for rows in crate::SIZES {
-        for name in ["hold", "ask", "reply", "comes"] {
+        for name in ["hold", "ask", "answer 1", "comes"] {
             parts(by, &accepted(name, rows, requests_beside(rows)));
         }
     }

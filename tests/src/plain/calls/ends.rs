@@ -1,4 +1,4 @@
-//! The end of a loan: reply, refuse, revoke; and comes.
+//! The end of a loan: answer, revoke; and comes.
 
 use super::questions;
 use super::state::State;
@@ -24,8 +24,18 @@ impl State<'_> {
         Ok(Answer::Done)
     }
 
-    pub fn reply(&mut self, caller: u32, v: u32) -> Outcome {
+    /// With 1 the request is served, with 0 it is declined, which needs no more.
+    pub fn answer(&mut self, caller: u32, v: u32, served: bool) -> Outcome {
         let request = self.asked(caller, v)?;
+        if served {
+            self.may_serve(caller, request)?;
+        }
+        self.close_at(request)
+    }
+
+    /// 10, 11 or 14 for a request that cannot be served: an end of it is busy, it is not fetched,
+    /// an end of it is elsewhere or lent on.
+    fn may_serve(&self, caller: u32, request: usize) -> Result<(), u32> {
         let items = self.items(request);
         let rows = items.iter().filter(|item| **item != 0);
         let rows = rows.filter_map(|item| self.find(*item));
@@ -45,7 +55,7 @@ impl State<'_> {
                 return Err(14);
             }
         }
-        self.close_at(request)
+        Ok(())
     }
 
     /// Whether a newer request lists the row.
@@ -54,11 +64,6 @@ impl State<'_> {
             let items = Q_ITEMS + k * REQUESTS;
             self.t[items + request + 1..items + self.requests].contains(&number)
         })
-    }
-
-    pub fn refuse(&mut self, caller: u32, v: u32) -> Outcome {
-        let request = self.asked(caller, v)?;
-        self.close_at(request)
     }
 
     pub fn revoke(&mut self, caller: u32, q: u32) -> Outcome {

@@ -1,4 +1,4 @@
-//! The twelve calls in plain Rust, in place over the words of sound tables.
+//! The eleven calls in plain Rust, in place over the words of sound tables.
 
 mod directories;
 mod ends;
@@ -22,7 +22,8 @@ pub struct Item {
     pub rights: u32,
 }
 
-/// A call: the caller, then the number it is about; comes has no caller.
+/// A call: the caller, then the number it is about, and of answer whether its last number is 1;
+/// comes has no caller.
 #[derive(Clone, Copy)]
 pub enum Call {
     Go(u32, u32),
@@ -33,8 +34,7 @@ pub enum Call {
     Close(u32, u32),
     Ask(u32, u32, [Item; ITEMS]),
     Fetch(u32, u32),
-    Reply(u32, u32),
-    Refuse(u32, u32),
+    Answer(u32, u32, bool),
     Revoke(u32, u32),
     Comes(u32, u32),
 }
@@ -75,15 +75,14 @@ pub fn made(t: &mut Words, p: &mut Records, call: &Call) -> Outcome {
         Call::Close(p, c) => state.close(p, c),
         Call::Ask(p, c, ref items) => state.ask(p, c, items),
         Call::Fetch(p, v) => state.fetch(p, v),
-        Call::Reply(p, v) => state.reply(p, v),
-        Call::Refuse(p, v) => state.refuse(p, v),
+        Call::Answer(p, v, served) => state.answer(p, v, served),
         Call::Revoke(p, q) => state.revoke(p, q),
         Call::Comes(e, q) => state.comes(e, q),
     }
 }
 
 fn call_of(words: &CallWords) -> Call {
-    let [code, p, e, ..] = *words;
+    let [code, p, e, last, ..] = *words;
     match code {
         0 => Call::Go(p, e),
         1 => Call::Hold(p, e),
@@ -99,9 +98,8 @@ fn call_of(words: &CallWords) -> Call {
             Call::Ask(p, e, std::array::from_fn(item))
         }
         7 => Call::Fetch(p, e),
-        8 => Call::Reply(p, e),
-        9 => Call::Refuse(p, e),
-        10 => Call::Revoke(p, e),
+        8 => Call::Answer(p, e, last == 1),
+        9 => Call::Revoke(p, e),
         _ => Call::Comes(p, e),
     }
 }
