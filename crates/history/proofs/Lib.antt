@@ -76,3 +76,6 @@ pub mod Begun
 pub mod Start
 -- every call line leaves sound tables sound
 pub mod KeptCalls
+-- ---- landing 108
+-- `answer` is what the two calls before it were
+pub mod OneAnswer

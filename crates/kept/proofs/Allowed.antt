@@ -19,7 +19,7 @@ use Rattle.tables.proofs.SoundFacts.{active-node, clist-there}
 use Rattle.calls.specs.declared.Item.{Item}
 use Rattle.calls.specs.Rules.{notHeld, hasOpen, askedOf, tooDeep, rowsFull, requestsFull, numbersSpent}
 use Rattle.calls.specs.Loans.{moves, copies, copyDepth}
-use Rattle.calls.specs.Calls.{heldDepth, registeredDepth, portDepth, inUse, lacksRight, isBusy, lentEnds, isAway, refusalsGo, refusalsHold, refusalsRegister, refusalsDrop, refusalsPort, refusalsClose, refusalsAsk, refusalsFetch, refusalsAnswer, refusalsRevoke, refusalsComes}
+use Rattle.calls.specs.Calls.{heldDepth, registeredDepth, portDepth, inUse, lacksRight, isBusy, refusalsGo, refusalsHold, refusalsRegister, refusalsDrop, refusalsPort, refusalsClose, refusalsAsk, refusalsFetch, refusalsAnswer, refusalsRevoke, refusalsComes}
 use Rattle.kept.proofs.AddRow.{rows-room, numbers-room}
 use Rattle.kept.proofs.AskCopy.{lendable}
 use Rattle.kept.proofs.Judged.{Passed}

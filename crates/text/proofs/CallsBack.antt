@@ -410,7 +410,7 @@ one-number p n b ws l d few hp hn r e =
     simple-back s p n b ws l (process-fits p hp) hn (at-start s) d few ∙ e
 
 -- with a number above 0
-named : (p e : ℕ) → isProcess p && isNumber e ≡ true → (b : ℕ) (ws : List ℕ) → all isLetter (b ∷ ws) ≡ true → eqb b 97 ≡ false → length ws ≤ 8
+pub named : (p e : ℕ) → isProcess p && isNumber e ≡ true → (b : ℕ) (ws : List ℕ) → all isLetter (b ∷ ws) ≡ true → eqb b 97 ≡ false → length ws ≤ 8
     → (r : Reading) → simple (wordFrom 0 (b ∷ ws)) p e ≡ r → readingOf (40 ∷ (digitsOf p ++ (32 ∷ ((b ∷ ws) ++ (32 ∷ (digitsOf e ++ (41 ∷ 10 ∷ []))))))) ≡ r
 named p e h b ws l d few r q = one-number p e b ws l d few (and-l (isProcess p) (isNumber e) h) (number-fits e (and-r (isProcess p) (isNumber e) h)) r q
 
