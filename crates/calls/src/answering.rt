@@ -1,4 +1,4 @@
-// answer: the server closes the request; one that it served only with every lent end back.
+// answer: the server ends a request; one that it served only if that was fetched and every lent end is back.
 use crate::Answer;
 use crate::lookups;
 use closing::close::close_request;
@@ -115,7 +115,7 @@ fn any_away(t: &[u32], n: usize, m: usize, v: Request, p: u32) -> bool
     first | second | third | fourth
 }
 
-// What refuses the answer of p to the request in slot j: 10, 11, 14, 0 for nothing and where it was not served.
+// What refuses the answer of p to the request in slot j, where it was served: 10, 11, 14; 0 for nothing.
 fn answer_refusal(t: &[u32], n: usize, m: usize, j: usize, p: u32, served: bool) -> u32
     requires { ⌜ IsTables (now t) × (n ≤ ROWS) × (m ≤ REQUESTS) × (j < REQUESTS) ⌝ }
     ensures { λ r. ⌜ RefusesAnswer (now (t .entry)) n m j p served r ⌝ }
