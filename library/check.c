@@ -78,7 +78,7 @@ static void calls(void) {
     check("a call", answered(call(t, p, "(1 hold 1)\n", 256), "(ok 2)\n") && !unchanged());
     check("a refused call", answered(call(t, p, "(1 hold 2)\n", 256), "(no 7)\n") && unchanged());
     check("a line without its line feed", answered(call(t, p, "(1 hold 1)", 256), "(no 2)\n") && unchanged());
-    check("a word that is no call", answered(call(t, p, "(1 reply 2)\n", 256), "(no 2)\n") && unchanged());
+    check("a word that is no call", answered(call(t, p, "(1 give 2)\n", 256), "(no 2)\n") && unchanged());
     check("an answer with 2", answered(call(t, p, "(1 answer 2 2)\n", 256), "(no 3)\n") && unchanged());
     check("no line", answered(call(t, p, "", 256), "(no 2)\n") && unchanged());
     check("a run too short", answered(call(t - 1, p, "(1 hold 1)\n", 256), "(no 1)\n") && unchanged());

@@ -27,9 +27,9 @@ fn cases_on_the_entry_points() {
             Err(said) => panic!("{said}"),
         }
     }
-    assert!(cases.len() >= 850, "{} cases", cases.len());
+    assert!(cases.len() >= 930, "{} cases", cases.len());
     assert!(
-        steps >= 14_000 && without == 7,
+        steps >= 20_000 && without == 9,
         "{steps} steps, {without} without words"
     );
 }

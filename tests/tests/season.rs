@@ -4,7 +4,7 @@
 use kernel::entry::Point;
 use kernel::layout::{LAST_NUMBER, NEXT, OPERATIONS};
 use kernel::season::{season, Points, Report};
-use kernel::{entry, plain};
+use kernel::{entry, plain, reading};
 use std::io::Write;
 
 const CALLS: u64 = 100_000;
@@ -70,14 +70,18 @@ fn differs(call: Point) -> String {
     }
 }
 
-/// With so many numbers given the operation of row 1 is changed; the tables stay sound.
+/// With so many numbers given the operation of row 7 is changed, as soon as the tables stay sound:
+/// when no row has it as a source. It cannot be registered, so what is held from it goes again.
 const CHANGE: u32 = 5_000;
+const OPERATION: usize = OPERATIONS + 6;
 
 fn changes_a_word(t: &mut [u32], p: &mut [u32], line: &[u8], reply: &mut [u8]) -> usize {
-    let before = t[NEXT];
     let length = entry::call(t, p, line, reply);
-    if before <= CHANGE && t[NEXT] > CHANGE {
-        t[OPERATIONS] += 1;
+    if t[NEXT] > CHANGE && t[OPERATION] == 2 {
+        t[OPERATION] = 3;
+        if !reading::sound(t, p) {
+            t[OPERATION] = 2;
+        }
     }
     length
 }
@@ -85,7 +89,7 @@ fn changes_a_word(t: &mut [u32], p: &mut [u32], line: &[u8], reply: &mut [u8]) -
 #[test]
 fn a_changed_word_is_found() {
     let said = differs(changes_a_word);
-    let (kernel, model) = ("  kernel word 3072 is 6\n", "  model  word 3072 is 5");
+    let (kernel, model) = ("  kernel word 3078 is 3\n", "  model  word 3078 is 2");
     assert!(said.contains(": other words\n"), "{said}");
     assert!(said.contains(kernel) && said.ends_with(model), "{said}");
 }

@@ -90,7 +90,7 @@ fn explain_tells_whether_a_request_was_served() {
     let text = printed(&["explain"], &answering(calls)).expect("it runs");
     let refused = "5: (2 answer 4 1) -> (no 11)\n    \
                    Refusal 11, rule answer-11b: request 7 is not fetched yet.\n    \
-                   Fetch before an answer with 1; an answer with 0 needs no fetch.\n";
+                   Fetch before an answer with 1; with 0 it needs no fetch.\n";
     assert!(text.contains(refused), "{text}");
     // the request that the server asked with what it borrowed is closed too, by no answer of its own
     let served = "9: (2 answer 4 1) -> (ok 0)\n    \

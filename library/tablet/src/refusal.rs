@@ -60,11 +60,11 @@ const MEANINGS: [(&str, &str); 18] = [
     ),
     (
         "A port is busy with an open request, or an ask would lend an end of its own port.",
-        "Wait for the answer, revoke the request, or use another port.",
+        "Wait until the request is answered, revoke it, or use another port.",
     ),
     (
         "The port has no request for this: none open, fetched already (fetch), not fetched (answer with 1).",
-        "fetch before an answer with 1; an answer with 0 needs no fetch.",
+        "fetch before an answer with 1; with 0 it needs no fetch.",
     ),
     (
         "A loan forbids it: a lent row cannot be registered, a port whose client end is on loan cannot be closed, and \
