@@ -1,4 +1,4 @@
-/* tablet.h: the C interface of the kernel, two functions over words that the caller owns (docs/MANUAL.md has the rules).
+/* tablet.h: the C interface of the kernel, two functions over words that the caller owns (rules: docs/MANUAL.md).
  *
  * Words. The tables are TABLET_TABLES_WORDS words of 32 bits, the process records TABLET_PROCESSES_WORDS. The caller
  * owns both runs and lends them for one call. Lengths are counts of elements: words of the runs, bytes of the others.
@@ -7,6 +7,9 @@
  * The bytes after the answer stay as they were; there is no zero byte at its end. Lend TABLET_REPLY_BYTES or more. If
  * `reply_len` is less, 0 is returned and nothing is read or written. The longest answer is that of a fetch with five
  * numbers of ten digits, 60 bytes.
+ *
+ * Lines. A call line is (p go e), (p hold s), (p register e), (p drop e), (p port e), (p close c), (p ask c (e r) ..),
+ * (p fetch v), (p answer v x) with x 1 for a request served and 0 for one declined, (p revoke q) or (comes e q).
  *
  * Numbers. Rows and requests have numbers from 1 to 4,294,967,294, each given once. A number in a line may have any
  * length: none wraps, and every one above the last is (no 3). When the last is given, what wants another is (no 18).
