@@ -2,7 +2,7 @@
 //! does not fit, nothing changes.
 
 use crate::raw;
-use crate::{RequestFields, RequestMarks, RowFields, RowMarks};
+use crate::{RequestFields, RequestMarks, RowFields, RowMarks, SlotBits};
 
 pub fn set_place(tables: &mut [u32], slot: usize, place: u32) {
     unsafe { raw::kernel_set_place(tables.as_mut_ptr(), tables.len(), slot, place) }
@@ -30,9 +30,18 @@ pub fn append_request(tables: &mut [u32], count: usize, request: &RequestFields)
     unsafe { raw::kernel_append_request(tables.as_mut_ptr(), tables.len(), count, request) }
 }
 
+/// The marks as `remove_rows` takes them.
+pub fn packed(marks: &RowMarks) -> SlotBits {
+    let mut bits = SlotBits::default();
+    for (slot, mark) in marks.iter().enumerate() {
+        bits[slot / 64] |= u64::from(*mark) << (slot % 64);
+    }
+    bits
+}
+
 /// Removes the marked rows of the first so many.
 #[inline]
-pub fn remove_rows(tables: &mut [u32], count: usize, marks: &RowMarks) {
+pub fn remove_rows(tables: &mut [u32], count: usize, marks: &SlotBits) {
     unsafe { raw::kernel_remove_rows(tables.as_mut_ptr(), tables.len(), count, marks) }
 }
 

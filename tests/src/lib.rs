@@ -24,5 +24,8 @@ pub type RequestFields = [u32; layout::REQUEST_COLUMNS];
 /// Which slots of rows are marked.
 pub type RowMarks = [bool; layout::ROWS];
 
+/// The same in bits: bit i % 64 of word i / 64 is the mark of slot i.
+pub type SlotBits = [u64; layout::ROWS / 64];
+
 /// Which slots of requests are marked.
 pub type RequestMarks = [bool; layout::REQUESTS];

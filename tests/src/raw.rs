@@ -2,7 +2,7 @@
 //! pointer and a length, a reference to an array is a pointer.
 
 use crate::call_words::{AnswerWords, CallWords};
-use crate::{RequestFields, RequestMarks, RowFields, RowMarks};
+use crate::{RequestFields, RequestMarks, RowFields, SlotBits};
 
 /// Both runs, the bytes and the lent reply, each a pointer and a length.
 pub type EntryPoint = unsafe extern "C" fn(
@@ -50,7 +50,7 @@ extern "C" {
     pub fn kernel_set_next(t: *mut u32, t_len: usize, n: u32);
     pub fn kernel_append_row(t: *mut u32, t_len: usize, count: usize, w: *const RowFields);
     pub fn kernel_append_request(t: *mut u32, t_len: usize, count: usize, w: *const RequestFields);
-    pub fn kernel_remove_rows(t: *mut u32, t_len: usize, count: usize, marks: *const RowMarks);
+    pub fn kernel_remove_rows(t: *mut u32, t_len: usize, count: usize, marks: *const SlotBits);
     pub fn kernel_remove_requests(t: *mut u32, t_len: usize, marks: *const RequestMarks);
 
     // closings.rt

@@ -146,7 +146,7 @@ fn rows_removed(rng: &mut Rng, t: &mut Tables, lent: &mut [u32]) -> Option<()> {
     for (mark, row) in marks.iter_mut().zip(&t.rows) {
         *mark = removed.contains(&row.number);
     }
-    remove_rows(lent, t.rows.len(), &marks);
+    remove_rows(lent, t.rows.len(), &packed(&marks));
     t.rows.retain(|r| !removed.contains(&r.number));
     Some(())
 }
@@ -242,7 +242,7 @@ fn other_lengths_and_slots() {
         let mut t = vec![9; length];
         change_all(&mut t, 8, 0, 0);
         set_next(&mut t, 7);
-        remove_rows(&mut t, 3, &[true; ROWS]);
+        remove_rows(&mut t, 3, &packed(&[true; ROWS]));
         remove_requests(&mut t, &[true; REQUESTS]);
         assert!(t.iter().all(|word| *word == 9), "{length}");
     }
@@ -251,7 +251,7 @@ fn other_lengths_and_slots() {
     change_all(&mut t, usize::MAX, usize::MAX, 0);
     clear_item(&mut t, 0, ITEMS);
     clear_item(&mut t, 0, usize::MAX);
-    remove_rows(&mut t, ROWS + 1, &[true; ROWS]);
+    remove_rows(&mut t, ROWS + 1, &packed(&[true; ROWS]));
     // sources at or past the slot
     append_row(&mut t, 4, &[1, 1, 1, 1, 1, 1, 5, 4, 1, 0]);
     append_row(&mut t, 4, &[1, 1, 1, 1, 1, 1, 4, 5, 1, 0]);

@@ -91,7 +91,7 @@ fn removals() {
         for percent in [0, 2, 50, 98, 100] {
             let marks: RowMarks = std::array::from_fn(|_| rng.percent(percent));
             let (mut proved, mut plainly) = (t.clone(), t.clone());
-            changing::remove_rows(&mut proved, tables.rows.len(), &marks);
+            changing::remove_rows(&mut proved, tables.rows.len(), &changing::packed(&marks));
             plain::removal::remove_rows(&mut plainly, tables.rows.len(), &marks);
             assert!(proved == plainly, "{percent} in 100 rows");
         }

@@ -6,9 +6,10 @@ use mathlib.Core.Path.{_≡_, refl, ap, sym, subst, _∙_}
 use native.Mathlib.Nat.{zero-add, suc-add, not-suc-le-zero, le-of-suc-le-suc, le-refl, le-step}
 use native.Mathlib.Numerals.{add-one}
 use native.Mathlib.Omega.{arith}
-use lib.ListN.{length, getD, take, drop, set, length-append, length-drop, take-append-drop}
+use lib.ListN.{length, getD, take, drop, set, length-append, length-take, length-drop, take-append-drop}
 use lib.Seq.{take-suc, take-at, drop-at, drop-cons, set-at, getD-take, getD-drop, ext-getD, length-take-le}
 use Rattle.rows.specs.Lists.{filter, pad, laid}
+use Rattle.changes.specs.contracts.Bits.{SameMarks}
 use Rattle.changes.specs.contracts.Marks.{tested, keep, compacted}
 
 -- ---- pad
@@ -79,6 +80,24 @@ module _ {A : Type 0} where
   keep-unmarked (m ∷ ms) [] (suc n) f = refl
   keep-unmarked (true ∷ ms) (x ∷ l) (suc n) f = absurd (true≢false (f 0 (suc-le-suc zero-le)))
   keep-unmarked (false ∷ ms) (x ∷ l) (suc n) f = ap (λ (t : List A). x ∷ t) (keep-unmarked ms l n (λ i h. f (suc i) (suc-le-suc h)))
+
+  -- marks that agree where there are elements keep the same
+  keep-step : (ms : List Bool) (x : A) (l : List A) → keep ms (x ∷ l) ≡ cond (getD ms 0 false) (keep (drop 1 ms) l) (x ∷ keep (drop 1 ms) l)
+  unfolding keep
+  keep-step [] x l = refl
+  keep-step (m ∷ ms) x l = refl
+
+  keep-same : (ms ms′ : List Bool) (l : List A) → ((i : ℕ) → i < length l → getD ms′ i false ≡ getD ms i false) → keep ms′ l ≡ keep ms l
+  keep-same ms ms′ [] same = keep-nil ms′ ∙ sym (keep-nil ms)
+  keep-same ms ms′ (x ∷ l) same =
+      let rest : keep (drop 1 ms′) l ≡ keep (drop 1 ms) l = keep-same (drop 1 ms) (drop 1 ms′) l (λ i h. later ms′ i ∙ same (suc i) (suc-le-suc h) ∙ sym (later ms i)) in
+      keep-step ms′ x l
+      ∙ (λ i. cond (same 0 (suc-le-suc zero-le) i) (rest i) (x ∷ rest i))
+      ∙ sym (keep-step ms x l)
+    where
+      later : (ms : List Bool) (i : ℕ) → getD (drop 1 ms) i false ≡ getD ms (suc i) false
+      later [] i = refl
+      later (m ∷ ms) i = refl
 
   -- marks that are padded with false mark nothing more
   pub keep-pad : (n : ℕ) (ms : List Bool) (l : List A) → keep (pad false n ms) l ≡ keep ms l
@@ -160,6 +179,10 @@ compacted-agree ms n l l′ room e same rest =
     ∙ ap (λ (t : List ℕ). pad 0 n (keep ms (take n l′)) ++ t)
     (ext-getD 0 (drop n l) (drop n l′) (omega (arith, length-drop n l, length-drop n l′))
     (λ i h. getD-drop n l i 0 ∙ rest (n + i) (omega arith) ∙ sym (getD-drop n l′ i 0)))
+
+pub compacted-same : (ms ms′ : List Bool) (n : ℕ) → SameMarks ms ms′ n → compacted ms′ n ≡ compacted ms n
+unfolding compacted
+compacted-same ms ms′ n same i l = pad 0 n (keep-same ms ms′ (take n l) (λ x h. same x (omega (arith, length-take n l))) i) ++ drop n l
 
 -- ---- a column of laid words
 -- a padded column, of which the first n words are looked at and hold all that is not padding

@@ -3,6 +3,12 @@
 pub mod Put
 -- words that represent a state, with one change
 pub mod Changes
+-- bits of words, and the marks that they hold
+pub mod BitLaws
+-- the next slot that is marked, or that is not
+pub mod NextSlot
+-- slots that are marked and slots that are left, counted
+pub mod Lefts
 -- a column compacted: what is kept, and what laid words become
 pub mod Keep
 -- runs of words moved down in a column

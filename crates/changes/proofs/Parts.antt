@@ -11,10 +11,10 @@ use native.Mathlib.Omega.{arith}
 use lib.ListN.{length, take, drop, length-append, length-drop, take-append-drop}
 use lib.Seq.{take-at, drop-at, drop-drop, drop-length, length-take-le, take-append-le, drop-append-le}
 use Rattle.rows.specs.Lists.{pad, laid}
-use Rattle.changes.specs.contracts.Marks.{compacted, slid, cleared, onParts, NoneMarked, EndsClear, EndsMarked}
+use Rattle.changes.specs.contracts.Marks.{compacted, slid, cleared, onParts, NoneMarked, AllMarked}
 use Rattle.rows.proofs.LayoutColumns.{columns, length-columns}
 use Rattle.changes.proofs.Keep.{length-pad, length-laid}
-use Rattle.changes.proofs.Slide.{length-slid, length-cleared, Passed, passed-start, passed-run, passed-end}
+use Rattle.changes.proofs.Slide.{length-slid, length-cleared, Passed, passed-start, passed-skip, passed-run, passed-end}
 
 -- ---- a part that is lent: k words from the i-th on
 module _ (a b c t : List ℕ) (i k : ℕ) (e : t ≡ a ++ (b ++ c)) (la : length a ≡ i) (lb : length b ≡ k) where
@@ -180,18 +180,25 @@ slid-keeps k to from len down room l e = length-slid l to from down len (omega a
 pub cleared-keeps : (k from to : ℕ) → from ≤ to → to ≤ k → Keeps (cleared from to) k
 cleared-keeps k from to h room l e = length-cleared from to l h (omega arith) ∙ e
 
-pub moved-run : (ms : List Bool) (k m n : ℕ) (l₀ l : List ℕ) → length l₀ ≡ m * k → length l ≡ m * k → n ≤ k
-    → (i j a e : ℕ) → Moved ms k m l₀ l i j → j ≤ i → EndsMarked ms i n a → EndsClear ms a n e
-    → (l′ : List ℕ) → l′ ≡ onParts (slid j a (e - a)) k m l → Moved ms k m l₀ l′ e (j + (e - a))
-moved-run ms k m n l₀ l long₀ long fits i j a e p back marked clear l′ is = λ c lt.
+pub moved-run : (ms : List Bool) (k m : ℕ) (l₀ l : List ℕ) → length l₀ ≡ m * k → length l ≡ m * k
+    → (i j e : ℕ) → Moved ms k m l₀ l i j → j ≤ i → i ≤ e → e ≤ k → NoneMarked ms i e
+    → (l′ : List ℕ) → l′ ≡ onParts (slid j i (e - i)) k m l → Moved ms k m l₀ l′ e (j + (e - i))
+moved-run ms k m l₀ l long₀ long i j e p back h room clear l′ is = λ c lt.
     let w : c * k + k ≤ m * k = part-end k c m lt in
-    let room : e ≤ k = omega (arith, clear .within) in
     let long-part : length (part k l₀ c) ≡ k = part-long (c * k) k l₀ (omega (arith, long₀)) in
-    let keeps : Keeps (slid j a (e - a)) k = slid-keeps k j a (e - a) (omega (arith, marked .after)) (omega (arith, clear .after)) in
-    let same : part k l′ c ≡ slid j a (e - a) (part k l c) =
-    ap (λ (t : List ℕ). part k t c) is ∙ part-of (slid j a (e - a)) k keeps l m c lt (omega (arith, long)) in
-    subst (λ (t : List ℕ). Passed ms (part k l₀ c) t e (j + (e - a))) (sym same)
-    (passed-run ms (part k l₀ c) (part k l c) i j a e (p c lt) (marked .after) (clear .after) (omega (arith, long-part)) (marked .marked) (clear .clear))
+    let keeps : Keeps (slid j i (e - i)) k = slid-keeps k j i (e - i) back (omega arith) in
+    let same : part k l′ c ≡ slid j i (e - i) (part k l c) =
+    ap (λ (t : List ℕ). part k t c) is ∙ part-of (slid j i (e - i)) k keeps l m c lt (omega (arith, long)) in
+    subst (λ (t : List ℕ). Passed ms (part k l₀ c) t e (j + (e - i))) (sym same)
+    (passed-run ms (part k l₀ c) (part k l c) i j e (p c lt) h (omega (arith, long-part)) clear)
+
+-- all slots that are not passed are marked
+pub moved-skip : (ms : List Bool) (k m n : ℕ) (l₀ l : List ℕ) (i j : ℕ) → length l₀ ≡ m * k → i ≤ n → n ≤ k → AllMarked ms i n
+    → Moved ms k m l₀ l i j → Moved ms k m l₀ l n j
+moved-skip ms k m n l₀ l i j long h fits marked p = λ c lt.
+    let w : c * k + k ≤ m * k = part-end k c m lt in
+    let long-part : length (part k l₀ c) ≡ k = part-long (c * k) k l₀ (omega (arith, long)) in
+    passed-skip ms (part k l₀ c) (part k l c) i j (p c lt) n h (omega (arith, long-part)) marked
 
 pub moved-end : (ms : List Bool) (n k m : ℕ) (l₀ l : List ℕ) (j : ℕ) → Moved ms k m l₀ l n j
     → onParts (cleared j n) k m l ≡ onParts (compacted ms n) k m l₀

@@ -10,7 +10,7 @@ use native.Mathlib.Omega.{arith}
 use lib.ListN.{length, getD, take, drop, set, length-append, length-drop, take-append-drop}
 use lib.Seq.{take-suc, take-at, drop-at, drop-cons, drop-drop, getD-drop, set-at, length-take-le}
 use Rattle.rows.specs.Lists.{pad}
-use Rattle.changes.specs.contracts.Marks.{keep, compacted, slid, cleared, NoneMarked, AllMarked, EndsClear, EndsMarked}
+use Rattle.changes.specs.contracts.Marks.{keep, compacted, slid, cleared, NoneMarked, AllMarked, EndsAt}
 use Rattle.changes.proofs.Keep.{length-pad, keep-skip, keep-take, keep-unmarked}
 
 -- ---- a run moved down
@@ -133,18 +133,18 @@ module _ (ms : List Bool) (l₀ : List ℕ) where
           rest = slid-beyond l j i (p .back) n (i + n) room (omega (arith, p .back)) ∙ drops n;
         }
 
-    passed-skip : (a : ℕ) → i ≤ a → a ≤ length l₀ → AllMarked ms i a → Passed ms l₀ l a j
+    pub passed-skip : (a : ℕ) → i ≤ a → a ≤ length l₀ → AllMarked ms i a → Passed ms l₀ l a j
     passed-skip a h room f =
         let e : i + (a - i) ≡ a = omega arith in
         subst (λ (x : ℕ). Passed ms l₀ l x j) e (passed-marked (a - i) (omega arith) (λ k u v. f k u (omega arith)))
 
--- a run that is marked is passed, up to a, then one that is not, up to e
-pub passed-run : (ms : List Bool) (l₀ l : List ℕ) (i j a e : ℕ) → Passed ms l₀ l i j → i ≤ a → a ≤ e → e ≤ length l₀
-    → AllMarked ms i a → NoneMarked ms a e → Passed ms l₀ (slid j a (e - a) l) e (j + (e - a))
-passed-run ms l₀ l i j a e p h k room f g =
-    let q : a + (e - a) ≡ e = omega arith in
-    subst (λ (x : ℕ). Passed ms l₀ (slid j a (e - a) l) x (j + (e - a))) q
-    (passed-left ms l₀ l a j (passed-skip ms l₀ l i j p a h (omega arith) f) (e - a) (omega arith) (λ n u v. g n u (omega arith)))
+-- a run that is not marked is passed, up to e
+pub passed-run : (ms : List Bool) (l₀ l : List ℕ) (i j e : ℕ) → Passed ms l₀ l i j → i ≤ e → e ≤ length l₀
+    → NoneMarked ms i e → Passed ms l₀ (slid j i (e - i) l) e (j + (e - i))
+passed-run ms l₀ l i j e p h room f =
+    let q : i + (e - i) ≡ e = omega arith in
+    subst (λ (x : ℕ). Passed ms l₀ (slid j i (e - i) l) x (j + (e - i))) q
+    (passed-left ms l₀ l i j p (e - i) (omega arith) (λ n u v. f n u (omega arith)))
 
 pub passed-end : (ms : List Bool) (n : ℕ) (l₀ l : List ℕ) (j : ℕ) → Passed ms l₀ l n j → cleared j n l ≡ compacted ms n l₀
 unfolding cleared compacted
@@ -152,7 +152,7 @@ passed-end ms n l₀ l j p =
     ap (λ (t : List ℕ). pad 0 n t ++ drop n l) (p .front) ∙ ap (λ (t : List ℕ). pad 0 n (keep ms (take n l₀)) ++ t) (p .rest)
 
 -- a marked run and one that is not, among the first n: one slot at least is passed
-pub run-forth : (ms : List Bool) (n i a e : ℕ) → i < n → EndsMarked ms i n a → EndsClear ms a n e → i < e
+pub run-forth : (ms : List Bool) (n i a e : ℕ) → i < n → EndsAt ms false i n a → EndsAt ms true a n e → i < e
 run-forth ms n i a e h marked clear =
     ⊎-elim
     (λ (same : a ≡ e).

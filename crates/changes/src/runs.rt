@@ -1,69 +1,75 @@
 // Marked slots taken out of columns: each run of slots that are not marked moves down, in all columns; 0 comes after.
-ghost use mathlib.Core.Bool.{true};
+use crate::bits::BITS;
+use crate::bits::SlotBits;
+use crate::bits::least;
+ghost use mathlib.Core.Bool.{true, false};
 ghost use mathlib.Core.Path.{_≡_};
-ghost use Prim.Native.Nat.{_+_, _*_, _≤_};
+ghost use Prim.Native.Nat.{ℕ, _+_, _*_, _^_, _≤_, _<_};
 ghost use lib.ListN.{length};
-ghost use Rattle.changes.specs.contracts.Marks.{NoneMarked, EndsClear, EndsMarked};
+ghost use Rattle.rows.specs.contracts.Sizes.{ROWS};
+ghost use Rattle.changes.specs.contracts.Bits.{BITS, WORDS, bit, marksIn, sameAs};
+ghost use Rattle.changes.specs.contracts.Marks.{NoneMarked, EndsAt, EndsOn, lefts};
 ghost use Rattle.changes.specs.contracts.Marks.{slid, cleared, compacted, onParts};
 
 // ---- runs of marks
-// Whether none of eight slots is marked: without a branch, so that the processor looks at all of them at once.
-fn eight_clear(marks: &[bool], i: usize) -> bool
-    requires { ⌜ i + 8 ≤ length (now marks) ⌝ }
-    ensures { λ r. ⌜ (r ≡ true → NoneMarked (now (marks .entry)) i (i + 8)) ⌝ }
+// The word of which a bit is set where the slot is marked, or where it is not.
+fn word_of(w: u64, marked: bool) -> u64
+    ensures within { λ r. ⌜ r < 2 ^ BITS ⌝ }
+    ensures bits { λ r. ⌜ ((k : ℕ) → k < BITS → bit r k ≡ sameAs marked (bit w k)) ⌝ }
 {
-    let low = marks[i] | (marks[i + 1] | (marks[i + 2] | marks[i + 3]));
-    let high = marks[i + 4] | (marks[i + 5] | (marks[i + 6] | marks[i + 7]));
-    !(low | high)
+    if marked {
+        return w;
+    }
+    !w
 }
 
-// Passes slots that are not marked, eight at a time.
-fn skip_clear(marks: &[bool], from: usize, count: usize) -> usize
-    requires { ⌜ (from ≤ count) × (count ≤ length (now marks)) ⌝ }
-    ensures within { λ r. ⌜ (from ≤ r) × (r ≤ count) ⌝ }
-    ensures clear { λ r. ⌜ NoneMarked (now (marks .entry)) from r ⌝ }
+// The first slot from a word on, of the first count, that is marked or that is not; the count if there is none.
+fn next_in_words(marks: &SlotBits, marked: bool, word: usize, count: usize) -> usize
+    requires { ⌜ (word ≤ WORDS) × (count ≤ ROWS) ⌝ }
+    ensures { λ r. ⌜ EndsOn (marksIn (now (marks .entry))) marked (word * BITS) count r ⌝ }
 {
-    let mut i = from;
-    while 8 <= count - i {
-        let clear = eight_clear(marks, i);
-        if !clear {
-            return i;
+    let mut k = word;
+    while k * BITS < count {
+        let w = word_of(marks[k], marked);
+        if w != 0 {
+            return least(k * BITS + u64::trailing_zeros(w) as usize, count);
         }
-        i += 8;
+        k += 1;
     }
-    i
+    count
+}
+
+// The first slot from one on, of the first count, that is marked or that is not; the count if there is none.
+fn next(marks: &SlotBits, marked: bool, from: usize, count: usize) -> usize
+    requires { ⌜ (from ≤ count) × (count ≤ ROWS) ⌝ }
+    ensures { λ r. ⌜ EndsAt (marksIn (now (marks .entry))) marked from count r ⌝ }
+{
+    if from == count {
+        return count;
+    }
+    let rest = word_of(marks[from / BITS], marked) >> (from % BITS);
+    if rest != 0 {
+        return least(from + u64::trailing_zeros(rest) as usize, count);
+    }
+    next_in_words(marks, marked, from / BITS + 1, count)
 }
 
 // The first marked slot from one on, of the first count; the count if there is none.
 // Ruled out: a marked slot is passed; a slot that is not marked.
-pub fn next_marked(marks: &[bool], from: usize, count: usize) -> usize
-    requires { ⌜ (from ≤ count) × (count ≤ length (now marks)) ⌝ }
-    ensures { λ r. ⌜ EndsClear (now (marks .entry)) from count r ⌝ }
+pub fn next_marked(marks: &SlotBits, from: usize, count: usize) -> usize
+    requires { ⌜ (from ≤ count) × (count ≤ ROWS) ⌝ }
+    ensures { λ r. ⌜ EndsAt (marksIn (now (marks .entry))) true from count r ⌝ }
 {
-    let mut i = skip_clear(marks, from, count);
-    while i < count {
-        if marks[i] {
-            return i;
-        }
-        i += 1;
-    }
-    i
+    next(marks, true, from, count)
 }
 
 // The first slot from one on that is not marked, of the first count; the count if there is none.
 // Ruled out: a slot that is not marked is passed; a marked slot.
-pub fn next_left(marks: &[bool], from: usize, count: usize) -> usize
-    requires { ⌜ (from ≤ count) × (count ≤ length (now marks)) ⌝ }
-    ensures { λ r. ⌜ EndsMarked (now (marks .entry)) from count r ⌝ }
+pub fn next_left(marks: &SlotBits, from: usize, count: usize) -> usize
+    requires { ⌜ (from ≤ count) × (count ≤ ROWS) ⌝ }
+    ensures { λ r. ⌜ EndsAt (marksIn (now (marks .entry))) false from count r ⌝ }
 {
-    let mut i = from;
-    while i < count {
-        if !marks[i] {
-            return i;
-        }
-        i += 1;
-    }
-    i
+    next(marks, false, from, count)
 }
 
 // ---- runs of words
@@ -119,31 +125,35 @@ fn clear_all(part: &mut [u32], size: usize, columns: usize, from: usize, to: usi
     }
 }
 
-// Compacts columns of one size that stand one after the other. Nothing is marked before the first slot given.
+// Compacts columns of one size that stand one after the other. Nothing is marked before the first slot given, and so
+// many of the first count are kept. The next run is looked for before the one that was found, from a up to e, moves.
 // Ruled out: a word of a marked slot stays; a word moves into another column.
 pub fn compact_columns(
     part: &mut [u32],
     size: usize,
     columns: usize,
-    marks: &[bool],
+    marks: &SlotBits,
     first: usize,
+    kept: usize,
     count: usize,
 )
-    requires sizes { ⌜ (length (now part) ≡ columns * size) × (first ≤ count) × (count ≤ size)
-        × (count ≤ length (now marks)) ⌝ }
-    requires clear { ⌜ NoneMarked (now marks) 0 first ⌝ }
-    ensures { λ _. ⌜ now (part .exit) ≡ onParts (compacted (now (marks .entry)) count) size columns
+    requires sizes { ⌜ (length (now part) ≡ columns * size) × (first ≤ count) × (count ≤ size) × (count ≤ ROWS) ⌝ }
+    requires clear { ⌜ NoneMarked (marksIn (now marks)) 0 first ⌝ }
+    requires kept { ⌜ kept ≡ lefts (marksIn (now marks)) count ⌝ }
+    ensures { λ _. ⌜ now (part .exit) ≡ onParts (compacted (marksIn (now (marks .entry))) count) size columns
         (now (part .entry)) ⌝ }
 {
-    let mut i = first;
     let mut j = first;
-    while i < count {
-        let a = next_left(marks, i, count);
-        let e = next_marked(marks, a, count);
+    let mut a = first;
+    let mut e = first;
+    while j < kept {
+        let b = next_left(marks, e, count);
+        let f = next_marked(marks, b, count);
         let len = e - a;
         slide_all(part, size, columns, j, a, len);
         j += len;
-        i = e;
+        a = b;
+        e = f;
     }
-    clear_all(part, size, columns, j, count);
+    clear_all(part, size, columns, kept, count);
 }

@@ -1,5 +1,4 @@
 -- What `homes::home_each` and `homes::home_all` are lent beside the records, for the walks of both: the words and the marks.
-use mathlib.Core.Bool.{Bool}
 use mathlib.Core.List.{[], _∷_, List}
 use Prim.Native.Nat.{ℕ}
 use lib.ListN.{length}
@@ -12,7 +11,7 @@ use prog.Wp.{Heap}
 use ghost.Atoms.{Atoms, sem}
 use types.Kit.{Given, Item, ‵, _⊛_, ⋆, _$_, _∵_, !, qed, move, use1, split, fsplit, fjoin, frame, done}
 use denote.RattleType.{RattleType}
-use denote.Builtin.{bool, u32}
+use denote.Builtin.{u32, u64}
 use denote.Array.{Array}
 use denote.Ref.{RefT, ShrRef, shr-copy}
 use denote.Slice.{sliceVal, ShrSlice, shr-slice-copy}
@@ -25,7 +24,7 @@ abbrev pub R : RattleType
 R = T.the-row
 
 abbrev pub Marks : RattleType
-Marks = Array bool 1024
+Marks = Array u64 16
 
 -- a record's machine values
 abbrev pub vals : Process → List Val
@@ -35,17 +34,17 @@ vals = LL.vals T.the-type T′.the-laws
 abbrev pub st : RefT (List ℕ) → Val
 st t = sliceVal (t .ptr) (length (t .now))
 
-abbrev pub sm : RefT (List Bool) → Val
+abbrev pub sm : RefT (List ℕ) → Val
 sm m = vptr (m .ptr .0) (m .ptr .1)
 
 -- what the references own
 abbrev pub OwnT : Lft → RefT (List ℕ) → Fml
 OwnT κ t = ShrSlice (named 0) κ u32 .own t (st t ∷ [])
 
-abbrev pub OwnM : Lft → RefT (List Bool) → Fml
+abbrev pub OwnM : Lft → RefT (List ℕ) → Fml
 OwnM κ m = ShrRef (named 1) κ Marks .own m (sm m ∷ [])
 
-abbrev pub Lent : Lft → RefT (List ℕ) → Lft → RefT (List Bool) → Fml
+abbrev pub Lent : Lft → RefT (List ℕ) → Lft → RefT (List ℕ) → Fml
 Lent κ t κ′ m = fsep (OwnT κ t) (OwnM κ′ m)
 
 module _ {M : Type 1} (𝓤 : URA M) (H : Heap 𝓤) (A : Atoms 𝓤) where
@@ -54,7 +53,7 @@ module _ {M : Type 1} (𝓤 : URA M) (H : Heap 𝓤) (A : Atoms 𝓤) where
   Tokens κ q κ′ q′ = ‵ (flft κ q) ⊛ (‵ (flft κ′ q′) ⊛ ‵ ftrue)
 
   -- both can be copied: once for a call, once for what comes after it
-  pub twice : Given 𝓤 H A → (κ : Lft) (t : RefT (List ℕ)) (κ′ : Lft) (m : RefT (List Bool)) → ent 𝓤 (sem 𝓤 H A (Lent κ t κ′ m)) (⋆ 𝓤 H A (‵ (Lent κ t κ′ m) ∷ ‵ (Lent κ t κ′ m) ∷ []))
+  pub twice : Given 𝓤 H A → (κ : Lft) (t : RefT (List ℕ)) (κ′ : Lft) (m : RefT (List ℕ)) → ent 𝓤 (sem 𝓤 H A (Lent κ t κ′ m)) (⋆ 𝓤 H A (‵ (Lent κ t κ′ m) ∷ ‵ (Lent κ t κ′ m) ∷ []))
   twice W κ t κ′ m =
       qed W (‵ (Lent κ t κ′ m) ∷ []) ∵ fsplit ! $ use1 W (‵ (OwnT κ t) ⊛ ‵ (OwnT κ t)) (shr-slice-copy 𝓤 H A W (named 0) κ u32 .twice t (st t ∷ [])) $ split ! $
       move ! (2 ∷ []) $ use1 W (‵ (OwnM κ′ m) ⊛ ‵ (OwnM κ′ m)) (shr-copy 𝓤 H A W (named 1) κ′ Marks .twice m (sm m ∷ [])) $ split ! $

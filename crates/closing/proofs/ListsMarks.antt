@@ -141,9 +141,3 @@ module _ (b : ℕ → Bool) where
     pub mark-absent : rowSlot rows e ≡ 0 → marks ≡ slotMarks more rows
     unfolding slotMarks rowSlot
     mark-absent s = m ∙ ap (pad false ROWS) (mark-none (λ r. r .number) b e rows (slot-none (λ r. r .number) rows e s) ∙ tested-eq _ _ one-more rows)
-
--- what two marks say at a slot
-pub marks-read : (g b : ℕ → Bool) (rows : List Row) (n i : ℕ) → rowSlot rows n ≡ suc i
-    → (removed back : List Bool) → removed ≡ slotMarks g rows → back ≡ slotMarks b rows
-    → getD removed i false || getD back i false ≡ g n || b n
-marks-read g b rows n i e removed back p q = λ j. mark-read g rows n i e removed p j || mark-read b rows n i e back q j

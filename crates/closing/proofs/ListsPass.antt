@@ -1,13 +1,12 @@
 -- The pass over the requests, from the oldest on: one request more is done.
 use Prim.Native.Nat.{ℕ, zero, suc, _+_, _≤_}
-use mathlib.Core.Bool.{Bool, true, false, cond, not, _&&_, _||_}
+use mathlib.Core.Bool.{Bool, true, false, cond, not, _&&_, _||_, or-assoc}
 use mathlib.Core.List.{List, [], _∷_, _++_, map, map-id, map-map}
 use mathlib.Core.Path.{_≡_, refl, ap, sym, subst, _∙_}
-use native.Mathlib.Nat.{not-suc-le-zero, le-of-suc-le-suc}
 use native.Mathlib.Decide.{decLt}
 use native.Mathlib.Omega.{arith}
 use borrow.Author.Tests.{eqb-true}
-use lib.ListN.{length, getD, replicate, length-map, List·getD-eq-default}
+use lib.ListN.{length, getD, length-map, List·getD-eq-default}
 use lib.Seq.{append-snoc}
 use Rattle.rows.specs.declared.Row.{Row}
 use Rattle.rows.specs.declared.Request.{Request}
@@ -21,15 +20,14 @@ use Rattle.rows.specs.Layout.{requestAt}
 use Rattle.rows.specs.contracts.Sizes.{ROWS, REQUESTS, PROCESSES}
 use Rattle.rows.specs.contracts.Represents.{Represents}
 use Rattle.rows.specs.Setters.{withRequests, withPlace, withItems}
-use Rattle.rows.proofs.Bools.{clash, and-l, and-r, pos-some, all-mono, any-append}
+use Rattle.rows.proofs.Bools.{clash, and-l, and-r, or-false, pos-some, all-mono}
 use Rattle.rows.proofs.Keyed.{first-there, keys-map, rises-rest, rises-first}
 use Rattle.tables.proofs.Sound.{Sound, sound-open}
-use Rattle.rows.proofs.Slots.{represented-well, rises-old, request-of-words, request-words-at}
+use Rattle.rows.proofs.Slots.{rises-old, request-of-words, request-words-at}
 use Rattle.changes.specs.contracts.Marks.{tested, marksOf}
-use Rattle.changes.proofs.Keep.{length-tested}
 use Rattle.closing.specs.Closing.{oldestListing, returned, listedIn, leaves, trimmed}
 use Rattle.closing.specs.contracts.Marks.{RowCount, RowsMarked, RequestsMarked}
-use Rattle.closing.specs.contracts.Lists.{slotMarks, among, backRow, itemsBack, WentBack, itemsOut, trimmedAll, partlySettled, SettledTo, listsSettled, SlotsMarked, InSlot, ItemsStand, SendsBack, ItemsLeave}
+use Rattle.closing.specs.contracts.Lists.{slotMarks, among, backRow, itemsBack, WentBack, itemsOut, trimmedAll, returnedUnless, partlySettled, SettledTo, listsSettled, SlotsMarked, InSlot, ItemsStand, SendsBack, ItemsLeave}
 use Rattle.closing.proofs.Lookups.{returned-keeps, returned-same}
 use Rattle.closing.proofs.ListsMarks.{tested-at}
 use Rattle.rows.proofs.LayoutColumns.{getD-pad}
@@ -162,6 +160,40 @@ module _ (f : Request → Bool) (v : Request) (old : List Request) where
       pick false q true = let lt = rises-first (λ v. v .number) v old up in rw (pos-some (v .number) (omega arith)) refl
       pick false q false = rw q refl
 
+  -- a row that is removed is out, and stays where it is
+  pub unless-number : (g : List ℕ) (vs : List Request) (r : Row) → returnedUnless g f vs r .number ≡ r .number
+  unfolding returnedUnless
+  unless-number g vs r = pick (member (r .number) g)
+    where
+      pick : (b : Bool) → cond b r (returned f vs r) .number ≡ r .number
+      pick true = refl
+      pick false = returned-number f vs r
+
+  open-unless : (g : List ℕ) → f v ≡ false → (r : Row) → returnedUnless g f (v ∷ old) r ≡ returnedUnless g f old r
+  unfolding returnedUnless
+  open-unless g h r = ap (λ (x : Row). cond (member (r .number) g) r x) (open-returned h r)
+
+  closed-unless : (g : List ℕ) → f v ≡ true → rises (λ v. v .number) (v ∷ old) ≡ true → (r : Row)
+      → backRow (leaves f g old) (v .asker) (v .items) (returnedUnless g f old r) ≡ returnedUnless g f (v ∷ old) r
+  unfolding returnedUnless backRow leaves
+  closed-unless g h up r = pick (member (r .number) g) refl
+    where
+      back : (m : Bool) (x : Row) → Row
+      back m x = cond (not (m || listedIn f old (x .number)) && among (v .items) (x .number)) (withPlace (inClist (v .asker)) x) x
+
+      pick : (m : Bool) → member (r .number) g ≡ m
+          → back (member (cond m r (returned f old r) .number) g) (cond m r (returned f old r)) ≡ cond m r (returned f (v ∷ old) r)
+      pick true e = ap (λ (m : Bool). back m r) e
+      pick false e = ap (λ (m : Bool). back m (returned f old r)) (ap (λ (n : ℕ). member n g) (returned-number f old r) ∙ e) ∙ closed-returned h up r
+
+  open-leaves : (g : List ℕ) → f v ≡ false → (n : ℕ) → leaves f g (v ∷ old) n ≡ leaves f g old n
+  unfolding leaves
+  open-leaves g h n = ap (λ (b : Bool). member n g || b) (open-listed h n)
+
+  closed-leaves : (g : List ℕ) → f v ≡ true → (n : ℕ) → leaves f g (v ∷ old) n ≡ leaves f g old n || among (v .items) n
+  unfolding leaves
+  closed-leaves g h n = ap (λ (b : Bool). member n g || b) (closed-listed h n) ∙ sym (or-assoc (member n g) (listedIn f old n) (among (v .items) n))
+
 pub length-trimmed : (f : Request → Bool) (g : List ℕ) (vs : List Request) → length (trimmedAll f g vs) ≡ length vs
 unfolding trimmedAll
 length-trimmed f g [] = refl
@@ -184,12 +216,12 @@ module _ (g : List ℕ) (f : Request → Bool) (new : List Request) (v : Request
 
   pub before-count : (n : ℕ) → RowCount n st → RowCount n before
   unfolding partlySettled
-  before-count n e = e ∙ sym (length-map (st .rows) (returned f old))
+  before-count n e = e ∙ sym (length-map (st .rows) (returnedUnless g f old))
 
   -- marks of the rows as they were
   pub before-marks : (b : ℕ → Bool) → slotMarks b (before .rows) ≡ slotMarks b (st .rows)
   unfolding partlySettled
-  before-marks b = marks-map b (returned f old) (returned-number f old) (st .rows)
+  before-marks b = marks-map b (returnedUnless g f old) (unless-number f v old g old) (st .rows)
 
   -- the request in its slot
   pub before-read : (t : List ℕ) → Represents t before → (j : ℕ) → length old ≡ j → requestAt t j ≡ v
@@ -201,52 +233,52 @@ module _ (g : List ℕ) (f : Request → Bool) (new : List Request) (v : Request
   unfolding partlySettled numbers
   before-stand h =
       subst (λ (l : List ℕ). all (λ e. member e l) (nonzero (v .items)) ≡ true)
-      (sym (keys-map (λ r. r .number) (returned f old) (returned-number f old) (st .rows))) h
+      (sym (keys-map (λ r. r .number) (returnedUnless g f old) (unless-number f v old g old) (st .rows))) h
 
   -- it stays open: its list is trimmed
-  open-after : f v ≡ false → withRequests (new ++ (itemsOut (λ n. member n g || listedIn f old n) v ∷ trimmedAll f g old)) before ≡ after
-  unfolding partlySettled trimmedAll trimmed itemsOut leaves
+  open-after : f v ≡ false → withRequests (new ++ (itemsOut (leaves f g old) v ∷ trimmedAll f g old)) before ≡ after
+  unfolding partlySettled trimmedAll trimmed itemsOut
   open-after h =
       λ i.
       record {
-        rows = map (λ r. sym (open-returned f v old h r) i) (st .rows);
-        requests = new ++ (cond (sym h i) v (withItems (map (λ e. cond (member e g || listedIn f old e) 0 e) (v .items)) v) ∷ trimmedAll f g old);
+        rows = map (λ r. sym (open-unless f v old g h r) i) (st .rows);
+        requests = new ++ (cond (sym h i) v (withItems (map (λ e. cond (leaves f g old e) 0 e) (v .items)) v) ∷ trimmedAll f g old);
         processes = st .processes;
         next = st .next;
       }
 
-  pub open-settled : f v ≡ false → (t t′ : List ℕ) (back : List Bool) → SettledTo g f (new ++ (v ∷ [])) old st t back
-      → Represents t′ (withRequests (new ++ (itemsOut (λ n. member n g || listedIn f old n) v ∷ trimmedAll f g old)) before)
-      → SettledTo g f new (v ∷ old) st t′ back
-  open-settled h t t′ back s rep =
+  pub open-settled : f v ≡ false → (t t′ : List ℕ) (out : List Bool) → SettledTo g f (new ++ (v ∷ [])) old st t out
+      → Represents t′ (withRequests (new ++ (itemsOut (leaves f g old) v ∷ trimmedAll f g old)) before)
+      → SettledTo g f new (v ∷ old) st t′ out
+  open-settled h t t′ out s rep =
       record {
         represents = subst (λ (x : State). Represents t′ x) (open-after h) rep;
-        marks = s .marks ∙ (λ i. slotMarks (λ n. sym (open-listed f v old h n) i) (st .rows));
+        marks = s .marks ∙ (λ i. slotMarks (λ n. sym (open-leaves f v old g h n) i) (st .rows));
       }
 
   -- it closes: its ends go back
-  closed-after : f v ≡ true → rises (λ v. v .number) (v ∷ old) ≡ true → itemsBack (listedIn f old) (v .asker) (v .items) before ≡ after
+  closed-after : f v ≡ true → rises (λ v. v .number) (v ∷ old) ≡ true → itemsBack (leaves f g old) (v .asker) (v .items) before ≡ after
   unfolding partlySettled itemsBack trimmedAll
   closed-after h up =
-      let rows = map-map (backRow (listedIn f old) (v .asker) (v .items)) (returned f old) (st .rows)
-      ∙ (λ i. map (λ r. closed-returned f v old h up r i) (st .rows)) in
+      let rows = map-map (backRow (leaves f g old) (v .asker) (v .items)) (returnedUnless g f old) (st .rows)
+      ∙ (λ i. map (λ r. closed-unless f v old g h up r i) (st .rows)) in
       let requests = append-snoc new v (trimmedAll f g old) ∙ (λ i. new ++ (cond (sym h i) v (trimmed f g old v) ∷ trimmedAll f g old)) in
       λ i. record { rows = rows i; requests = requests i; processes = st .processes; next = st .next }
 
-  pub closed-settled : f v ≡ true → rises (λ v. v .number) (v ∷ old) ≡ true → (t : List ℕ) (back : List Bool)
-      → WentBack (listedIn f old) (v .asker) (v .items) before t back → SettledTo g f new (v ∷ old) st t back
-  closed-settled h up t back w =
+  pub closed-settled : f v ≡ true → rises (λ v. v .number) (v ∷ old) ≡ true → (t : List ℕ) (out : List Bool)
+      → WentBack (leaves f g old) (v .asker) (v .items) before t out → SettledTo g f new (v ∷ old) st t out
+  closed-settled h up t out w =
       record {
         represents = subst (λ (x : State). Represents t x) (closed-after h up) (w .represents);
         marks = w .marks
-            ∙ before-marks (λ n. listedIn f old n || among (v .items) n)
-            ∙ (λ i. slotMarks (λ n. sym (closed-listed f v old h n) i) (st .rows));
+            ∙ before-marks (λ n. leaves f g old n || among (v .items) n)
+            ∙ (λ i. slotMarks (λ n. sym (closed-leaves f v old g h n) i) (st .rows));
       }
 
 -- ---- one request done, by what the two functions over its items ensure
 module _ (st : State) (sd : sound st ≡ true) (g : List ℕ) (f : Request → Bool) (new : List Request) (v : Request) (old : List Request)
     (n j : ℕ) (count : RowCount n st) (here : InSlot j new v old st)
-    (t : List ℕ) (back : List Bool) (done : SettledTo g f (new ++ (v ∷ [])) old st t back)
+    (t : List ℕ) (out : List Bool) (done : SettledTo g f (new ++ (v ∷ [])) old st t out)
     (x : Request) (is : x ≡ requestAt t j) where
   was : State
   was = partlySettled g f (new ++ (v ∷ [])) old st
@@ -255,93 +287,79 @@ module _ (st : State) (sd : sound st ≡ true) (g : List ℕ) (f : Request → B
   unfolding was
   read = is ∙ before-read g f new v old st t (done .represents) j (here .1)
 
-  marked-back : SlotsMarked back (listedIn f old) was
+  marked-out : SlotsMarked out (leaves f g old) was
   unfolding was
-  marked-back = done .marks ∙ sym (before-marks g f new v old st (listedIn f old))
+  marked-out = done .marks ∙ sym (before-marks g f new v old st (leaves f g old))
 
-  pub closed-done : f v ≡ true → (t′ : List ℕ) (back′ : List Bool)
-      → SendsBack n (x .asker) (x .items) t back t′ back′ → SettledTo g f new (v ∷ old) st t′ back′
+  pub closed-done : f v ≡ true → (t′ : List ℕ) (out′ : List Bool)
+      → SendsBack n (x .asker) (x .items) t out t′ out′ → SettledTo g f new (v ∷ old) st t′ out′
   unfolding was
-  closed-done h t′ back′ called =
+  closed-done h t′ out′ called =
       let low : x .asker ≤ PROCESSES
       = subst (λ (y : Request). y .asker ≤ PROCESSES) (sym read) (asker-low st (sound-open st sd) new v old (here .0)) in
-      let went : WentBack (listedIn f old) (x .asker) (x .items) was t′ back′
-      = called was (listedIn f old) (done .represents) (before-count g f new v old st n count) low marked-back in
-      closed-settled g f new v old st h (requests-rise st (sound-open st sd) new v old (here .0)) t′ back′
-      (subst (λ (y : Request). WentBack (listedIn f old) (y .asker) (y .items) was t′ back′) read went)
+      let went : WentBack (leaves f g old) (x .asker) (x .items) was t′ out′
+      = called was (leaves f g old) (done .represents) (before-count g f new v old st n count) low marked-out in
+      closed-settled g f new v old st h (requests-rise st (sound-open st sd) new v old (here .0)) t′ out′
+      (subst (λ (y : Request). WentBack (leaves f g old) (y .asker) (y .items) was t′ out′) read went)
 
-  pub open-done : f v ≡ false → (removed : List Bool) → RowsMarked removed g st → (t′ : List ℕ)
-      → ItemsLeave n j x removed back t t′ → SettledTo g f new (v ∷ old) st t′ back
+  pub open-done : f v ≡ false → (t′ : List ℕ) → ItemsLeave n j x out t t′ → SettledTo g f new (v ∷ old) st t′ out
   unfolding was
-  open-done h removed gone t′ called =
+  open-done h t′ called =
       let stand : ItemsStand was (x .items)
       = subst (λ (y : Request). ItemsStand was (y .items)) (sym read)
       (before-stand g f new v old st (items-stand st (sound-open st sd) new v old (here .0))) in
       let cut : was .requests ≡ new ++ (x ∷ trimmedAll f g old)
       = before-cut g f new v old st ∙ ap (λ (y : Request). new ++ (y ∷ trimmedAll f g old)) (sym read) in
       let represents : Represents t′ (outHere x)
-      = called was (λ n. member n g) (listedIn f old) new (trimmedAll f g old) (done .represents) (before-count g f new v old st n count)
-      (cut, before-slot g f new v old st j (here .1)) stand (gone ∙ marks-of ∙ sym (before-marks g f new v old st (λ n. member n g))) marked-back in
-      open-settled g f new v old st h t t′ back done (subst (λ (y : Request). Represents t′ (outHere y)) read represents)
+      = called was (leaves f g old) new (trimmedAll f g old) (done .represents) (before-count g f new v old st n count)
+      (cut, before-slot g f new v old st j (here .1)) stand marked-out in
+      open-settled g f new v old st h t t′ out done (subst (λ (y : Request). Represents t′ (outHere y)) read represents)
     where
       -- the state with the items of y that leave out of its list
       outHere : Request → State
-      outHere y = withRequests (new ++ (itemsOut (λ n. member n g || listedIn f old n) y ∷ trimmedAll f g old)) was
-
-      marks-of : pad false ROWS (marksOf g (st .rows)) ≡ slotMarks (λ n. member n g) (st .rows)
-      marks-of = unfold slotMarks marksOf in refl
+      outHere y = withRequests (new ++ (itemsOut (leaves f g old) y ∷ trimmedAll f g old)) was
 
 -- ---- the loop
--- no marks at all, over any number of slots
-pad-none : (k : ℕ) (l : List Bool) → length l ≤ k → any (λ b. b) l ≡ false → replicate k false ≡ pad false k l
-unfolding pad any
-pad-none zero [] h e = refl
-pad-none zero (b ∷ l) h e = absurd (not-suc-le-zero h)
-pad-none (suc k) [] h e = ap (λ (r : List Bool). false ∷ r) (pad-none k [] (omega arith) e)
-pad-none (suc k) (true ∷ l) h e = clash refl e
-pad-none (suc k) (false ∷ l) h e = ap (λ (r : List Bool). false ∷ r) (pad-none k l (le-of-suc-le-suc h) e)
-
-tested-none : {A : Type 0} (xs : List A) → any (λ b. b) (tested (λ x. false) xs) ≡ false
-unfolding tested any
-tested-none [] = refl
-tested-none (x ∷ xs) = any-append (λ b. b) (tested (λ y. false) xs) (false ∷ []) ∙ rw (tested-none xs) refl
-
 module _ (g : List ℕ) (f : Request → Bool) (st : State) where
   abbrev pub Done : ℕ → List ℕ → List Bool → Type 0
-  Done j t back = (new old : List Request) → st .requests ≡ new ++ old → length old ≡ j → SettledTo g f new old st t back
+  Done j t out = (new old : List Request) → st .requests ≡ new ++ old → length old ≡ j → SettledTo g f new old st t out
+
+  unless-none : (r : Row) → returnedUnless g f [] r ≡ r
+  unfolding returnedUnless listedIn any
+  unless-none r = pick (member (r .number) g)
+    where
+      pick : (b : Bool) → cond b r (returned f [] r) ≡ r
+      pick true = refl
+      pick false = returned-same f [] r refl
 
   none-done : (new : List Request) → st .requests ≡ new ++ [] → partlySettled g f new [] st ≡ st
-  unfolding partlySettled trimmedAll listedIn any
+  unfolding partlySettled trimmedAll
   none-done new cut =
-      let rows : map (returned f []) (st .rows) ≡ st .rows = (λ i. map (λ r. returned-same f [] r refl i) (st .rows)) ∙ map-id (st .rows) in
+      let rows : map (returnedUnless g f []) (st .rows) ≡ st .rows = (λ i. map (λ r. unless-none r i) (st .rows)) ∙ map-id (st .rows) in
       λ i. record { rows = rows i; requests = sym cut i; processes = st .processes; next = st .next }
 
-  none-marked : (k : ℕ) → k ≡ ROWS → length (st .rows) ≤ k → SlotsMarked (replicate k false) (listedIn f []) st
-  unfolding slotMarks listedIn any
-  none-marked k e few =
-      let unmarked = tested (λ r. false) (st .rows) in
-      pad-none k unmarked (omega (arith, length-tested (λ r. false) (st .rows))) (tested-none (st .rows)) ∙ ap (λ (m : ℕ). pad false m unmarked) e
+  -- at first the removed rows are out
+  removed-out : (out : List Bool) → RowsMarked out g st → SlotsMarked out (leaves f g []) st
+  unfolding slotMarks marksOf leaves listedIn any
+  removed-out out gone = gone ∙ (λ i. pad false ROWS (tested (λ r. sym (or-false (member (r .number) g)) i) (st .rows)))
 
-  pub done-start : (t : List ℕ) → Represents t st → (k : ℕ) → k ≡ ROWS → Done 0 t (replicate k false)
-  done-start t rep k e new [] cut long =
-      record {
-        represents = subst (λ (x : State). Represents t x) (sym (none-done new cut)) rep;
-        marks = none-marked k e (omega (arith, represented-well rep .rows-fit));
-      }
-  done-start t rep k e new (v ∷ old) cut long = absurd (omega arith)
+  pub done-start : (t : List ℕ) (out : List Bool) → Represents t st → RowsMarked out g st → Done 0 t out
+  done-start t out rep gone new [] cut long =
+      record { represents = subst (λ (x : State). Represents t x) (sym (none-done new cut)) rep; marks = removed-out out gone }
+  done-start t out rep gone new (v ∷ old) cut long = absurd (omega arith)
 
   -- one more, by what the function over it ensures
-  pub done-turn : (j : ℕ) (t t′ : List ℕ) (back back′ : List Bool) → Done j t back
+  pub done-turn : (j : ℕ) (t t′ : List ℕ) (out out′ : List Bool) → Done j t out
       → ((new : List Request) (v : Request) (old : List Request) → InSlot j new v old st
-      → SettledTo g f (new ++ (v ∷ [])) old st t back → SettledTo g f new (v ∷ old) st t′ back′)
-      → Done (j + 1) t′ back′
-  done-turn j t t′ back back′ ih called new [] cut long = absurd (omega arith)
-  done-turn j t t′ back back′ ih called new (v ∷ old) cut long =
+      → SettledTo g f (new ++ (v ∷ [])) old st t out → SettledTo g f new (v ∷ old) st t′ out′)
+      → Done (j + 1) t′ out′
+  done-turn j t t′ out out′ ih called new [] cut long = absurd (omega arith)
+  done-turn j t t′ out out′ ih called new (v ∷ old) cut long =
       called new v old (cut, omega arith) (ih (new ++ (v ∷ [])) old (cut ∙ sym (append-snoc new v old)) (omega arith))
 
-  pub done-end : (j : ℕ) (t : List ℕ) (back : List Bool) → length (st .requests) ≡ j → Done j t back → Represents t (listsSettled g f st)
+  pub done-end : (j : ℕ) (t : List ℕ) (out : List Bool) → length (st .requests) ≡ j → Done j t out → Represents t (listsSettled g f st)
   unfolding listsSettled
-  done-end j t back e d = d [] (st .requests) refl e .represents
+  done-end j t out e d = d [] (st .requests) refl e .represents
 
   -- the mark of the request in a slot
   pub closes-at : (closed : List Bool) → RequestsMarked closed f st

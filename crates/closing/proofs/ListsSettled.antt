@@ -13,12 +13,12 @@ use Rattle.rows.specs.Sound.{rowsRise, requestsRise, rowsFit, requestsFit, item
 use Rattle.rows.specs.Layout.{wordsOf}
 use Rattle.rows.specs.contracts.Represents.{laidWell, Represents}
 use Rattle.rows.specs.Setters.{withRows, withRequests, withProcesses, withPlace, withItems}
+use Rattle.rows.proofs.Bools.{not-t}
 use Rattle.changes.specs.contracts.Marks.{tested, marksOf, closedUnder}
 use Rattle.closing.specs.Closing.{closes, returned, trimmed, remaining, settled}
-use Rattle.closing.specs.contracts.Lists.{trimmedAll, partlySettled, listsSettled}
+use Rattle.closing.specs.contracts.Lists.{trimmedAll, returnedUnless, partlySettled, listsSettled}
 use Rattle.closing.proofs.Lookups.{returned-keeps}
 use Rattle.closing.proofs.ListsMarks.{tested-eq, tested-map}
-use Rattle.closing.proofs.ListsPass.{returned-number}
 
 -- a test of requests that does not look at their items, as `closes` is
 abbrev pub Blind : (Request → Bool) → Type 0
@@ -39,35 +39,64 @@ module _ {A : Type 0} (p : A → Bool) (h : A → A) (k : (x : A) → p (h x) �
       pick true = refl
       pick false = refl
 
+  map-agree : (k : A → A) → ((x : A) → p x ≡ true → h x ≡ k x) → (xs : List A) → map h (filter p xs) ≡ map k (filter p xs)
+  unfolding filter
+  map-agree k same [] = refl
+  map-agree k same (x ∷ xs) = pick (p x) refl (map-agree k same xs)
+    where
+      pick : (b : Bool) → p x ≡ b → map h (filter p xs) ≡ map k (filter p xs) → map h (cond b (x ∷ filter p xs) (filter p xs)) ≡ map k (cond b (x ∷ filter p xs) (filter p xs))
+      pick true e ih = (λ i. same x e i ∷ ih i)
+      pick false e ih = ih
+
   all-map-eq : (xs : List A) → all p (map h xs) ≡ all p xs
   unfolding all
   all-map-eq [] = refl
   all-map-eq (x ∷ xs) = rw (k x, all-map-eq xs) refl
 
 module _ (g : List ℕ) (f : Request → Bool) (st : State) where
+  abbrev sent : Row → Row
+  sent = returnedUnless g f (st .requests)
+
+  sent-keeps : {B : Type 0} (k : Row → B) → ((p : ℕ) (r : Row) → k (withPlace p r) ≡ k r) → (r : Row) → k (sent r) ≡ k r
+  unfolding returnedUnless
+  sent-keeps k same r = pick (member (r .number) g)
+    where
+      pick : (b : Bool) → k (cond b r (returned f (st .requests) r)) ≡ k r
+      pick true = refl
+      pick false = returned-keeps k same f (st .requests) r
+
+  sent-number : (r : Row) → sent r .number ≡ r .number
+  sent-number = sent-keeps (λ r. r .number) (λ p r. unfold withPlace in refl)
+
   pub lists-rows : length (listsSettled g f st .rows) ≡ length (st .rows)
   unfolding listsSettled partlySettled
-  lists-rows = length-map (st .rows) (returned f (st .requests))
+  lists-rows = length-map (st .rows) sent
 
   -- the same rows are marked, and the marks stay closed
   pub lists-marks : marksOf g (listsSettled g f st .rows) ≡ marksOf g (st .rows)
   unfolding listsSettled partlySettled marksOf
   lists-marks =
-      tested-map (λ r. member (r .number) g) (returned f (st .requests)) (st .rows)
-      ∙ tested-eq _ _ (λ r. ap (λ (n : ℕ). member n g) (returned-number f (st .requests) r)) (st .rows)
+      tested-map (λ r. member (r .number) g) sent (st .rows)
+      ∙ tested-eq _ _ (λ r. ap (λ (n : ℕ). member n g) (sent-number r)) (st .rows)
 
   pub lists-closed : closedUnder g (listsSettled g f st .rows) ≡ closedUnder g (st .rows)
   unfolding listsSettled partlySettled closedUnder
-  lists-closed = all-map-eq test (returned f (st .requests)) (returned-keeps test (λ p r. unfold withPlace sources in refl) f (st .requests)) (st .rows)
+  lists-closed = all-map-eq test sent (sent-keeps test (λ p r. unfold withPlace sources in refl)) (st .rows)
     where
       test : Row → Bool
       test r = member (r .number) g || not (any (λ s. member s g) (sources r))
 
   pub lists-rows-left : filter (λ r. not (member (r .number) g)) (listsSettled g f st .rows) ≡ settled g f st .rows
-  unfolding listsSettled partlySettled settled
+  unfolding listsSettled partlySettled settled returnedUnless
   lists-rows-left =
-      filter-map (λ r. not (member (r .number) g)) (returned f (st .requests))
-      (λ r. ap (λ (n : ℕ). not (member n g)) (returned-number f (st .requests) r)) (st .rows)
+      filter-map stays sent (λ r. ap (λ (n : ℕ). not (member n g)) (sent-number r)) (st .rows)
+      ∙ map-agree stays sent (λ r. ap (λ (n : ℕ). not (member n g)) (sent-number r)) (returned f (st .requests)) sends (st .rows)
+    where
+      stays : Row → Bool
+      stays r = not (member (r .number) g)
+
+      sends : (r : Row) → not (member (r .number) g) ≡ true → cond (member (r .number) g) r (returned f (st .requests) r) ≡ returned f (st .requests) r
+      sends r e = ap (λ (b : Bool). cond b r (returned f (st .requests) r)) (not-t (member (r .number) g) e)
 
 -- ---- requests
 module _ (f : Request → Bool) (blind : Blind f) (g : List ℕ) where

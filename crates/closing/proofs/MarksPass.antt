@@ -28,7 +28,7 @@ module _ {A : Type 0} (key : A → ℕ) where
       ∙ first-cut none new x old up′
 
 -- ---- marks
-pad-none : (k : ℕ) → replicate k false ≡ pad false k []
+pub pad-none : (k : ℕ) → replicate k false ≡ pad false k []
 unfolding pad
 pad-none zero = refl
 pad-none (suc k) = ap (λ (l : List Bool). false ∷ l) (pad-none k)
@@ -39,15 +39,21 @@ set-next zero l b h = absurd (not-suc-le-zero h)
 set-next (suc k) [] b h = refl
 set-next (suc k) (x ∷ l) b h = ap (λ (r : List Bool). x ∷ r) (set-next k l b (le-of-suc-le-suc h))
 
+pad-false : (k : ℕ) (l : List Bool) → length l < k → pad false k (l ++ (false ∷ [])) ≡ pad false k l
+unfolding pad
+pad-false zero l h = absurd (not-suc-le-zero h)
+pad-false (suc k) [] h = refl
+pad-false (suc k) (x ∷ l) h = ap (λ (r : List Bool). x ∷ r) (pad-false k l (le-of-suc-le-suc h))
+
 -- ---- the pass: of k slots, those of the i oldest elements are marked, however the list is cut there
 module _ {A : Type 0} (f : A → Bool) (k : ℕ) (xs : List A) where
   abbrev pub MarkedTo : ℕ → List Bool → Type 0
   MarkedTo i ms = (new old : List A) → xs ≡ new ++ old → length old ≡ i → ms ≡ pad false k (tested f old)
 
-  pub marked-start : MarkedTo 0 (replicate k false)
+  pub marked-start : (ms : List Bool) → ms ≡ pad false k [] → MarkedTo 0 ms
   unfolding tested
-  marked-start new [] cut long = pad-none k
-  marked-start new (x ∷ old) cut long = absurd (omega arith)
+  marked-start ms none new [] cut long = none
+  marked-start ms none new (x ∷ old) cut long = absurd (omega arith)
 
   pub marked-turn : (i : ℕ) (ms : List Bool) (b : Bool) → i < k → MarkedTo i ms
       → ((new : List A) (x : A) (old : List A) → xs ≡ new ++ (x ∷ old) → length old ≡ i → ms ≡ pad false k (tested f old) → b ≡ f x)
@@ -62,6 +68,16 @@ module _ {A : Type 0} (f : A → Bool) (k : ℕ) (xs : List A) where
       ∙ ap (λ (j : ℕ). set (pad false k (tested f old)) j b) (sym at)
       ∙ set-next k (tested f old) b (omega arith)
       ∙ ap (λ (c : Bool). pad false k (tested f old ++ (c ∷ []))) (here new x old cut long′ so-far)
+
+  -- a slot that is not marked stays so
+  pub marked-left : (i : ℕ) (ms : List Bool) → i < k → MarkedTo i ms
+      → ((new : List A) (x : A) (old : List A) → xs ≡ new ++ (x ∷ old) → length old ≡ i → f x ≡ false) → MarkedTo (i + 1) ms
+  unfolding tested
+  marked-left i ms h ih here new [] cut long = absurd (omega arith)
+  marked-left i ms h ih here new (x ∷ old) cut long =
+      let long′ : length old ≡ i = omega arith in
+      ih (new ++ (x ∷ [])) old (cut ∙ sym (append-snoc new x old)) long′
+      ∙ sym (ap (λ (b : Bool). pad false k (tested f old ++ (b ∷ []))) (here new x old cut long′) ∙ pad-false k (tested f old) (omega (arith, length-tested f old)))
 
   pub marked-end : (i : ℕ) (ms : List Bool) → length xs ≡ i → MarkedTo i ms → ms ≡ pad false k (tested f xs)
   marked-end i ms e d = d [] xs refl e

@@ -2,27 +2,32 @@
 use crate::Seed;
 use crate::homes::home_records;
 use crate::lists::settle_lists;
+use crate::marks::count_removed;
 use crate::marks::mark_requests;
 use crate::marks::mark_rows;
+use changes::bits::SlotBits;
 use changes::remove;
 use rows::find;
-use rows::layout::RowMarks;
+ghost use mathlib.Core.Path.{_≡_};
 ghost use Prim.Native.Nat.{_≤_};
 ghost use Rattle.rows.specs.contracts.Sizes.{ROWS, IsTables, IsRecords};
+ghost use Rattle.changes.specs.contracts.Bits.{marksIn, gones};
 ghost use Rattle.closing.specs.Closing.{closeRequest, closePort, dropRow};
 ghost use Rattle.closing.specs.contracts.Seeds.{closingFrom};
 ghost use Rattle.closing.specs.contracts.Takes.{Takes, TakesOut};
 
-// The marked rows are removed and the requests close: lists and places first, while slots are as the marks have them.
-fn take_out(t: &mut [u32], n: usize, s: Seed, removed: &RowMarks)
-    requires { ⌜ IsTables (now t) × (n ≤ ROWS) ⌝ }
-    ensures out { λ _. ⌜ TakesOut s n (now (removed .entry)) (now (t .entry)) (now (t .exit)) ⌝ }
+// The marked rows, so many, are removed and the requests close: lists and places first, while slots are as the marks
+// have them.
+fn take_out(t: &mut [u32], n: usize, gone: usize, s: Seed, removed: &SlotBits)
+    requires sizes { ⌜ IsTables (now t) × (n ≤ ROWS) ⌝ }
+    requires gone { ⌜ gone ≡ gones (marksIn (now removed)) n ⌝ }
+    ensures out { λ _. ⌜ TakesOut s n (marksIn (now (removed .entry))) (now (t .entry)) (now (t .exit)) ⌝ }
     ensures long { λ _. ⌜ IsTables (now (t .exit)) ⌝ }
 {
     let m = find::count_requests(t);
     let closed = mark_requests(t, n, m, removed, s);
     settle_lists(t, n, m, removed, &closed);
-    remove::remove_rows(t, n, removed);
+    remove::remove_rows(t, n, gone, removed);
     remove::remove_requests(t, &closed);
 }
 
@@ -36,7 +41,8 @@ fn close(t: &mut [u32], ps: &mut [u32], s: Seed)
     let n = find::count_rows(t);
     let removed = mark_rows(t, n, s);
     home_records(t, n, ps, &removed);
-    take_out(t, n, s, &removed);
+    let gone = count_removed(&removed, n);
+    take_out(t, n, gone, s, &removed);
 }
 
 // Closes request q.

@@ -1,18 +1,19 @@
 // Processes that stand in a node through a removed row go to their prime node.
 use crate::marks::is_marked;
+use changes::bits::SlotBits;
 use rows::Process;
 use rows::layout::PROCESSES;
-use rows::layout::RowMarks;
 use rows::records;
 use rows::records::Records;
 ghost use Prim.Native.Nat.{_≤_};
 ghost use Rattle.rows.specs.contracts.Sizes.{ROWS, IsTables, IsRecords};
+ghost use Rattle.changes.specs.contracts.Bits.{marksIn};
 ghost use Rattle.closing.specs.contracts.Takes.{Homes, HomesEach, HomesAll, AwayIfAny, HomesWords};
 
 // One record.
-fn home(t: &[u32], n: usize, x: Process, removed: &RowMarks) -> Process
+fn home(t: &[u32], n: usize, x: Process, removed: &SlotBits) -> Process
     requires { ⌜ IsTables (now t) × (n ≤ ROWS) ⌝ }
-    ensures { λ r. ⌜ Homes (now (t .entry)) n x (now (removed .entry)) r ⌝ }
+    ensures { λ r. ⌜ Homes (now (t .entry)) n x (marksIn (now (removed .entry))) r ⌝ }
 {
     if x.through == 0 {
         return x;
@@ -28,9 +29,9 @@ fn home(t: &[u32], n: usize, x: Process, removed: &RowMarks) -> Process
 }
 
 // Each record of a run of them.
-fn home_each(ps: &mut [Process], t: &[u32], n: usize, removed: &RowMarks)
+fn home_each(ps: &mut [Process], t: &[u32], n: usize, removed: &SlotBits)
     requires { ⌜ IsTables (now t) × (n ≤ ROWS) ⌝ }
-    ensures { λ _. ⌜ HomesEach (now (t .entry)) n (now (ps .entry)) (now (removed .entry)) (now (ps .exit)) ⌝ }
+    ensures { λ _. ⌜ HomesEach (now (t .entry)) n (now (ps .entry)) (marksIn (now (removed .entry))) (now (ps .exit)) ⌝ }
 {
     let mut i = 0;
     while i < ps.len() {
@@ -41,9 +42,9 @@ fn home_each(ps: &mut [Process], t: &[u32], n: usize, removed: &RowMarks)
 
 // All records.
 // Ruled out: a process stays in a node that it reached through a removed row; one in its prime node moves.
-fn home_all(t: &[u32], n: usize, mut ps: Records, removed: &RowMarks) -> Records
+fn home_all(t: &[u32], n: usize, mut ps: Records, removed: &SlotBits) -> Records
     requires { ⌜ IsTables (now t) × (n ≤ ROWS) ⌝ }
-    ensures { λ r. ⌜ HomesAll (now (t .entry)) n ps (now (removed .entry)) r ⌝ }
+    ensures { λ r. ⌜ HomesAll (now (t .entry)) n ps (marksIn (now (removed .entry))) r ⌝ }
 {
     home_each(&mut ps, t, n, removed);
     ps
@@ -67,9 +68,9 @@ fn any_away(ps: &[u32]) -> bool
 
 // All records, in their words; most often there is nothing to do.
 // Ruled out: the records are left as they were; those of another run are stored.
-pub fn home_records(t: &[u32], n: usize, ps: &mut [u32], removed: &RowMarks)
+pub fn home_records(t: &[u32], n: usize, ps: &mut [u32], removed: &SlotBits)
     requires { ⌜ IsTables (now t) × (n ≤ ROWS) × IsRecords (now ps) ⌝ }
-    ensures homed { λ _. ⌜ HomesWords (now (t .entry)) n (now (ps .entry)) (now (removed .entry)) (now (ps .exit)) ⌝ }
+    ensures homed { λ _. ⌜ HomesWords (now (t .entry)) n (now (ps .entry)) (marksIn (now (removed .entry))) (now (ps .exit)) ⌝ }
     ensures long { λ _. ⌜ IsRecords (now (ps .exit)) ⌝ }
 {
     if !any_away(ps) {

@@ -1,5 +1,11 @@
 // Marks of what a closing takes: the rows that come from its seeds, and the requests that close with them.
 use crate::Seed;
+use changes::bits;
+use changes::bits::BITS;
+use changes::bits::SlotBits;
+use changes::bits::WORDS;
+use changes::bits::word_end;
+use changes::runs::next_marked;
 use rows::Found;
 use rows::codes::is_end;
 use rows::find;
@@ -12,24 +18,18 @@ use rows::layout::REQUEST;
 use rows::layout::REQUESTS;
 use rows::layout::ROWS;
 use rows::layout::RequestMarks;
-use rows::layout::RowMarks;
 use rows::layout::SOURCE;
 use rows::layout::VIA;
-ghost use mathlib.Core.Bool.{false};
 ghost use mathlib.Core.Path.{_≡_};
-ghost use Prim.Native.Nat.{_%_, _≤_, _<_};
-ghost use lib.ListN.{getD};
+ghost use Prim.Native.Nat.{_≤_, _<_};
 ghost use Rattle.rows.specs.Lists.{member};
 ghost use Rattle.rows.specs.Layout.{rawRow};
 ghost use Rattle.rows.specs.contracts.Sizes.{ROWS, REQUESTS, IsTables};
+ghost use Rattle.changes.specs.contracts.Bits.{EndsWord, marksIn, gones};
+ghost use Rattle.changes.specs.contracts.Marks.{NoneMarked};
 ghost use Rattle.closing.specs.contracts.Seeds.{seedOf, closesOf};
-ghost use Rattle.closing.specs.contracts.Marks.{WORDS, MarksWords, MarksRows, TellsMark, MarksRequests};
-
-// Marks by the word of a source: that of a slot stands at the slot plus 1, and nothing is marked at 0. There are more
-// of them than words that a source can have, so that a word is looked up without a test.
-const WORDS: usize = 2 * ROWS;
-
-type WordMarks = [bool; WORDS];
+ghost use Rattle.closing.specs.contracts.Marks.{wordMark, eitherMark, MarksSeeds, MarksOn, MarksRows};
+ghost use Rattle.closing.specs.contracts.Marks.{CountsRemoved, TellsMark, MarksRequests};
 
 // Whether the row in slot i is a seed.
 // Ruled out: an operation row whose manager's number is the port's; a row that bears the number of another request.
@@ -44,44 +44,93 @@ fn is_seed(t: &[u32], i: usize, s: Seed) -> bool
     }
 }
 
-// The mark at the word s of a source.
-fn mark_at(by: &WordMarks, s: u32) -> bool
-    ensures { λ r. ⌜ r ≡ getD (now (by .entry)) (s % WORDS) false ⌝ }
-{
-    by[s as usize % WORDS]
-}
-
-// The seeds and all that comes from them, in one pass from the oldest row on.
-fn mark_words(t: &[u32], n: usize, s: Seed) -> WordMarks
+// The seeds.
+fn mark_seeds(t: &[u32], n: usize, s: Seed) -> SlotBits
     requires { ⌜ IsTables (now t) × (n ≤ ROWS) ⌝ }
-    ensures { λ r. ⌜ MarksWords (now (t .entry)) n s r ⌝ }
+    ensures { λ r. ⌜ MarksSeeds (now (t .entry)) n s (marksIn r) ⌝ }
 {
-    let mut by = [false; WORDS];
+    let mut marks = [0u64; WORDS];
     let mut i = 0;
     while i < n {
-        let seed = is_seed(t, i, s);
-        let source = mark_at(&by, t[SOURCE + i]);
-        let via = mark_at(&by, t[VIA + i]);
-        by[i + 1] = seed | source | via;
+        if is_seed(t, i, s) {
+            bits::set(&mut marks, i);
+        }
         i += 1;
     }
-    by
+    marks
 }
 
-// The rows that are removed: the seeds and all that comes from them.
+// The mark of the row that the word s of a source names. Nothing is marked before the first slot given.
+// Ruled out: a row of which the source is slot 0 has none.
+fn mark_at(marks: &SlotBits, first: usize, s: u32) -> bool
+    requires { ⌜ NoneMarked (marksIn (now marks)) 0 first ⌝ }
+    ensures { λ r. ⌜ (s ≤ ROWS → r ≡ wordMark (marksIn (now (marks .entry))) s) ⌝ }
+{
+    let at = s as usize;
+    if at <= first {
+        return false;
+    }
+    bits::is_set(marks, (at - 1) % ROWS)
+}
+
+// Whether one of a row's two sources is marked.
+fn derives(marks: &SlotBits, first: usize, s: u32, v: u32) -> bool
+    requires { ⌜ NoneMarked (marksIn (now marks)) 0 first ⌝ }
+    ensures { λ r. ⌜ (s ≤ ROWS → v ≤ ROWS → r ≡ eitherMark (marksIn (now (marks .entry))) s v) ⌝ }
+{
+    if mark_at(marks, first, s) {
+        return true;
+    }
+    mark_at(marks, first, v)
+}
+
+// The rows from one up to an end that have a source marked, once all older ones are done. Their marks are in one word,
+// which a local holds: a mark is set without reading it again.
+fn mark_word(t: &[u32], marks: &mut SlotBits, first: usize, from: usize, end: usize)
+    requires sizes { ⌜ IsTables (now t) × (first ≤ from) × (end ≤ ROWS) ⌝ }
+    requires word { ⌜ EndsWord from end end ⌝ }
+    requires clear { ⌜ NoneMarked (marksIn (now marks)) 0 first ⌝ }
+    ensures clear { λ _. ⌜ NoneMarked (marksIn (now (marks .exit))) 0 first ⌝ }
+    ensures marks { λ _. ⌜ MarksOn (now (t .entry)) from end (marksIn (now (marks .entry)))
+        (marksIn (now (marks .exit))) ⌝ }
+{
+    let k = from / BITS;
+    let mut w = marks[k];
+    let mut i = from;
+    while i < end {
+        if derives(marks, first, t[SOURCE + i], t[VIA + i]) {
+            w = w | (1u64 << (i % BITS));
+            marks[k] = w;
+        }
+        i += 1;
+    }
+}
+
+// The rows that are removed: the seeds and all that comes from them, in one pass from the oldest seed on.
 // Ruled out: a copy whose second source alone is removed stays; a row of which nothing is removed goes.
-pub fn mark_rows(t: &[u32], n: usize, s: Seed) -> RowMarks
+pub fn mark_rows(t: &[u32], n: usize, s: Seed) -> SlotBits
     requires { ⌜ IsTables (now t) × (n ≤ ROWS) ⌝ }
-    ensures { λ r. ⌜ MarksRows (now (t .entry)) n s r ⌝ }
+    ensures { λ r. ⌜ MarksRows (now (t .entry)) n s (marksIn r) ⌝ }
 {
-    let by = mark_words(t, n, s);
-    let mut removed = [false; ROWS];
-    let mut i = 0;
+    let mut marks = mark_seeds(t, n, s);
+    let first = next_marked(&marks, 0, n);
+    let mut i = first;
     while i < n {
-        removed[i] = by[i + 1];
-        i += 1;
+        let end = word_end(i, n);
+        mark_word(t, &mut marks, first, i, end);
+        i = end;
     }
-    removed
+    marks
+}
+
+// How many rows are removed: the rows before less the rows after.
+// Ruled out: a row past the rows that there are is counted.
+pub fn count_removed(removed: &SlotBits, n: usize) -> usize
+    requires { ⌜ n ≤ ROWS ⌝ }
+    ensures counted { λ r. ⌜ r ≡ gones (marksIn (now (removed .entry))) n ⌝ }
+    ensures less { λ r. ⌜ CountsRemoved n (marksIn (now (removed .entry))) r ⌝ }
+{
+    bits::count(removed, n)
 }
 
 // Whether the number is that of the request that a closing starts from.
@@ -96,21 +145,21 @@ fn closes_first(s: Seed, number: u32) -> bool
 }
 
 // Whether the row numbered e is marked; a number that no row has is not.
-pub fn is_marked(t: &[u32], n: usize, e: u32, marks: &RowMarks) -> bool
+pub fn is_marked(t: &[u32], n: usize, e: u32, marks: &SlotBits) -> bool
     requires { ⌜ IsTables (now t) × (n ≤ ROWS) ⌝ }
-    ensures { λ r. ⌜ TellsMark (now (t .entry)) n e (now (marks .entry)) r ⌝ }
+    ensures { λ r. ⌜ TellsMark (now (t .entry)) n e (marksIn (now (marks .entry))) r ⌝ }
 {
     let Found::At(i) = find::row_among(t, n, e) else {
         return false;
     };
-    marks[i]
+    bits::is_set(marks, i)
 }
 
 // The requests that close: the one that the closing starts from, and those whose port is removed.
 // Ruled out: a request whose port went stays open; one closes because an item of its list is removed.
-pub fn mark_requests(t: &[u32], n: usize, m: usize, removed: &RowMarks, s: Seed) -> RequestMarks
+pub fn mark_requests(t: &[u32], n: usize, m: usize, removed: &SlotBits, s: Seed) -> RequestMarks
     requires { ⌜ IsTables (now t) × (n ≤ ROWS) × (m ≤ REQUESTS) ⌝ }
-    ensures { λ r. ⌜ MarksRequests (now (t .entry)) n m (now (removed .entry)) s r ⌝ }
+    ensures { λ r. ⌜ MarksRequests (now (t .entry)) n m (marksIn (now (removed .entry))) s r ⌝ }
 {
     let mut closed = [false; REQUESTS];
     let mut j = 0;

@@ -1,4 +1,6 @@
 // Changes of the tables in place. Where the words have another length, or a slot or word does not fit, nothing changes.
+use changes::bits;
+use changes::bits::SlotBits;
 use changes::change;
 use changes::remove;
 use rows::Request;
@@ -9,12 +11,12 @@ use rows::layout::REQUESTS;
 use rows::layout::ROW_COLUMNS;
 use rows::layout::ROWS;
 use rows::layout::RequestMarks;
-use rows::layout::RowMarks;
 use rows::layout::TABLES;
 ghost use mathlib.Core.Path.{_≡_};
 ghost use Prim.Native.Nat.{_<_, _≤_};
 ghost use Rattle.rows.specs.Setters.{withPlace};
 ghost use Rattle.rows.specs.contracts.Sizes.{ROWS, REQUESTS, ITEMS, IsTables};
+ghost use Rattle.changes.specs.contracts.Bits.{marksIn};
 ghost use Rattle.changes.specs.contracts.Changes.{ChangesRow, ChangesRequest, SetsNext, RemovesRows, RemovesRequests};
 ghost use Rattle.changes.specs.contracts.Changes.{itemCleared, asFetched};
 ghost use Rattle.test_exports.specs.contracts.Exports.{rowOfWords, requestOfWords, Unless, ItemFits, RowFits};
@@ -147,8 +149,8 @@ pub extern "C" fn kernel_append_request(t: &mut [u32], count: usize, w: &[u32; R
 }
 
 #[no_mangle]
-pub extern "C" fn kernel_remove_rows(t: &mut [u32], count: usize, marks: &RowMarks)
-    ensures represents { λ _. ⌜ RemovesRows (now (t .entry)) (now (t .exit)) count (now (marks .entry)) ⌝ }
+pub extern "C" fn kernel_remove_rows(t: &mut [u32], count: usize, marks: &SlotBits)
+    ensures represents { λ _. ⌜ RemovesRows (now (t .entry)) (now (t .exit)) count (marksIn (now (marks .entry))) ⌝ }
     ensures other { λ _. ⌜ Unless (IsTables (now (t .entry)) × (count ≤ ROWS)) (now (t .exit) ≡ now (t .entry)) ⌝ }
 {
     if t.len() != TABLES {
@@ -157,7 +159,8 @@ pub extern "C" fn kernel_remove_rows(t: &mut [u32], count: usize, marks: &RowMar
     if ROWS < count {
         return;
     }
-    remove::remove_rows(t, count, marks);
+    let gone = bits::count(marks, count);
+    remove::remove_rows(t, count, gone, marks);
 }
 
 #[no_mangle]

@@ -1,5 +1,6 @@
 //! Closings of sound tables, compared with the model: every word after.
 
+use super::at_words::at_words;
 use super::built::built;
 use super::features::Features;
 use super::{at_the_end, full, small, words, Lent};
@@ -47,6 +48,17 @@ impl Closing {
             }
         }
         after
+    }
+
+    /// Whether it is no drop, or the drop of a row in the first or the last slot of a word.
+    fn beside_words(self, tables: &Tables) -> bool {
+        match self {
+            Closing::Row(number) => {
+                let slot = tables.rows.iter().position(|r| r.number == number);
+                slot.is_some_and(|slot| matches!(slot % 64, 0 | 63))
+            }
+            _ => true,
+        }
     }
 
     pub fn on_words(self, closer: &Closer, lent: &mut Lent) {
@@ -101,6 +113,19 @@ pub fn compare(closer: &Closer) -> Features {
         }
     }
     features
+}
+
+/// Closings of what lies where words of marks end: every request and port, and rows beside the ends of words.
+pub fn compare_at_words(closer: &Closer) {
+    for tables in at_words() {
+        let lent = words(&tables);
+        for closing in all_of(&tables)
+            .into_iter()
+            .filter(|c| c.beside_words(&tables))
+        {
+            agrees(closer, &tables, &lent, closing);
+        }
+    }
 }
 
 /// Numbers that no request, port or row has: nothing changes.

@@ -2,6 +2,7 @@
 #![allow(dead_code)]
 
 pub mod any_input;
+pub mod at_words;
 pub mod built;
 pub mod calls;
 pub mod closings;

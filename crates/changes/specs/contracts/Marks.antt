@@ -1,5 +1,5 @@
 -- Marks of what is to be removed, one for each slot, oldest first; what is left, and the slots that it moves to.
-use Prim.Native.Nat.{ℕ, zero, suc, _+_, _*_, _≤_, _<_}
+use Prim.Native.Nat.{ℕ, zero, suc, _+_, _-_, _*_, _≤_, _<_}
 use mathlib.Core.Bool.{Bool, true, false, not, _||_}
 use mathlib.Core.List.{List, [], _∷_, _++_}
 use mathlib.Core.Path.{_≡_}
@@ -31,26 +31,27 @@ marksOf g rows = tested (λ r. member (r .number) g) rows
 unfoldable pub closedUnder : List ℕ → List Row → Bool
 closedUnder g rows = all (λ r. member (r .number) g || not (any (λ s. member s g) (sources r))) rows
 
--- ---- runs of slots: from one slot up to another none is marked, or all are
+-- ---- runs of slots
+-- from one slot up to another no mark is m; none is marked; all are
+abbrev pub Passes : List Bool → Bool → ℕ → ℕ → Type 0
+Passes ms m from to = (i : ℕ) → from ≤ i → i < to → getD ms i false ≡ not m
+
 abbrev pub NoneMarked : List Bool → ℕ → ℕ → Type 0
-NoneMarked ms from to = (i : ℕ) → from ≤ i → i < to → getD ms i false ≡ false
+NoneMarked ms from to = Passes ms true from to
 
 abbrev pub AllMarked : List Bool → ℕ → ℕ → Type 0
-AllMarked ms from to = (i : ℕ) → from ≤ i → i < to → getD ms i false ≡ true
+AllMarked ms from to = Passes ms false from to
 
--- the run of slots that are not marked, from one slot on, among the first count: it ends before the slot r
-pub record EndsClear (ms : List Bool) (from count r : ℕ) : Type 0 where
+-- the run of slots whose mark is not m, from one slot on, among the first count: it ends before the slot r
+pub record EndsAt (ms : List Bool) (m : Bool) (from count r : ℕ) : Type 0 where
   pub after : from ≤ r
   pub within : r ≤ count
-  pub clear : NoneMarked ms from r
-  pub stops : r < count → getD ms r false ≡ true
+  pub passed : Passes ms m from r
+  pub stops : r < count → getD ms r false ≡ m
 
--- the run of slots that are marked likewise
-pub record EndsMarked (ms : List Bool) (from count r : ℕ) : Type 0 where
-  pub after : from ≤ r
-  pub within : r ≤ count
-  pub marked : AllMarked ms from r
-  pub stops : r < count → getD ms r false ≡ false
+-- it does so wherever the run starts before the slot mid
+abbrev pub EndsOn : List Bool → Bool → ℕ → ℕ → ℕ → Type 0
+EndsOn ms m mid count r = (from : ℕ) → from ≤ mid → from ≤ count → Passes ms m from mid → EndsAt ms m from count r
 
 -- the marks of all slots of rows: set for the rows in g; of requests: for those that pass the test
 abbrev pub MarkedRows : List Bool → List ℕ → List Row → Type 0
@@ -91,6 +92,20 @@ movedTo ms (suc i) = suc (lefts ms i)
 -- the word s of the table is what the slot plus 1 s becomes, up to n
 abbrev pub Ranks : List Bool → ℕ → List ℕ → Type 0
 Ranks ms n to = (s : ℕ) → s ≤ n → getD to s 0 ≡ movedTo ms s
+
+-- it is for the first i slots, and j is what the next one becomes plus 1
+pub record Ranked (ms : List Bool) (to : List ℕ) (i j : ℕ) : Type 0 where
+  pub next : j ≡ suc (lefts ms i)
+  pub right : Ranks ms i to
+
+-- a run of slots, none of which is marked: the words of those from one up to the end rise by 1 from j on, the others stay
+pub record RanksRun (from end j : ℕ) (to to′ : List ℕ) : Type 0 where
+  pub before : (s : ℕ) → s ≤ from → getD to′ s 0 ≡ getD to s 0
+  pub rising : (i : ℕ) → from ≤ i → i < end → getD to′ (suc i) 0 ≡ j + (i - from)
+
+-- once it is for the first slots up to one, it is for those up to the end
+abbrev pub RanksOn : List Bool → ℕ → ℕ → ℕ → List ℕ → List ℕ → ℕ → Type 0
+RanksOn ms from end j to to′ j′ = Ranked ms to from j → Ranked ms to′ end j′
 
 -- the words from one position up to n are looked up in a table
 pub record Remapped (to : List ℕ) (from n : ℕ) (l l′ : List ℕ) : Type 0 where

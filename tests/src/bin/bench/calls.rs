@@ -4,13 +4,14 @@ use crate::call_cases::{cases, refusal, Case};
 use crate::closings::closing_reads;
 use crate::measure::{Layer, Measured};
 use crate::on_runs::{measure, On};
+use crate::tables::SIZES;
 use kernel::call_words::{call_words, AnswerWords};
 use kernel::{performing, plain};
 use model::call::{read_call, Call};
 use std::hint::black_box as hidden;
 
 pub fn on_calls(by: &mut dyn Measured) {
-    for rows in crate::SIZES {
+    for rows in SIZES {
         for case in cases(rows) {
             called(by, &case);
         }

@@ -1,24 +1,36 @@
 //! Closing of a request: of one with a single copy, at 10, 100 and 1,024 rows,
 //! and of one whose closing closes 85.
 
-use crate::measure::{Layer, Measured};
+use crate::measure::{Both, Layer, Measured};
 use crate::on_runs::{measure, On};
+use crate::tables::SIZES;
 use kernel::layout::PROCESS_WORDS;
 use kernel::plain::closing_tables as built;
-use kernel::{closing, plain};
 use model::Tables;
 use std::hint::black_box as hidden;
 
-pub fn on_closings(by: &mut dyn Measured) {
-    for rows in crate::SIZES {
-        closed(by, "a request with one copy", built::one_copy(rows));
+pub fn on_closings<A, B>(by: &mut dyn Measured, both: Both<A, B>)
+where
+    A: Fn(&mut [u32], &mut [u32], u32) + Copy,
+    B: Fn(&mut [u32], &mut [u32], u32) + Copy,
+{
+    for rows in SIZES {
+        closed(by, both, "a request with one copy", built::one_copy(rows));
     }
-    closed(by, "a request with one copy", built::one_copy_full());
-    closed(by, "85 requests", built::cascade_of_85());
-    closed(by, "85 requests", built::cascade_of_85_full());
+    closed(by, both, "a request with one copy", built::one_copy_full());
+    closed(by, both, "85 requests", built::cascade_of_85());
+    closed(by, both, "85 requests", built::cascade_of_85_full());
 }
 
-fn closed(by: &mut dyn Measured, what: &str, (tables, request): (Tables, u32)) {
+fn closed<A, B>(
+    by: &mut dyn Measured,
+    both: Both<A, B>,
+    what: &str,
+    (tables, request): (Tables, u32),
+) where
+    A: Fn(&mut [u32], &mut [u32], u32),
+    B: Fn(&mut [u32], &mut [u32], u32),
+{
     let on = On {
         layer: Layer::Closing,
         name: format!("closing of {what}"),
@@ -28,8 +40,8 @@ fn closed(by: &mut dyn Measured, what: &str, (tables, request): (Tables, u32)) {
     measure(
         by,
         on,
-        |t, p| closing::close_request(t, p, hidden(request)),
-        |t, p| plain::closing::close_request(t, p, hidden(request)),
+        |t, p| (both.proved)(t, p, hidden(request)),
+        |t, p| (both.plain)(t, p, hidden(request)),
     );
 }
 

@@ -17,6 +17,7 @@ mod on_runs;
 mod operations;
 mod parts;
 mod program;
+mod removals;
 mod report;
 mod stack;
 mod tables;
@@ -24,16 +25,19 @@ mod time;
 mod timed;
 mod whole;
 
-use measure::Measured;
-
-/// 10, 100 and 1,024 rows; the last tables are full.
-const SIZES: [usize; 3] = [10, 100, 1024];
+use kernel::{closing, plain};
+use measure::{Both, Measured};
+use tables::SIZES;
 
 fn operations(by: &mut dyn Measured) {
     for rows in SIZES {
         operations::on_tables(&tables::tables(rows), by);
     }
-    closings::on_closings(by);
+    let close = Both {
+        proved: closing::close_request,
+        plain: plain::closing::close_request,
+    };
+    closings::on_closings(by, close);
     calls::on_calls(by);
     whole::on_whole_calls(by);
 }

@@ -8,6 +8,13 @@ pub trait Operation {
     fn plain(&mut self, calls: usize);
 }
 
+/// The two functions of an operation.
+#[derive(Clone, Copy)]
+pub struct Both<A, B> {
+    pub proved: A,
+    pub plain: B,
+}
+
 /// The parts of the kernel that are measured, each with a table of its own.
 #[derive(Clone, Copy, PartialEq, Eq)]
 pub enum Layer {

@@ -1,9 +1,10 @@
 //! The operations of the rows' layer, each proved and in plain Rust.
 
-use crate::measure::{About, Layer, Measured, Operation};
+use crate::measure::{About, Both, Layer, Measured, Operation};
+use crate::removals::{self, Marks};
 use crate::tables::Benched;
 use kernel::layout::{DEPTH, KIND, LAST_NUMBER, Q_NUMBER, REQUEST, REQUESTS, ROWS, SOURCE, VIA};
-use kernel::{changing, plain, reading, RowMarks};
+use kernel::{changing, plain, reading};
 use std::hint::black_box as hidden;
 
 /// Two closures, a call each.
@@ -33,7 +34,15 @@ pub fn on_tables(b: &Benched, by: &mut dyn Measured) {
     for slot in [b.first, b.line, b.end] {
         lent(b, by, slot);
     }
-    removals(b, by);
+    let removal = Both {
+        proved: |t: &mut [u32], count: usize, marks: &Marks| {
+            changing::remove_rows(t, count, &marks.bits)
+        },
+        plain: |t: &mut [u32], count: usize, marks: &Marks| {
+            plain::removal::remove_rows(t, count, &marks.bools)
+        },
+    };
+    removals::on_tables(b, by, removal);
 }
 
 fn sound(b: &Benched, by: &mut dyn Measured) {
@@ -154,73 +163,4 @@ fn lent(b: &Benched, by: &mut dyn Measured, slot: usize) {
     let proved = || reading::lent(hidden(t), hidden(slot));
     let plain = || plain::questions::lent(hidden(t), hidden(slot));
     by.measure(about, &mut Reads(proved, plain));
-}
-
-/// Removal of marked rows. Each call has tables of its own.
-struct Removal<'a> {
-    benched: &'a Benched,
-    marks: RowMarks,
-    tables: Vec<Vec<u32>>,
-}
-
-impl Operation for Removal<'_> {
-    fn prepare(&mut self) {
-        for words in &mut self.tables {
-            words.copy_from_slice(&self.benched.words);
-        }
-    }
-
-    fn proved(&mut self, calls: usize) {
-        let (count, marks) = (self.benched.rows, &self.marks);
-        for words in &mut self.tables[..calls] {
-            changing::remove_rows(hidden(words), hidden(count), hidden(marks));
-        }
-    }
-
-    fn plain(&mut self, calls: usize) {
-        let (count, marks) = (self.benched.rows, &self.marks);
-        for words in &mut self.tables[..calls] {
-            plain::removal::remove_rows(hidden(words), hidden(count), hidden(marks));
-        }
-    }
-}
-
-/// Of the newest rows, 1, half or all; of an old row, so that nearly all rows
-/// move; of rows scattered over the tables, so that many short runs move.
-fn removals(b: &Benched, by: &mut dyn Measured) {
-    let rows = b.rows;
-    let newest = |gone: usize| move |slot: usize| slot >= rows - gone;
-    removal(b, by, "the newest row", newest(1));
-    removal(b, by, "the newer half", newest(rows / 2));
-    removal(b, by, "all rows", newest(rows));
-    removal(b, by, "the 8th oldest row", |slot| slot == 7);
-    removal(b, by, "every 8th row", |slot| slot % 8 == 7);
-    removal(b, by, "every other row", |slot| slot % 2 == 1);
-}
-
-fn removal(b: &Benched, by: &mut dyn Measured, what: &str, goes: impl Fn(usize) -> bool) {
-    let mut marks: RowMarks = [false; ROWS];
-    for (slot, mark) in marks[..b.rows].iter_mut().enumerate() {
-        *mark = goes(slot);
-    }
-    let calls = 10;
-    let tables = vec![b.words.clone(); calls];
-    let mut operation = Removal {
-        benched: b,
-        marks,
-        tables,
-    };
-    operation.proved(calls);
-    let proved = operation.tables.clone();
-    operation.prepare();
-    operation.plain(calls);
-    assert!(proved == operation.tables, "the same words");
-    let about = About {
-        layer: Layer::Rows,
-        size: b.size(),
-        name: format!("removal of {what}"),
-        bytes: b.rows + 40 * b.rows,
-        calls,
-    };
-    by.measure(about, &mut operation);
 }

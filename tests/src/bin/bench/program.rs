@@ -1,7 +1,7 @@
 //! Whole sessions through the program `tablet`, in calls a second, beside the
 //! model's session on the same input.
 
-use crate::SIZES;
+use crate::tables::SIZES;
 use model::run_session;
 use std::io::Write;
 use std::process::{Command, Stdio};

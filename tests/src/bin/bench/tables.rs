@@ -8,6 +8,9 @@ use model::session::call_sound;
 use model::tables::{Kind, Place, Process, Request, Row, Tables};
 use model::words::encode;
 
+/// 10, 100 and 1,024 rows; the last tables are full.
+pub const SIZES: [usize; 3] = [10, 100, 1024];
+
 /// Sound tables as words, with the slots that the questions ask about.
 pub struct Benched {
     pub words: Vec<u32>,

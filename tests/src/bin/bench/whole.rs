@@ -4,6 +4,7 @@
 use crate::call_cases::{accepted, cases, longest_answer, requests_beside, Case};
 use crate::measure::{Layer, Measured};
 use crate::on_runs::{measure, On};
+use crate::tables::SIZES;
 use kernel::entry::{Point, REPLY_BYTES};
 use kernel::layout::{PROCESS_WORDS, TABLES_WORDS};
 use kernel::{entry, plain, reading};
@@ -23,7 +24,7 @@ fn replied(point: Point, t: &mut [u32], p: &mut [u32], bytes: &[u8]) -> Reply {
 }
 
 pub fn on_whole_calls(by: &mut dyn Measured) {
-    for rows in crate::SIZES {
+    for rows in SIZES {
         for case in cases(rows) {
             called(by, Layer::Whole, &case, &case.line);
         }
@@ -39,7 +40,7 @@ pub fn on_whole_calls(by: &mut dyn Measured) {
     for requests in [16, 64, 128] {
         grown(by, 1024, requests);
     }
-    for rows in crate::SIZES {
+    for rows in SIZES {
         for name in ["hold", "ask", "answer 1", "comes"] {
             parts(by, &accepted(name, rows, requests_beside(rows)));
         }

@@ -1,81 +1,75 @@
 -- The slots passed have their new numbers, and the next one is at hand.
 use borrow.Author.Needs.{needs}
-use Prim.Native.Nat.{ℕ, _≤_, _<_, _-_, _+_}
+use Prim.Native.Nat.{ℕ, _≤_, _-_, _+_, zero-le}
+use mathlib.Core.Path.{_≡_, refl, subst, _∙_}
+use native.Mathlib.Nat.{le-refl}
 use native.Mathlib.Omega.{arith}
-use mathlib.Core.Path.{_∙_}
-use mathlib.Core.Logic.{⊎-elim}
-use borrow.Author.Tests.{not-true, not-false}
 use denote.Ref.{now}
-use lib.ListN.{length, set}
-use Rattle.changes.proofs.Renumber.{Ranked, rank-start, rank-left, rank-marked, lefts-le}
+use lib.ListN.{length}
+use Rattle.changes.specs.contracts.Bits.{marksIn}
+use Rattle.changes.specs.contracts.Marks.{Ranked}
+use Rattle.changes.proofs.Renumber.{rank-start, rank-run}
 use Rattle.changes.proofs.renumbering.ranks.Statement.{statement}
 use Rattle.changes.proofs.renumbering.ranks.Tie as tie
 
 abbrev Inv-loop : tie.InvT-loop
-Inv-loop to₀ marks first count i₀ next₀ to i next = (i ≤ count) × (next ≤ i + 1) × Ranked marks (length to₀) to i next
+Inv-loop to₀ marks first count i₀ next₀ to i next = (i ≤ count) × (next ≤ i + 1) × (length to ≡ length to₀) × Ranked (marksIn marks) to i next
 
 abbrev μ-loop : tie.MeasureT-loop
 μ-loop to₀ marks first count i₀ next₀ to i next = count - i
 
-ranks-same-requires : tie.Need-ranks-same-requires Inv-loop μ-loop
-ranks-same-requires c κs = search needs
-
-cast-next : tie.Need-cast-next Inv-loop μ-loop
-cast-next c = search needs
+ranks-run-requires : tie.Need-ranks-run-requires Inv-loop μ-loop
+ranks-run-requires c κs =
+    let s = c .before .before in
+    (zero-le, omega (arith, s .pre .0), omega arith, omega (arith, s .pre .0))
 
 add-next : tie.Need-add-next Inv-loop μ-loop
 add-next c = search needs
 
 loop-holds : tie.Need-loop-holds Inv-loop μ-loop
 loop-holds c =
-    let called = c .before .before in
-    let s = called .before .before .before .before in
-    (search needs, search needs, rank-start (now (s .args .marks)) (called .ranks-same .last .0) (s .args .first) (s .pre .1) (called .ranks-same .ensures))
+    let called = c .before .before .ranks-run in
+    let s = c .before .before .before .before .before in
+    let ms = marksIn (now (s .args .marks)) in
+    let first : ℕ = s .args .first in
+    let e : 1 + (first - 0) ≡ first + 1 = omega arith in (
+      s .pre .0 .0,
+      search needs,
+      refl,
+      subst (λ (j : ℕ). Ranked ms (called .last .0) first j) e
+          (rank-run ms (now (s .args .to)) (called .last .0) 0 first 1 zero-le (s .pre .1 .1) (called .ensures) (rank-start ms (now (s .args .to)) (s .pre .1 .0))),
+    )
 
-add-to : tie.Need-add-to Inv-loop μ-loop
-add-to c = search needs
+word-end-requires : tie.Need-word-end-requires Inv-loop μ-loop
+word-end-requires c κs = search needs
 
-mul-to : tie.Need-mul-to Inv-loop μ-loop
-mul-to c = search needs
-
-slice-write-to : tie.Need-slice-write-to Inv-loop μ-loop
-slice-write-to c =
-    let l = c .before in
-    let called = l .before .before .before in
-    let s = called .before .before .before .before in
-    omega (arith, l .loop .inv .2 .len, called .ranks-same .kept .0, s .pre .0, c .loop-test .taken)
-
-shared-slice-read-if1 : tie.Need-shared-slice-read-if1 Inv-loop μ-loop
-shared-slice-read-if1 c = search needs
-
-add-next-2 : tie.Need-add-next-2 Inv-loop μ-loop
-add-next-2 c = search needs
-
-add-i : tie.Need-add-i Inv-loop μ-loop
-add-i c = search needs
+ranks-word-requires : tie.Need-ranks-word-requires Inv-loop μ-loop
+ranks-word-requires c κs =
+    let e = c .before .word-end .ensures in
+    let l = c .before .before .before .loop in
+    let kept = c .before .before .before .before .before .before .ranks-run .kept .0 in
+    let s = c .before .before .before .before .before .before .before .before .before in (
+      (omega (arith, e .within, s .pre .0), l .inv .1, omega (arith, e .within, l .inv .2, kept, s .pre .0)),
+      record { after = e .after; within = le-refl (c .before .word-end .result); same = e .same },
+    )
 
 loop-less : tie.Need-loop-less Inv-loop μ-loop
-loop-less c = search needs
+loop-less c = let e = c .before .before .before .before .word-end .ensures in omega (arith, e .after, e .within)
 
 loop-again : tie.Need-loop-again Inv-loop μ-loop
 loop-again c =
-    let l = c .before .before .before .loop in
-    let called = c .before .before .before .before .before .before in
-    let s = called .before .before .before .before in
-    let ms = now (s .args .marks) in
-    let n : ℕ = length (called .ranks-same .last .0) in
-    let h : l .i + 1 < n = omega (arith, c .before .before .loop-test .taken, s .pre .0, called .ranks-same .kept .0) in
-    let r : Ranked ms n (set (l .to) (l .i + 1) (l .next)) (l .i + 1) (c .if1 .next) =
-    ⊎-elim (λ w. rw (w .1) (rank-left ms n (l .to) (l .i) (l .next) (l .inv .2) h (not-true _ (w .0 .taken))))
-    (λ w. rw (w .1) (rank-marked ms n (l .to) (l .i) (l .next) (l .inv .2) h (not-false _ (w .0 .left))))
-    (c .if1 .came) in
-    (search needs, omega (arith, r .next, lefts-le ms (l .i + 1)), r)
+    let called = c .before .before .ranks-word in
+    let e = c .before .before .before .before .word-end .ensures in
+    let l = c .before .before .before .before .before .before .loop in
+    (e .within, called .ensures .0, called .kept .0 ∙ l .inv .2, called .ensures .1 (l .inv .3))
 
 same-length : tie.Need-same-length Inv-loop μ-loop
-same-length c = c .before .loop .inv .2 .len ∙ c .before .before .before .before .ranks-same .kept .0
+same-length c = c .before .loop .inv .2 ∙ c .before .before .before .before .ranks-run .kept .0
 
 returns : tie.Need-returns Inv-loop μ-loop
-returns c = λ s h. c .before .loop .inv .2 .right s (omega (arith, c .loop-test .left))
+returns c =
+    let l = c .before .loop in
+    λ s h. l .inv .3 .right s (omega (arith, c .loop-test .left))
 
 pub ranks-spec : {M : Type 1} → statement M
 ranks-spec =
@@ -83,16 +77,11 @@ ranks-spec =
     (tie.spec
     Inv-loop
     μ-loop
-    ranks-same-requires
-    cast-next
+    ranks-run-requires
     add-next
     loop-holds
-    add-to
-    mul-to
-    slice-write-to
-    shared-slice-read-if1
-    add-next-2
-    add-i
+    word-end-requires
+    ranks-word-requires
     loop-less
     loop-again
     same-length

@@ -8,6 +8,7 @@ use borrow.Rule.Slice.PartMut.{midOf, same-len-mid}
 use denote.Ref.{now}
 use lib.Dec.{lit≤}
 use lib.ListN.{length}
+use Rattle.changes.specs.contracts.Bits.{marksIn}
 use Rattle.changes.proofs.Parts.{back, part-long}
 use Rattle.changes.proofs.Renumber.{renumbered-by, renumbers-both}
 use Rattle.changes.proofs.renumbering.renumber_by_table.Statement.{statement}
@@ -32,9 +33,8 @@ slice-aggregate-ranks c = refl
 
 ranks-requires : tie.Need-ranks-requires
 ranks-requires c κs =
-    let s = c .before .before .before in
-    let fits : s .args .first ≤ s .args .count = omega (arith, s .pre .0 .1, s .pre .0 .2) in
-    ((fits, s .pre .0 .3, below (s .args .count) (s .pre .0 .3), rw (c .ranks-arg .given .0) (s .pre .0 .3)), s .pre .1 .0)
+    let s = c .before .before in
+    ((omega (arith, s .pre .0 .1, s .pre .0 .2), s .pre .0 .3, below (s .args .count) (s .pre .0 .3)), (refl, s .pre .1 .0))
 
 sub-remap : tie.Need-sub-remap
 sub-remap c = search needs
@@ -44,7 +44,7 @@ part-remap-start c = search needs
 
 part-remap-end : tie.Need-part-remap-end
 part-remap-end c =
-    let s = c .before .before .before .before .before in
+    let s = c .before .before .before .before in
     within (now (s .args .t)) 7168 (s .pre .0 .0) (lit≤ tt)
 
 slice-aggregate-remap : tie.Need-slice-aggregate-remap
@@ -52,7 +52,7 @@ slice-aggregate-remap c = sym (c .before .before .before .ranks .kept .0)
 
 remap-requires : tie.Need-remap-requires
 remap-requires c κs =
-    let s = c .before .before .before .before .before .before .before in
+    let s = c .before .before .before .before .before .before in
     let t = now (s .args .t) in
     (s .pre .0 .2, room t 6144 (s .args .count) (s .pre .0 .0) (lit≤ tt) (s .pre .0 .3))
 
@@ -65,7 +65,7 @@ part-remap-start-2 c = search needs
 part-remap-end-2 : tie.Need-part-remap-end-2
 part-remap-end-2 c =
     let called = c .before .before in
-    let s = called .before .before .before .before .before .before .before .before in
+    let s = called .before .before .before .before .before .before .before in
     let t = now (s .args .t) in
     let ys = called .remap .last .0 in
     within (back 6144 1024 t ys) 8192 (long-once t ys (s .pre .0 .0) (called .remap .kept .0)) (lit≤ tt)
@@ -76,7 +76,7 @@ slice-aggregate-remap-2 c = sym (c .before .before .before .before .before .befo
 remap-requires-2 : tie.Need-remap-requires-2
 remap-requires-2 c κs =
     let called = c .before .before .before .before in
-    let s = called .before .before .before .before .before .before .before .before in
+    let s = called .before .before .before .before .before .before .before in
     let t = now (s .args .t) in
     let ys = called .remap .last .0 in
     let once : List ℕ = back 6144 1024 t ys in
@@ -86,7 +86,7 @@ same-length : tie.Need-same-length
 same-length c =
     let second = c .before .before in
     let first = second .before .before .before .before .before in
-    let s = first .before .before .before .before .before .before .before .before in
+    let s = first .before .before .before .before .before .before .before in
     let t = now (s .args .t) in
     let ys = first .remap .last .0 in
     same-len-mid 7168 1024 (back 6144 1024 t ys) (second .remap2 .last .0) (second .remap2 .kept .0) ∙ same-len-mid 6144 1024 t ys (first .remap .kept .0)
@@ -96,9 +96,9 @@ returns c =
     let second = c .before .before in
     let first = second .before .before .before .before .before in
     let ranked = first .before .before .before .before in
-    let s = ranked .before .before .before .before in
+    let s = ranked .before .before .before in
     let t = now (s .args .t) in
-    let ms = now (s .args .marks) in
+    let ms = marksIn (now (s .args .marks)) in
     let ys = first .remap .last .0 in
     let zs = second .remap2 .last .0 in
     let once : List ℕ = back 6144 1024 t ys in

@@ -1,96 +1,129 @@
 -- In each column the words of the slots passed that are left stand in front, and those of the slots not passed are as they were.
+-- The run that is found, and not moved yet, is the next of them.
 use borrow.Author.Needs.{needs}
-use Prim.Native.Nat.{_≤_, _<_, _-_, _+_, _*_}
+use Prim.Native.Nat.{ℕ, _≤_, _<_, _-_, _+_, _*_}
+use native.Mathlib.Nat.{le-refl, eq-or-lt-of-le}
 use native.Mathlib.Omega.{arith}
-use mathlib.Core.Path.{_≡_, _∙_}
+use mathlib.Core.Logic.{⊎-elim}
+use mathlib.Core.Path.{_≡_, ap, sym, _∙_}
 use denote.Ref.{now}
 use lib.ListN.{length}
+use Rattle.changes.specs.contracts.Bits.{marksIn}
+use Rattle.changes.specs.contracts.Marks.{NoneMarked, lefts, cleared, onParts}
+use Rattle.changes.proofs.Lefts.{lefts-le, lefts-clear, lefts-marked, lefts-run, lefts-up, still-some, all-marked}
+use Rattle.changes.proofs.Parts.{Moved, moved-start, moved-skip, moved-run, moved-end}
 use Rattle.changes.proofs.Slide.{run-forth}
-use Rattle.changes.proofs.Parts.{Moved, moved-start, moved-run, moved-end}
 use Rattle.changes.proofs.runs.compact_columns.Statement.{statement}
 use Rattle.changes.proofs.runs.compact_columns.Tie as tie
 
 abbrev Inv-loop : tie.InvT-loop
-Inv-loop part₀ size columns marks first count i₀ j₀ part i j = (i ≤ count) × (j ≤ i) × (length part ≡ columns * size) × Moved marks size columns part₀ part i j
+Inv-loop part₀ size columns marks first kept count j₀ a₀ e₀ part j a e =
+    (a ≤ e) × (e ≤ count) × (j ≡ lefts (marksIn marks) a) × NoneMarked (marksIn marks) a e
+    × (length part ≡ columns * size) × Moved (marksIn marks) size columns part₀ part a j
 
 abbrev μ-loop : tie.MeasureT-loop
-μ-loop part₀ size columns marks first count i₀ j₀ part i j = count - i
+μ-loop part₀ size columns marks first kept count j₀ a₀ e₀ part j a e = (count - e) + (count - a)
 
 loop-holds : tie.Need-loop-holds Inv-loop μ-loop
 loop-holds c =
-    let s = c .before .before in
-    (search needs, search needs, s .pre .0 .0, moved-start (now (s .args .marks)) (s .args .size) (s .args .columns) (now (s .args .part)) (s .args .first) (s .pre .1))
+    let s = c .before in
+    let ms = marksIn (now (s .args .marks)) in
+    let first : ℕ = s .args .first in (
+      le-refl first,
+      s .pre .0 .1,
+      sym (lefts-clear ms first first (s .pre .1 .0) (le-refl first)),
+      (λ i h k. absurd (omega arith)),
+      s .pre .0 .0,
+      moved-start ms (s .args .size) (s .args .columns) (now (s .args .part)) first (s .pre .1 .0),
+    )
 
 next-left-requires : tie.Need-next-left-requires Inv-loop μ-loop
-next-left-requires c κs = search needs
+next-left-requires c κs = (c .before .loop .inv .1, c .before .before .before .pre .0 .3)
 
 next-marked-requires : tie.Need-next-marked-requires Inv-loop μ-loop
-next-marked-requires c κs = search needs
+next-marked-requires c κs = (c .next-left .ensures .within, c .before .before .before .before .pre .0 .3)
 
 sub-len : tie.Need-sub-len Inv-loop μ-loop
-sub-len c = search needs
+sub-len c = c .before .before .before .loop .inv .0
 
 slide-all-requires : tie.Need-slide-all-requires Inv-loop μ-loop
 slide-all-requires c κs =
-    let b = c .before .before .before .before in
-    let s = b .before .before .before in
-    let marked = c .before .before .next-left .ensures in
-    let clear = c .before .next-marked .ensures in
-    (b .loop .inv .2, omega (arith, b .loop .inv .1, marked .after), omega (arith, clear .after, clear .within, s .pre .0))
+    let l = c .before .before .before .before .loop in
+    let s = c .before .before .before .before .before .before in
+    let low = lefts-le (marksIn (now (s .args .marks))) (l .a) in
+    (l .inv .4, omega (arith, l .inv .2, low), omega (arith, l .inv .0, l .inv .1, s .pre .0))
 
 add-j : tie.Need-add-j Inv-loop μ-loop
 add-j c =
-    let called = c .before .before .before in
-    let b = called .before .before .before .before in
-    let s = b .before .before .before in
-    let marked = called .before .before .next-left in
-    let clear = called .before .next-marked in
-    let h : b .loop .j + (clear .result - marked .result) ≤ s .args .count = omega (arith, b .loop .inv .1, marked .ensures .after, clear .ensures .within) in
+    let l = c .before .before .before .before .before .before .before .loop in
+    let s = c .before .before .before .before .before .before .before .before .before in
+    let low = lefts-le (marksIn (now (s .args .marks))) (l .a) in
+    let h : l .j + (l .e - l .a) ≤ 1024 = omega (arith, l .inv .0, l .inv .1, l .inv .2, low, s .pre .0 .3) in
     search needs
 
 loop-less : tie.Need-loop-less Inv-loop μ-loop
 loop-less c =
-    let called = c .before .before .before in
-    let b = called .before .before .before .before in
-    let s = b .before .before .before in
-    let marked = called .before .before .next-left in
-    let clear = called .before .next-marked in
-    let test : b .loop .i < s .args .count = called .before .before .before .loop-test .taken in
-    let forth = run-forth (now (s .args .marks)) (s .args .count) (b .loop .i) (marked .result) (clear .result) test (marked .ensures) (clear .ensures) in
-    omega (arith, forth, test, clear .ensures .within)
+    let marked = c .before .before .before .before .before .next-left in
+    let clear = c .before .before .before .before .next-marked in
+    let l = c .before .before .before .before .before .before .before .loop in
+    let s = c .before .before .before .before .before .before .before .before .before in
+    let ms = marksIn (now (s .args .marks)) in
+    let count : ℕ = s .args .count in
+    let some : l .a < count =
+    still-some ms (l .a) count (omega (arith, l .inv .0, l .inv .1)) (omega (arith, c .before .before .before .before .before .before .loop-test .taken, l .inv .2, s .pre .1 .1)) in
+    let on = marked .ensures .after in
+    ⊎-elim (λ (last : l .e ≡ count). omega (arith, some, last, on, clear .ensures .after))
+    (λ (lt : l .e < count).
+    omega (arith, run-forth ms count (l .e) (marked .result) (clear .result) lt (marked .ensures) (clear .ensures), on, l .inv .0, some, clear .ensures .within))
+    (eq-or-lt-of-le (l .inv .1))
 
 loop-again : tie.Need-loop-again Inv-loop μ-loop
 loop-again c =
-    let called = c .before .before .before in
-    let b = called .before .before .before .before in
-    let s = b .before .before .before in
-    let marked = called .before .before .next-left in
-    let clear = called .before .next-marked in
-    let slid = c .before .before .slide-all in (
+    let slid = c .before .before .slide-all in
+    let marked = c .before .before .before .before .before .next-left in
+    let clear = c .before .before .before .before .next-marked in
+    let l = c .before .before .before .before .before .before .before .loop in
+    let s = c .before .before .before .before .before .before .before .before .before in
+    let ms = marksIn (now (s .args .marks)) in
+    let size : ℕ = s .args .size in
+    let part = now (s .args .part) in
+    let moved = lefts-run ms (l .a) (l .e) (l .inv .0) (l .inv .3) in
+    let passed = lefts-marked ms (l .e) (marked .result) (marked .ensures .after) (marked .ensures .passed) in
+    let low = lefts-le ms (l .a) in (
+      clear .ensures .after,
       clear .ensures .within,
-      omega (arith, b .loop .inv .1, marked .ensures .after, clear .ensures .after),
-      slid .kept .0 ∙ b .loop .inv .2,
-      moved-run (now (s .args .marks)) (s .args .size) (s .args .columns) (s .args .count) (now (s .args .part)) (b .loop .part) (s .pre .0 .0) (b .loop .inv .2) (s .pre .0 .2)
-          (b .loop .i) (b .loop .j) (marked .result) (clear .result) (b .loop .inv .3) (b .loop .inv .1) (marked .ensures) (clear .ensures) (slid .last .0) (slid .ensures),
+      omega (arith, l .inv .2, moved, passed),
+      clear .ensures .passed,
+      slid .kept .0 ∙ l .inv .4,
+      moved-skip ms size (s .args .columns) (marked .result) part (slid .last .0) (l .e) (l .j + (l .e - l .a)) (s .pre .0 .0)
+          (marked .ensures .after) (omega (arith, marked .ensures .within, s .pre .0 .2)) (marked .ensures .passed)
+          (moved-run ms size (s .args .columns) part (l .part) (s .pre .0 .0) (l .inv .4) (l .a) (l .j) (l .e) (l .inv .5) (omega (arith, l .inv .2, low))
+          (l .inv .0) (omega (arith, l .inv .1, s .pre .0 .2)) (l .inv .3) (slid .last .0) (slid .ensures)),
     )
 
 clear-all-requires : tie.Need-clear-all-requires Inv-loop μ-loop
 clear-all-requires c κs =
-    let b = c .before .before in
-    let s = b .before .before .before in
-    (b .loop .inv .2, omega (arith, b .loop .inv .0, b .loop .inv .1), s .pre .0 .2)
+    let l = c .before .before .loop in
+    let s = c .before .before .before .before in
+    (l .inv .4, omega (arith, s .pre .1 .1, lefts-le (marksIn (now (s .args .marks))) (s .args .count)), s .pre .0 .2)
 
 same-length : tie.Need-same-length Inv-loop μ-loop
 same-length c = search needs
 
 returns : tie.Need-returns Inv-loop μ-loop
 returns c =
-    let called = c .before .before in
-    let b = called .before .before .before in
-    let s = b .before .before .before in
-    let e : b .loop .i ≡ s .args .count = omega (arith, b .loop .inv .0, called .before .before .loop-test .left) in
-    called .clear-all .ensures
-    ∙ moved-end (now (s .args .marks)) (s .args .count) (s .args .size) (s .args .columns) (now (s .args .part)) (b .loop .part) (b .loop .j) (rw e at (b .loop .inv .3))
+    let called = c .before .before .clear-all in
+    let l = c .before .before .before .before .before .loop in
+    let s = c .before .before .before .before .before .before .before in
+    let ms = marksIn (now (s .args .marks)) in
+    let count : ℕ = s .args .count in
+    let within : l .a ≤ count = omega (arith, l .inv .0, l .inv .1) in
+    let same : s .args .kept ≡ l .j = omega (arith, c .before .before .before .before .loop-test .left, l .inv .2, s .pre .1 .1, lefts-up ms (l .a) count within) in
+    called .ensures
+    ∙ ap (λ (k : ℕ). onParts (cleared k count) (s .args .size) (s .args .columns) (l .part)) same
+    ∙ moved-end ms count (s .args .size) (s .args .columns) (now (s .args .part)) (l .part) (l .j)
+    (moved-skip ms (s .args .size) (s .args .columns) count (now (s .args .part)) (l .part) (l .a) (l .j) (s .pre .0 .0) within (s .pre .0 .2)
+    (all-marked ms (l .a) count (omega (arith, same, l .inv .2, s .pre .1 .1))) (l .inv .5))
 
 pub compact-columns-spec : {M : Type 1} → statement M
 compact-columns-spec =

@@ -19,6 +19,9 @@ mark-rows-requires c κs = search needs
 home-records-requires : tie.Need-home-records-requires
 home-records-requires c κs = search needs
 
+count-removed-requires : tie.Need-count-removed-requires
+count-removed-requires c κs = search needs
+
 take-out-requires : tie.Need-take-out-requires
 take-out-requires c κs = search needs
 
@@ -32,10 +35,10 @@ returns : tie.Need-returns
 unfolding closingFrom closing settled
 returns c =
     let taken = c .before .before .take-out in
-    let homes = c .before .before .before .before .before .before .before .home-records in
-    let marks = c .before .before .before .before .before .before .before .before .before .before .before .mark-rows in
-    let counted = c .before .before .before .before .before .before .before .before .before .before .before .before .before .count-rows in
-    let a = c .before .before .before .before .before .before .before .before .before .before .before .before .before .before .before .before .before .args in (
+    let homes = c .before .before .before .before .before .before .before .before .before .home-records in
+    let marks = c .before .before .before .before .before .before .before .before .before .before .before .before .before .mark-rows in
+    let counted = c .before .before .before .before .before .before .before .before .before .before .before .before .before .before .before .count-rows in
+    let a = c .before .before .before .before .before .before .before .before .before .before .before .before .before .before .before .before .before .before .before .args in (
       (λ st sd rep same.
           let g = marked (seedOf (a .s)) (st .rows) in
           let count = counted .ensures .0 st rep in
@@ -53,6 +56,7 @@ close-spec =
     count-rows-requires
     mark-rows-requires
     home-records-requires
+    count-removed-requires
     take-out-requires
     same-length
     same-length-2

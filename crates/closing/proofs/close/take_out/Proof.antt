@@ -2,6 +2,7 @@
 use borrow.Author.Needs.{needs}
 use mathlib.Core.Path.{_∙_}
 use denote.Ref.{now}
+use Rattle.changes.specs.contracts.Bits.{marksIn}
 use Rattle.closing.specs.Closing.{closes}
 use Rattle.closing.specs.contracts.Seeds.{closesOf}
 use Rattle.closing.proofs.ListsSettled.{closes-blind}
@@ -44,7 +45,7 @@ returns c =
           let f = closes (closesOf (a .s)) g in
           let long = counted .count-requests .ensures .0 st rep in
           let ended = marks .ensures st g sd rep count long gone in
-          taken-out (a .n) (now (a .removed)) (marks .result) (lists .last .0) (rows .last .0) (requests .last .0) (rows .ensures) (requests .ensures)
+          taken-out (a .n) (marksIn (now (a .removed))) (marks .result) (lists .last .0) (rows .last .0) (requests .last .0) (rows .ensures) (requests .ensures)
           g f (closes-blind (closesOf (a .s)) g) st count gone ended under (lists .ensures .0 st g f sd rep count long gone ended)),
       requests .kept .0 ∙ rows .kept .0 ∙ lists .ensures .1,
     )

@@ -2,7 +2,6 @@
 -- `home_each`; then the lifetime is ended and the array taken back. The words and the marks are passed on.
 use mathlib.Core.Path.{_≡_, refl, sym, subst}
 use Prim.Native.Nat.{ℕ, _<_, _≤_, _^_}
-use mathlib.Core.Bool.{Bool}
 use mathlib.Core.List.{[], _∷_, List}
 use lib.Dec.{T as Holds, lit<}
 use lib.ListN.{length}
@@ -53,6 +52,7 @@ use Rattle.rows.proofs.Process as T
 use Rattle.rows.proofs.Process.Laws as T′
 use Rattle.closing.specs.contracts.Takes.{HomesEach, HomesAll}
 use Rattle.closing.proofs.HomesAll.{homes-all}
+use Rattle.changes.specs.contracts.Bits.{marksIn}
 use Rattle.closing.proofs.HomesLent.{R, Marks, vals, st, sm, Lent, Tokens, twice}
 use Rattle.closing.proofs.homes.home_each as home-each
 use Rattle.closing.proofs.homes.home_each.Symbol as home-each-def
@@ -111,7 +111,7 @@ module _ {M : Type 1} (𝓤 : URA M) (H : Heap 𝓤) (A : Atoms 𝓤) (at-mem : 
   Each = tripleOf 𝓤 H A home-each.signature (home-each.spec 𝓤 H A at-mem run)
 
 module _ {M : Type 1} (𝓤 : URA M) (H : Heap 𝓤) (A : Atoms 𝓤) (W : Given 𝓤 H A) (at-mem : Memory → SProp 𝓤) (run : Routine → Fun 𝓤)
-    (κ₂ κ₃ : Lft) (q₂ q₃ : Share) (t : RefT (List ℕ)) (rows : ℕ) (xs : List Process) (m : RefT (List Bool))
+    (κ₂ κ₃ : Lft) (q₂ q₃ : Share) (t : RefT (List ℕ)) (rows : ℕ) (xs : List Process) (m : RefT (List ℕ))
     (t-room : Room u32 (length (t .now))) (rows-fits : rows < 2 ^ 64) (is : Is Ps xs (mach xs ∷ [])) (asked : IsTables (t .now) × (rows ≤ ROWS)) where
   len : length xs ≡ 64
   len = is .1 .0 .1
@@ -126,7 +126,7 @@ module _ {M : Type 1} (𝓤 : URA M) (H : Heap 𝓤) (A : Atoms 𝓤) (W : Given
   Toks = Tokens 𝓤 H A κ₂ q₂ κ₃ q₃
 
   abbrev Arg : Type 0
-  Arg = RefT (List ℕ) × (ℕ × (List Process × (RefT (List Bool) × Unit {0})))
+  Arg = RefT (List ℕ) × (ℕ × (List Process × (RefT (List ℕ) × Unit {0})))
 
   abbrev a : Arg
   a = (t, (rows, (xs, (m, tt))))
@@ -137,7 +137,7 @@ module _ {M : Type 1} (𝓤 : URA M) (H : Heap 𝓤) (A : Atoms 𝓤) (W : Given
   abbrev Post : Val → SProp 𝓤
   Post = walkOf 𝓤 H A home-all.ended stayed (home-all.clauses 𝓤 H A at-mem run) .post (((κ₂, (κ₃, tt)), (q₂, (q₃, tt)), tt, a, at), tt)
 
-  exits : (zs : List Process) → Is Ps zs (mach zs ∷ []) → HomesAll (t .now) rows xs (m .now) zs → ent 𝓤 (⋆ 𝓤 H A (Toks ∷ ‵ Words ∷ [])) (Post (mach zs))
+  exits : (zs : List Process) → Is Ps zs (mach zs ∷ []) → HomesAll (t .now) rows xs (marksIn (m .now)) zs → ent 𝓤 (⋆ 𝓤 H A (Toks ∷ ‵ Words ∷ [])) (Post (mach zs))
   exits zs isz all =
       qed W (Toks ∷ ‵ Words ∷ []) ∵
       suffices ! _ (ends-at 𝓤 H A home-all.ended stayed (home-all.clauses 𝓤 H A at-mem run) W (((κ₂, (κ₃, tt)), (q₂, (q₃, tt)), tt, a, at), tt) (mach zs) zs (tt, (tt, (tt, (tt, tt)))) (tt, (tt, (tt, (tt, tt))))) $ says ! all $ frame ! $
@@ -186,8 +186,8 @@ module _ {M : Type 1} (𝓤 : URA M) (H : Heap 𝓤) (A : Atoms 𝓤) (W : Given
         calls-at ! fm (Each 𝓤 H A at-mem run) known (to-each (α ∷ []) l₅ γ)
         (and-then ! (load ! (from ! (stop !)) (look ! 3 refl)) (and-then ! (load ! (from ! (stop !)) (look ! 16 refl)) (and-then ! (load ! (from ! (stop !)) (look ! 14 refl)) (and-then ! (load ! (from ! (stop !)) (look ! 10 refl)) (no-more !))))) (λ v.
         use1 W (later (some (λ (r : Unit {0}). ((‵ (flft (α ∷ []) fullShare) ⊛ Toks) ⊛ ‵ (unit .own r (v ∷ [])))
-        ⊛ some (λ (ws : List Process × (Unit {0} × (Unit {0} × (Unit {0} × Unit {0})))). ‵ (lasts home-each.ended ((α ∷ []), (κ₂, (κ₃, tt))) (x l₅ γ, (t, (rows, (m, tt)))) ws) ⊛ raw (fact 𝓤 (HomesEach (t .now) rows xs (m .now) (ws .0))))))) (id⊢ 𝓤 _) $
-        await ! tt $ pick ! (λ r. split ! $ move ! (1 ∷ []) $ pick ! (λ ws. split ! $ move ! (1 ∷ []) $ heard ! (HomesEach (t .now) rows xs (m .now) (ws .0)) (λ each. fsplit ! $ fsplit ! $
+        ⊛ some (λ (ws : List Process × (Unit {0} × (Unit {0} × (Unit {0} × Unit {0})))). ‵ (lasts home-each.ended ((α ∷ []), (κ₂, (κ₃, tt))) (x l₅ γ, (t, (rows, (m, tt)))) ws) ⊛ raw (fact 𝓤 (HomesEach (t .now) rows xs (marksIn (m .now)) (ws .0))))))) (id⊢ 𝓤 _) $
+        await ! tt $ pick ! (λ r. split ! $ move ! (1 ∷ []) $ pick ! (λ ws. split ! $ move ! (1 ∷ []) $ heard ! (HomesEach (t .now) rows xs (marksIn (m .now)) (ws .0)) (λ each. fsplit ! $ fsplit ! $
         move ! (1 ∷ []) $ drop ! $ move ! (1 ∷ []) $ drop ! $ move ! (1 ∷ []) $ split ! $ move ! (1 ∷ []) $
         -- [what the result owns; the tokens; the last list; the lender's part; what is lent; _8; …]
         peeks ! unit (Is unit) (shows 𝓤 H A unit) r (v ∷ []) (λ isv. land ! (from ! (stop !)) (init ! 9 refl (nothing-lawful 𝓤 H A W .typed r _ isv .0)) $ drop ! $
@@ -199,7 +199,7 @@ module _ {M : Type 1} (𝓤 : URA M) (H : Heap 𝓤) (A : Atoms 𝓤) (W : Given
         returns ! (look ! 18 refl) $ forget ! 0 refl $ forget ! 3 refl $ forget ! 5 refl $ forget ! 7 refl $ forget ! 10 refl $ forget ! 12 refl $ forget ! 14 refl $ forget ! 16 refl $ forget ! 18 refl $
         move ! (18 ∷ 19 ∷ []) $ free1 ! $ move ! (16 ∷ 17 ∷ []) $ free1 ! $ move ! (14 ∷ 15 ∷ []) $ free1 ! $ move ! (12 ∷ 13 ∷ []) $ free1 ! $ move ! (10 ∷ 11 ∷ []) $ free1 ! $
         move ! (0 ∷ 9 ∷ []) $ free1 ! $ move ! (6 ∷ 7 ∷ []) $ free1 ! $ move ! (4 ∷ 5 ∷ []) $ free1 ! $ move ! (2 ∷ 3 ∷ []) $ free1 ! $ free0 ! $
-        by ! (exits (ws .0) isz (homes-all (t .now) rows xs (m .now) (ws .0) each)))))))))))))))))))
+        by ! (exits (ws .0) isz (homes-all (t .now) rows xs (marksIn (m .now)) (ws .0) each)))))))))))))))))))
 
 module _ {M : Type 1} (𝓤 : URA M) (H : Heap 𝓤) (A : Atoms 𝓤) (W : Given 𝓤 H A) (at-mem : Memory → SProp 𝓤) (run : Routine → Fun 𝓤) where
   home-all-walks : (C : Calls 𝓤 H) (Λ : Loops 𝓤 H) → FmC 𝓤 H (W .laws) C → Triple 𝓤 (C #home-each) (Each 𝓤 H A at-mem run) → Walks 𝓤 H A home-all.ended stayed (WpFn 𝓤 H C Λ code.function) (home-all.clauses 𝓤 H A at-mem run)

@@ -55,6 +55,7 @@ use Rattle.rows.specs.contracts.Sizes.{ROWS, IsTables}
 use Rattle.rows.proofs.Process as T
 use Rattle.rows.proofs.Process.Laws as T′
 use Rattle.closing.specs.contracts.Takes.{Homes, HomesEach}
+use Rattle.changes.specs.contracts.Bits.{marksIn}
 use Rattle.closing.proofs.HomesLent.{R, Marks, vals, st, sm, Lent, Tokens, twice}
 use Rattle.closing.proofs.HomesAll.{HomedTo, homed-start, homed-turn, homed-end}
 use Rattle.closing.proofs.homes.home as home
@@ -82,13 +83,13 @@ module _ {M : Type 1} (𝓤 : URA M) (H : Heap 𝓤) (A : Atoms 𝓤) (mem : Mem
   abbrev Home : Contract 𝓤
   Home = tripleOf 𝓤 H A home.signature (home.spec 𝓤 H A mem run)
 
-  home-of : (κ₂ κ₃ : Lft) (t : RefT (List ℕ)) (rows : ℕ) (p : Process) (m : RefT (List Bool)) (r : Process)
-      → ent 𝓤 (ensured 𝓤 H A home.ended (home.clauses 𝓤 H A mem run) (κ₂, (κ₃, tt)) (t, (rows, (p, (m, tt)))) tt r) (fact 𝓤 (Homes (t .now) rows p (m .now) r))
+  home-of : (κ₂ κ₃ : Lft) (t : RefT (List ℕ)) (rows : ℕ) (p : Process) (m : RefT (List ℕ)) (r : Process)
+      → ent 𝓤 (ensured 𝓤 H A home.ended (home.clauses 𝓤 H A mem run) (κ₂, (κ₃, tt)) (t, (rows, (p, (m, tt)))) tt r) (fact 𝓤 (Homes (t .now) rows p (marksIn (m .now)) r))
   home-of κ₂ κ₃ t rows p m r =
-      exE 𝓤 _ (λ ws. snd∗ 𝓤 (sem 𝓤 H A (lasts home.ended (κ₂, (κ₃, tt)) (t, (rows, (p, (m, tt)))) ws)) (fact 𝓤 (Homes (t .now) rows p (m .now) r)))
+      exE 𝓤 _ (λ ws. snd∗ 𝓤 (sem 𝓤 H A (lasts home.ended (κ₂, (κ₃, tt)) (t, (rows, (p, (m, tt)))) ws)) (fact 𝓤 (Homes (t .now) rows p (marksIn (m .now)) r)))
 
 module _ {M : Type 1} (𝓤 : URA M) (H : Heap 𝓤) (A : Atoms 𝓤) (W : Given 𝓤 H A) (mem : Memory → SProp 𝓤) (run : Routine → Fun 𝓤)
-    (κ κ₂ κ₃ : Lft) (q q₂ q₃ : Share) (b o : ℕ) (γ : GName) (ys : List Process) (t : RefT (List ℕ)) (rows : ℕ) (m : RefT (List Bool))
+    (κ κ₂ κ₃ : Lft) (q q₂ q₃ : Share) (b o : ℕ) (γ : GName) (ys : List Process) (t : RefT (List ℕ)) (rows : ℕ) (m : RefT (List ℕ))
     (room : Room R (length ys)) (t-room : Room u32 (length (t .now))) (rows-fits : rows < 2 ^ 64) (asked : IsTables (t .now) × (rows ≤ ROWS)) where
   abbrev n : ℕ
   n = length ys
@@ -107,7 +108,7 @@ module _ {M : Type 1} (𝓤 : URA M) (H : Heap 𝓤) (A : Atoms 𝓤) (W : Given
   Toks = Tokens 𝓤 H A κ₂ q₂ κ₃ q₃
 
   abbrev Arg : Type 0
-  Arg = RefT (List Process) × (RefT (List ℕ) × (ℕ × (RefT (List Bool) × Unit {0})))
+  Arg = RefT (List Process) × (RefT (List ℕ) × (ℕ × (RefT (List ℕ) × Unit {0})))
 
   abbrev a : Arg
   a = (x ys, (t, (rows, (m, tt))))
@@ -117,12 +118,12 @@ module _ {M : Type 1} (𝓤 : URA M) (H : Heap 𝓤) (A : Atoms 𝓤) (W : Given
 
   -- what the first i of the records are
   abbrev Done : List Process → ℕ → Type 0
-  Done l i = HomedTo (λ y r. Homes (t .now) rows y (m .now) r) ys l i
+  Done l i = HomedTo (λ y r. Homes (t .now) rows y (marksIn (m .now)) r) ys l i
 
   abbrev Post : Val → SProp 𝓤
   Post = walkOf 𝓤 H A home-each.ended stayed (home-each.clauses 𝓤 H A mem run) .post (((κ, (κ₂, (κ₃, tt))), (q, (q₂, (q₃, tt))), tt, a, at), tt)
 
-  exits : (zs : List Process) → HomesEach (t .now) rows ys (m .now) zs
+  exits : (zs : List Process) → HomesEach (t .now) rows ys (marksIn (m .now)) zs
       → ent 𝓤 (⋆ 𝓤 H A (‵ (fobs γ (codedHoleys R .code (heres R zs))) ∷ ‵ (fbor κ (Held R (length zs) b o γ)) ∷ ‵ (flft κ q) ∷ Toks ∷ ‵ Words ∷ [])) (Post vunit)
   exits zs each =
       qed W (‵ (fobs γ (codedHoleys R .code (heres R zs))) ∷ ‵ (fbor κ (Held R (length zs) b o γ)) ∷ ‵ (flft κ q) ∷ Toks ∷ ‵ Words ∷ []) ∵
@@ -167,7 +168,7 @@ module _ {M : Type 1} (𝓤 : URA M) (H : Heap 𝓤) (A : Atoms 𝓤) (W : Given
     words = sliceTy (tyRef (named 1) imm (tyInt w32))
 
     abbrev marks : Ty
-    marks = tyRef (named 2) imm (tyArray tyBool 1024)
+    marks = tyRef (named 2) imm (tyArray (tyInt w64) 16)
 
     abbrev En : Env 𝓤 H
     En = (tyUnit, l₀) ∷ (slice, l₁) ∷ (words, l₂) ∷ (tyInt w64, l₃) ∷ (marks, l₄) ∷ (tyInt w64, l₅) ∷ (tyInt w64, l₆) ∷ (tyBool, l₇) ∷ (T′.mir, l₈) ∷ (tyPtr, l₉) ∷ (T′.mir, l₁₀) ∷ (tyInt w64, l₁₁) ∷ (tyPtr, l₁₂) ∷ []
@@ -217,7 +218,7 @@ module _ {M : Type 1} (𝓤 : URA M) (H : Heap 𝓤) (A : Atoms 𝓤) (W : Given
         calls-at ! fm (Home 𝓤 H A mem run) known (to-home p)
         (and-then ! (load ! (from ! (stop !)) (look ! 28 refl)) (and-then ! (load ! (from ! (stop !)) (look ! 26 refl)) (and-then ! (load ! (from ! (stop !)) (look ! 12 refl)) (and-then ! (load ! (from ! (stop !)) (look ! 24 refl)) (no-more !))))) (λ v.
         use1 W (later (some (λ (r : Process). (Toks ⊛ ‵ (R .own r (v ∷ []))) ⊛ raw (ensured 𝓤 H A home.ended (home.clauses 𝓤 H A mem run) (κ₂, (κ₃, tt)) (t, (rows, (p, (m, tt)))) tt r)))) (id⊢ 𝓤 _) $ await ! tt $ pick ! (λ r.
-        split ! $ move ! (1 ∷ []) $ use1 W (raw (fact 𝓤 (Homes (t .now) rows p (m .now) r))) (home-of 𝓤 H A mem run κ₂ κ₃ t rows p m r) $ heard ! (Homes (t .now) rows p (m .now) r) (λ homes. split ! $ move ! (1 ∷ []) $
+        split ! $ move ! (1 ∷ []) $ use1 W (raw (fact 𝓤 (Homes (t .now) rows p (marksIn (m .now)) r))) (home-of 𝓤 H A mem run κ₂ κ₃ t rows p m r) $ heard ! (Homes (t .now) rows p (marksIn (m .now)) r) (λ homes. split ! $ move ! (1 ∷ []) $
         peeks ! R (Is R) (shows 𝓤 H A R) r (v ∷ []) (λ is′.
         -- [what r owns; the other tokens; what is lent; the element; what it owns; the others; the open borrow; obs; auth; _12; …]: local k at 9 + 2 · (12 − k)
         land ! (from ! (stop !)) (init ! 17 refl (LL.lawful T.the-type T′.the-laws 𝓤 H A W .typed r _ is′ .0)) $

@@ -2,6 +2,7 @@
 use borrow.Author.Needs.{needs}
 use mathlib.Core.Path.{sym, _∙_}
 use denote.Ref.{now}
+use Rattle.changes.specs.contracts.Bits.{marksIn}
 use Rattle.closing.proofs.ListsPass.{closed-done, open-done}
 use Rattle.closing.proofs.lists.settle_request.Statement.{statement}
 use Rattle.closing.proofs.lists.settle_request.Tie as tie
@@ -25,9 +26,9 @@ returns c =
     let closing = back .before .before .before in
     let read = closing .before .request-at in
     let a = closing .before .before .before .before .args in (
-      (λ st g f new v old sd count here closes gone done.
-          closed-done st sd g f new v old (a .n) (a .j) count here (now (a .t)) (now (a .back)) done (read .result) (read .ensures)
-          (sym closes ∙ closing .if1 .taken) (called .last .0) (called .last .1 .1 .1 .0) (called .ensures .0)),
+      (λ st g f new v old sd count here closes done.
+          closed-done st sd g f new v old (a .n) (a .j) count here (now (a .t)) (marksIn (now (a .out))) done (read .result) (read .ensures)
+          (sym closes ∙ closing .if1 .taken) (called .last .0) (marksIn (called .last .1 .1 .1 .0)) (called .ensures .0)),
       called .ensures .1,
     )
 
@@ -41,9 +42,9 @@ returns-2 c =
     let stays = out .before .before .before in
     let read = stays .before .request-at in
     let a = stays .before .before .before .before .args in (
-      (λ st g f new v old sd count here closes gone done.
-          open-done st sd g f new v old (a .n) (a .j) count here (now (a .t)) (now (a .back)) done (read .result) (read .ensures)
-          (sym closes ∙ stays .if1 .left) (now (a .removed)) gone (called .last .0) (called .ensures .0)),
+      (λ st g f new v old sd count here closes done.
+          open-done st sd g f new v old (a .n) (a .j) count here (now (a .t)) (marksIn (now (a .out))) done (read .result) (read .ensures)
+          (sym closes ∙ stays .if1 .left) (called .last .0) (called .ensures .0)),
       called .ensures .1,
     )
 

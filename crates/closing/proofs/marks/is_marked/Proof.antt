@@ -1,9 +1,11 @@
 -- `marks::is_marked`: the mark at the slot that is found; a number that a row has is found.
 use borrow.Author.Needs.{needs}
 use native.Mathlib.Omega.{arith}
+use mathlib.Core.Path.{_∙_}
 use denote.Ref.{now}
 use Rattle.rows.specs.Layout.{rowSlot}
 use Rattle.rows.proofs.Slots.{at-below, found-at, found-nothing}
+use Rattle.changes.specs.contracts.Bits.{marksIn}
 use Rattle.closing.proofs.MarksRequests.{unmarked-absent, marked-found}
 use Rattle.closing.proofs.marks.is_marked.Statement.{statement}
 use Rattle.closing.proofs.marks.is_marked.Tie as tie
@@ -24,8 +26,8 @@ returns c =
     λ st g rep count marked there.
     unmarked-absent st g (a .e) there (found-nothing (rowSlot (st .rows) (a .e)) (found .ensures .1 st rep count) (c .enum-told .given .1))
 
-element-copy-out-result : tie.Need-element-copy-out-result
-element-copy-out-result c =
+is-set-requires : tie.Need-is-set-requires
+is-set-requires c κs =
     let found = c .before in
     let sought = found .before .before in
     let start = sought .before .before in
@@ -38,9 +40,10 @@ returns-2 c =
     let a = sought .before .before .args in
     let i = found .i .given .0 .0 in
     λ st g rep count marked there.
-    marked-found st g (a .e) (now (a .marks)) marked i (found-at (rowSlot (st .rows) (a .e)) i (sought .row-among .ensures .1 st rep count) (found .i .given .1))
+    c .is-set .ensures
+    ∙ marked-found st g (a .e) (marksIn (now (a .marks))) marked i (found-at (rowSlot (st .rows) (a .e)) i (sought .row-among .ensures .1 st rep count) (found .i .given .1))
 
 pub is-marked-spec : {M : Type 1} → statement M
 is-marked-spec =
     tie.close
-    (tie.spec row-among-requires enum-known-i enum-told returns element-copy-out-result returns-2)
+    (tie.spec row-among-requires enum-known-i enum-told returns is-set-requires returns-2)

@@ -9,10 +9,11 @@ use Rattle.rows.specs.Tables.{State}
 use Rattle.rows.specs.Sound.{sound}
 use Rattle.rows.specs.contracts.Sizes.{REQUESTS}
 use Rattle.rows.specs.contracts.Represents.{Represents}
+use Rattle.changes.specs.contracts.Bits.{marksIn}
 use Rattle.closing.specs.Closing.{closes}
 use Rattle.closing.specs.contracts.Seeds.{closesOf}
 use Rattle.closing.specs.contracts.Marks.{RowCount, RequestCount, RowsMarked}
-use Rattle.closing.proofs.MarksPass.{MarkedTo, marked-start, marked-turn, marked-end}
+use Rattle.closing.proofs.MarksPass.{MarkedTo, pad-none, marked-start, marked-turn, marked-end}
 use Rattle.closing.proofs.MarksRequests.{request-marked}
 use Rattle.closing.proofs.marks.mark_requests.Statement.{statement}
 use Rattle.closing.proofs.marks.mark_requests.Tie as tie
@@ -20,14 +21,14 @@ use Rattle.closing.proofs.marks.mark_requests.Tie as tie
 abbrev Inv-loop : tie.InvT-loop
 Inv-loop t n m removed s closed₀ j₀ closed j =
     (j ≤ m)
-    × ((st : State) (g : List ℕ) → sound st ≡ true → Represents t st → RowCount n st → RequestCount m st → RowsMarked removed g st
+    × ((st : State) (g : List ℕ) → sound st ≡ true → Represents t st → RowCount n st → RequestCount m st → RowsMarked (marksIn removed) g st
     → MarkedTo (closes (closesOf s) g) REQUESTS (st .requests) j closed)
 
 abbrev μ-loop : tie.MeasureT-loop
 μ-loop t n m removed s closed₀ j₀ closed j = m - j
 
 loop-holds : tie.Need-loop-holds Inv-loop μ-loop
-loop-holds c = (search needs, (λ st g sd rep count long gone. marked-start (closes (closesOf (c .before .args .s)) g) REQUESTS (st .requests)))
+loop-holds c = (search needs, (λ st g sd rep count long gone. marked-start (closes (closesOf (c .before .args .s)) g) REQUESTS (st .requests) _ (pad-none REQUESTS)))
 
 add-closes-first : tie.Need-add-closes-first Inv-loop μ-loop
 add-closes-first c = search needs

@@ -1,66 +1,68 @@
--- `marks::mark_rows`: the slots passed have the marks that the words of their rows have.
+-- The rows before the first seed have nothing to come from; from there on those passed are marked.
 use borrow.Author.Needs.{needs}
 use Prim.Native.Nat.{_≤_, _-_}
-use native.Mathlib.Omega.{arith}
 use mathlib.Core.Path.{_≡_}
+use native.Mathlib.Nat.{le-refl}
+use native.Mathlib.Omega.{arith}
 use lib.ListN.{length}
-use Rattle.rows.specs.Tables.{State}
-use Rattle.rows.specs.contracts.Sizes.{ROWS}
-use Rattle.rows.specs.contracts.Represents.{Represents}
-use Rattle.closing.specs.declared.Seed.{Seed}
-use Rattle.closing.specs.contracts.Marks.{RowCount, MarksWords}
-use Rattle.closing.proofs.MarksPass.{MarkedTo, marked-start}
-use Rattle.closing.proofs.MarksRows.{Gone, rows-turn, rows-end}
+use Rattle.changes.specs.contracts.Bits.{marksIn}
+use Rattle.changes.specs.contracts.Marks.{NoneMarked}
+use Rattle.closing.specs.contracts.Marks.{MarksOn}
+use Rattle.closing.proofs.MarksRows.{derived-skip, derived-end}
 use Rattle.closing.proofs.marks.mark_rows.Statement.{statement}
 use Rattle.closing.proofs.marks.mark_rows.Tie as tie
 
 abbrev Inv-loop : tie.InvT-loop
-Inv-loop t n by removed₀ i₀ removed i =
-    (i ≤ n)
-    × (length removed ≡ ROWS)
-    × ((s : Seed) → MarksWords t n s by → (st : State) (rep : Represents t st) → RowCount n st → MarkedTo (Gone rep s) ROWS (st .rows) i removed)
+Inv-loop t n marks₀ first i₀ marks i = (first ≤ i) × (i ≤ n) × NoneMarked (marksIn marks) 0 first × MarksOn t first i (marksIn marks₀) (marksIn marks)
 
 abbrev μ-loop : tie.MeasureT-loop
-μ-loop t n by removed₀ i₀ removed i = n - i
+μ-loop t n marks₀ first i₀ marks i = n - i
 
-mark-words-requires : tie.Need-mark-words-requires Inv-loop μ-loop
-mark-words-requires c κs = search needs
+mark-seeds-requires : tie.Need-mark-seeds-requires Inv-loop μ-loop
+mark-seeds-requires c κs = search needs
+
+next-marked-requires : tie.Need-next-marked-requires Inv-loop μ-loop
+next-marked-requires c κs = search needs
 
 loop-holds : tie.Need-loop-holds Inv-loop μ-loop
-loop-holds c = (search needs, search needs, (λ s words st rep count. marked-start (Gone rep s) ROWS (st .rows)))
+loop-holds c = let run = c .next-marked .ensures in (search needs, run .within, run .passed, (λ st s rep few d. d))
 
-add-removed : tie.Need-add-removed Inv-loop μ-loop
-add-removed c = search needs
+word-end-requires : tie.Need-word-end-requires Inv-loop μ-loop
+word-end-requires c κs = search needs
 
-array-read-removed : tie.Need-array-read-removed Inv-loop μ-loop
-array-read-removed c = search needs
-
-array-write-removed : tie.Need-array-write-removed Inv-loop μ-loop
-array-write-removed c = search needs
-
-add-i : tie.Need-add-i Inv-loop μ-loop
-add-i c = search needs
+mark-word-requires : tie.Need-mark-word-requires Inv-loop μ-loop
+mark-word-requires c κs =
+    let e = c .before .word-end .ensures in
+    let l = c .before .before .before .loop in
+    let s = c .before .before .before .before .before .before .before .before in (
+      (s .pre .0, l .inv .0, omega (arith, e .within, s .pre .1)),
+      (record { after = e .after; within = le-refl (c .before .word-end .result); same = e .same }, l .inv .2),
+    )
 
 loop-less : tie.Need-loop-less Inv-loop μ-loop
-loop-less c = search needs
+loop-less c = let e = c .before .before .word-end .ensures in omega (arith, e .after, e .within)
 
 loop-again : tie.Need-loop-again Inv-loop μ-loop
 loop-again c =
-    let l = c .before .loop in
-    let start = c .before .before .before .before in (
-      search needs,
-      search needs,
-      (λ s words st rep count.
-          rows-turn rep s 2047 (l .i) (c .before .before .mark-words .result) (l .removed) (omega (arith, c .loop-test .taken, start .pre .1)) (words st rep count)
-          (l .inv .2 s words st rep count)),
+    let e = c .before .before .word-end .ensures in
+    let l = c .before .before .before .before .loop in
+    let called = c .mark-word in (
+      omega (arith, e .after, l .inv .0),
+      e .within,
+      called .ensures .0,
+      (λ st s rep few d. called .ensures .1 st s rep few (l .inv .3 st s rep (omega (arith, e .after)) d)),
     )
 
 returns : tie.Need-returns Inv-loop μ-loop
-returns c = λ st rep count.
+returns c =
     let l = c .before .loop in
-    let made = c .before .before in
-    let s = made .before .before .args .s in
-    rows-end rep s (l .i) (l .removed) (omega (arith, c .loop-test .left, l .inv .0)) (l .inv .2 s (made .mark-words .ensures) st rep count)
+    let run = c .before .before .next-marked in
+    let seeds = c .before .before .before .before .mark-seeds in
+    let a = c .before .before .before .before .before .before .args in
+    λ st rep count.
+    let all : length (st .rows) ≡ l .i = omega (arith, c .loop-test .left, l .inv .1) in
+    let start = derived-skip rep (a .s) (marksIn (seeds .result)) (run .result) (run .ensures .passed) (seeds .ensures st rep count) (run .result) (le-refl (run .result)) in
+    derived-end rep (a .s) (l .i) (marksIn (l .marks)) all (l .inv .3 st (a .s) rep (omega (arith, all)) start)
 
 pub mark-rows-spec : {M : Type 1} → statement M
 mark-rows-spec =
@@ -68,12 +70,11 @@ mark-rows-spec =
     (tie.spec
     Inv-loop
     μ-loop
-    mark-words-requires
+    mark-seeds-requires
+    next-marked-requires
     loop-holds
-    add-removed
-    array-read-removed
-    array-write-removed
-    add-i
+    word-end-requires
+    mark-word-requires
     loop-less
     loop-again
     returns)

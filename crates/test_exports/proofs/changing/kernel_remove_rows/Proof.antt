@@ -12,6 +12,9 @@ returns c = ((λ st g rep e m cl. absurd (c .if1 .taken (represented-length rep)
 returns-2 : tie.Need-returns-2
 returns-2 c = ((λ st g rep e m cl. no-count st rep (c .before .before .before .args .count) e (c .if2 .taken)), (λ not. refl))
 
+count-requires : tie.Need-count-requires
+count-requires c κs = search needs
+
 remove-rows-requires : tie.Need-remove-rows-requires
 remove-rows-requires c κs = search needs
 
@@ -21,7 +24,7 @@ same-length c = search needs
 returns-3 : tie.Need-returns-3
 returns-3 c =
     let b = c .before .before in
-    (b .remove-rows .ensures, (λ not. absurd (not (b .before .before .before .if1 .left, b .before .before .if2 .left))))
+    (b .remove-rows .ensures, (λ not. absurd (not (b .before .before .before .before .if1 .left, b .before .before .before .if2 .left))))
 
 pub kernel-remove-rows-spec : {M : Type 1} → statement M
-kernel-remove-rows-spec = tie.close (tie.spec returns returns-2 remove-rows-requires same-length returns-3)
+kernel-remove-rows-spec = tie.close (tie.spec returns returns-2 count-requires remove-rows-requires same-length returns-3)
