@@ -98,7 +98,7 @@ pub record Ranked (ms : List Bool) (to : List ℕ) (i j : ℕ) : Type 0 where
   pub next : j ≡ suc (lefts ms i)
   pub right : Ranks ms i to
 
--- a run of slots, none of which is marked: the words of those from one up to the end rise by 1 from j on, the others stay
+-- a run of slots, none of which is marked: the words of those from one up to the end rise by 1 from j on, those up to it stay
 pub record RanksRun (from end j : ℕ) (to to′ : List ℕ) : Type 0 where
   pub before : (s : ℕ) → s ≤ from → getD to′ s 0 ≡ getD to s 0
   pub rising : (i : ℕ) → from ≤ i → i < end → getD to′ (suc i) 0 ≡ j + (i - from)
