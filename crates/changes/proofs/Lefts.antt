@@ -1,22 +1,25 @@
--- How many of the first slots are marked, and how many are left: both counts over a run of slots, and what equal counts say.
+-- How many of the first slots are marked, and how many are left: both counts over a run of slots, what equal counts say,
+-- and the list of the slots that are left.
 use Prim.Native.Nat.{ℕ, zero, suc, _+_, _-_, _<_, _≤_, zero-le}
-use mathlib.Core.Bool.{Bool, true, false, cond}
+use mathlib.Core.Bool.{Bool, true, false, cond, false≢true}
 use mathlib.Core.List.{List}
-use mathlib.Core.Path.{_≡_, refl, ap, sym, _∙_}
+use mathlib.Core.Path.{_≡_, refl, ap, sym, subst, _∙_}
 use mathlib.Core.Logic.{⊎-elim}
-use native.Mathlib.Nat.{add-zero, eq-or-lt-of-le}
+use native.Mathlib.Nat.{add-zero, eq-or-lt-of-le, le-of-suc-le-suc}
+use native.Mathlib.Numerals.{add-one}
 use native.Mathlib.Omega.{arith}
-use lib.ListN.{getD}
+use lib.ListN.{length, getD, set}
+use lib.Seq.{getD-set-same, getD-set-other}
 use Rattle.changes.specs.contracts.Bits.{gones}
-use Rattle.changes.specs.contracts.Marks.{NoneMarked, AllMarked, lefts}
+use Rattle.changes.specs.contracts.Marks.{NoneMarked, AllMarked, lefts, Lists}
 
 module _ (ms : List Bool) where
   -- ---- one slot more
-  left-more : (i : ℕ) → getD ms i false ≡ false → lefts ms (suc i) ≡ suc (lefts ms i)
+  pub left-more : (i : ℕ) → getD ms i false ≡ false → lefts ms (suc i) ≡ suc (lefts ms i)
   unfolding lefts
   left-more i e = ap (λ (b : Bool). cond b (lefts ms i) (suc (lefts ms i))) e
 
-  marked-more : (i : ℕ) → getD ms i false ≡ true → lefts ms (suc i) ≡ lefts ms i
+  pub marked-more : (i : ℕ) → getD ms i false ≡ true → lefts ms (suc i) ≡ lefts ms i
   unfolding lefts
   marked-more i e = ap (λ (b : Bool). cond b (lefts ms i) (suc (lefts ms i))) e
 
@@ -89,3 +92,61 @@ module _ (ms : List Bool) where
       pick : (m : Bool) → getD ms x false ≡ m → m ≡ true
       pick true e = refl
       pick false e = absurd (omega (arith, left-more x e, lefts-up i x a, lefts-up (suc x) n b))
+
+-- ---- the loop that lists the slots that are left, from one on
+module _ (ms : List Bool) (from : ℕ) where
+  pub lists-start : (slots : List ℕ) → Lists ms from from slots 0
+  lists-start slots =
+      record {
+        number = sym (add-zero (lefts ms from));
+        few = omega arith;
+        ahead = λ x h. absurd (omega arith);
+        listed = λ i a b out. absurd (omega arith);
+      }
+
+  module _ (slots : List ℕ) (i n : ℕ) (p : Lists ms from i slots n) (h : from ≤ i) (room : n < length slots) where
+    -- the word n is written over: what is listed stays
+    listed-before : (x : ℕ) → from ≤ x → x < i → getD ms x false ≡ false → getD (set slots n i) (lefts ms x - lefts ms from) 0 ≡ x
+    listed-before x a b out =
+        getD-set-other slots n (lefts ms x - lefts ms from) i 0
+        (λ e. absurd (omega (arith, p .number, left-more ms x out, lefts-up ms (suc x) i b, lefts-up ms from x a)))
+        ∙ p .listed x a b out
+
+    ahead-before : (x : ℕ) → x < n → (from + x ≤ getD (set slots n i) x 0) × (getD (set slots n i) x 0 < suc i)
+    ahead-before x a =
+        let same : getD (set slots n i) x 0 ≡ getD slots x 0 = getD-set-other slots n x i 0 (λ e. omega arith) in
+        let was = p .ahead x a in
+        (omega (arith, same, was .0), omega (arith, same, was .1))
+
+    pub lists-marked : getD ms i false ≡ true → Lists ms from (i + 1) (set slots n i) n
+    lists-marked out =
+        rw (add-one i)
+        (record {
+          number = marked-more ms i out ∙ p .number;
+          few = omega (arith, p .few);
+          ahead = ahead-before;
+          listed = λ x a b left.
+              ⊎-elim (λ (e : x ≡ i). absurd (false≢true (sym left ∙ ap (λ (y : ℕ). getD ms y false) e ∙ out)))
+              (λ (lt : x < i). listed-before x a lt left)
+              (eq-or-lt-of-le (le-of-suc-le-suc b));
+        })
+
+    pub lists-left : getD ms i false ≡ false → Lists ms from (i + 1) (set slots n i) (n + 1)
+    lists-left out =
+        let here : getD (set slots n i) n 0 ≡ i = getD-set-same slots n i 0 room in
+        let at-n : lefts ms i - lefts ms from ≡ n = omega (arith, p .number) in
+        rw (add-one i)
+        (record {
+          number = left-more ms i out ∙ omega (arith, p .number);
+          few = omega (arith, p .few);
+          ahead = λ x a.
+              ⊎-elim
+              (λ (e : x ≡ n). subst (λ (y : ℕ). (from + y ≤ getD (set slots n i) y 0) × (getD (set slots n i) y 0 < suc i)) (sym e) (omega (arith, here, p .few), omega (arith, here)))
+              (λ (lt : x < n). ahead-before x lt)
+              (eq-or-lt-of-le (omega arith));
+          listed = λ x a b left.
+              ⊎-elim
+              (λ (e : x ≡ i). subst (λ (y : ℕ). getD (set slots n i) (lefts ms y - lefts ms from) 0 ≡ y) (sym e) (ap (λ (k : ℕ). getD (set slots n i) k 0) at-n ∙ here))
+              (λ (lt : x < i). listed-before x a lt left)
+              (eq-or-lt-of-le (le-of-suc-le-suc b));
+        })

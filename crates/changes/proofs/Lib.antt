@@ -15,6 +15,8 @@ pub mod Keep
 pub mod Slide
 -- columns one after the other, changed in the same way
 pub mod Parts
+-- words cleared row by row
+pub mod ClearRows
 -- the slots that rows move to, and source columns renumbered
 pub mod Renumber
 -- rows and requests removed

@@ -11,10 +11,10 @@ use native.Mathlib.Omega.{arith}
 use lib.ListN.{length, take, drop, length-append, length-drop, take-append-drop}
 use lib.Seq.{take-at, drop-at, drop-drop, drop-length, length-take-le, take-append-le, drop-append-le}
 use Rattle.rows.specs.Lists.{pad, laid}
-use Rattle.changes.specs.contracts.Marks.{compacted, slid, cleared, onParts, NoneMarked, AllMarked}
+use Rattle.changes.specs.contracts.Marks.{compacted, slid, cleared, gathered, onParts, Passed, part, Moved, Lists, NoneMarked, AllMarked}
 use Rattle.rows.proofs.LayoutColumns.{columns, length-columns}
 use Rattle.changes.proofs.Keep.{length-pad, length-laid}
-use Rattle.changes.proofs.Slide.{length-slid, length-cleared, Passed, passed-start, passed-skip, passed-run, passed-end}
+use Rattle.changes.proofs.Slide.{length-slid, length-gathered, length-cleared, passed-start, passed-skip, passed-run, passed-listed, passed-end}
 
 -- ---- a part that is lent: k words from the i-th on
 module _ (a b c t : List ℕ) (i k : ℕ) (e : t ≡ a ++ (b ++ c)) (la : length a ≡ i) (lb : length b ≡ k) where
@@ -82,10 +82,6 @@ module _ (t ys zs : List ℕ) (i k j e : ℕ) (next : j ≡ i + k) (last : e ≡
 pub part-end : (k c m : ℕ) → c < m → c * k + k ≤ m * k
 part-end k c m h = omega (arith, mul-le-mul-right k h, suc-mul c k)
 
--- the part c of the parts of k words
-abbrev pub part : ℕ → List ℕ → ℕ → List ℕ
-part k l c = take k (drop (c * k) l)
-
 -- it stands in what goes before its end, and in what comes after its start
 pub part-front : (k c n : ℕ) (l : List ℕ) → c * k + k ≤ n → n ≤ length l → part k l c ≡ part k (take n l) c
 part-front k c n l h room =
@@ -120,6 +116,14 @@ changed-end f k l₀ l c e h =
     ∙ ap (λ (i : ℕ). onParts f k c l₀ ++ drop i l₀) (sym h)
     ∙ ap (λ (x : List ℕ). onParts f k c l₀ ++ x) (drop-length l₀)
     ∙ append-nil (onParts f k c l₀)
+
+-- parts that f changes to what g changes others to
+pub parts-same : (f g : List ℕ → List ℕ) (k m : ℕ) (l l₀ : List ℕ) → ((c : ℕ) → c < m → f (part k l c) ≡ g (part k l₀ c)) → onParts f k m l ≡ onParts g k m l₀
+unfolding onParts
+parts-same f g k zero l l₀ h = refl
+parts-same f g k (suc m) l l₀ h =
+    ap (λ (t : List ℕ). t ++ f (part k l m)) (parts-same f g k m l l₀ (λ c lt. h c (omega arith)))
+    ∙ ap (λ (t : List ℕ). onParts g k m l₀ ++ t) (h m (omega arith))
 
 module _ (f : List ℕ → List ℕ) (k : ℕ) (keeps : Keeps f k) where
   length-parts : (l : List ℕ) (c : ℕ) → c * k ≤ length l → length (onParts f k c l) ≡ c * k
@@ -167,15 +171,15 @@ module _ (f : List ℕ → List ℕ) (k : ℕ) (keeps : Keeps f k) where
         ∙ ap (λ (x : List ℕ). done ++ (here ++ x)) (ap (drop k) rest-of ∙ drop-drop k (c * k) l₀ ∙ ap (λ (i : ℕ). drop i l₀) (sym (suc-mul c k)))
         ∙ sym (append-assoc done here (drop (suc c * k) l₀)))
 
--- ---- the loop over the runs: in each of m columns the same slots are passed
-abbrev pub Moved : List Bool → ℕ → ℕ → List ℕ → List ℕ → ℕ → ℕ → Type 0
-Moved ms k m l₀ l i j = (c : ℕ) → c < m → Passed ms (part k l₀ c) (part k l c) i j
-
+-- ---- the loops that move words down: in each of m columns the same slots are passed
 pub moved-start : (ms : List Bool) (k m : ℕ) (l : List ℕ) (n : ℕ) → NoneMarked ms 0 n → Moved ms k m l l n n
 moved-start ms k m l n clear = λ c lt. passed-start ms (part k l c) n clear
 
 pub slid-keeps : (k to from len : ℕ) → to ≤ from → from + len ≤ k → Keeps (slid to from len) k
 slid-keeps k to from len down room l e = length-slid l to from down len (omega arith) ∙ e
+
+pub gathered-keeps : (k to : ℕ) (slots : List ℕ) (n : ℕ) → to + n ≤ k → Keeps (gathered to slots n) k
+gathered-keeps k to slots n room l e = length-gathered l to slots n (omega arith) ∙ e
 
 pub cleared-keeps : (k from to : ℕ) → from ≤ to → to ≤ k → Keeps (cleared from to) k
 cleared-keeps k from to h room l e = length-cleared from to l h (omega arith) ∙ e
@@ -192,6 +196,19 @@ moved-run ms k m l₀ l long₀ long i j e p back h room clear l′ is = λ c lt
     subst (λ (t : List ℕ). Passed ms (part k l₀ c) t e (j + (e - i))) (sym same)
     (passed-run ms (part k l₀ c) (part k l c) i j e (p c lt) h (omega (arith, long-part)) clear)
 
+-- the slots from i up to e that are left are listed
+pub moved-listed : (ms : List Bool) (k m : ℕ) (l₀ l : List ℕ) → length l₀ ≡ m * k → length l ≡ m * k
+    → (i j e : ℕ) → Moved ms k m l₀ l i j → j ≤ i → e ≤ k → (slots : List ℕ) (n : ℕ) → Lists ms i e slots n
+    → (l′ : List ℕ) → l′ ≡ onParts (gathered j slots n) k m l → Moved ms k m l₀ l′ e (j + n)
+moved-listed ms k m l₀ l long₀ long i j e p back room slots n q l′ is = λ c lt.
+    let w : c * k + k ≤ m * k = part-end k c m lt in
+    let long-part : length (part k l₀ c) ≡ k = part-long (c * k) k l₀ (omega (arith, long₀)) in
+    let keeps : Keeps (gathered j slots n) k = gathered-keeps k j slots n (omega (arith, q .few)) in
+    let same : part k l′ c ≡ gathered j slots n (part k l c) =
+    ap (λ (t : List ℕ). part k t c) is ∙ part-of (gathered j slots n) k keeps l m c lt (omega (arith, long)) in
+    subst (λ (t : List ℕ). Passed ms (part k l₀ c) t e (j + n)) (sym same)
+    (passed-listed ms (part k l₀ c) (part k l c) i j e (p c lt) slots n q (omega (arith, long-part)))
+
 -- all slots that are not passed are marked
 pub moved-skip : (ms : List Bool) (k m n : ℕ) (l₀ l : List ℕ) (i j : ℕ) → length l₀ ≡ m * k → i ≤ n → n ≤ k → AllMarked ms i n
     → Moved ms k m l₀ l i j → Moved ms k m l₀ l n j
@@ -202,11 +219,7 @@ moved-skip ms k m n l₀ l i j long h fits marked p = λ c lt.
 
 pub moved-end : (ms : List Bool) (n k m : ℕ) (l₀ l : List ℕ) (j : ℕ) → Moved ms k m l₀ l n j
     → onParts (cleared j n) k m l ≡ onParts (compacted ms n) k m l₀
-unfolding onParts
-moved-end ms n k zero l₀ l j p = refl
-moved-end ms n k (suc m) l₀ l j p =
-    ap (λ (t : List ℕ). t ++ cleared j n (part k l m)) (moved-end ms n k m l₀ l j (λ c h. p c (omega arith)))
-    ∙ ap (λ (t : List ℕ). onParts (compacted ms n) k m l₀ ++ t) (passed-end ms n (part k l₀ m) (part k l m) j (p m (omega arith)))
+moved-end ms n k m l₀ l j p = parts-same (cleared j n) (compacted ms n) k m l l₀ (λ c lt. passed-end ms n (part k l₀ c) (part k l c) j (p c lt))
 
 -- ---- columns of laid words
 module _ {A : Type 0} (k : ℕ) where

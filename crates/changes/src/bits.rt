@@ -52,7 +52,7 @@ pub fn set(marks: &mut SlotBits, i: usize)
 }
 
 // How many bits of a word are set.
-fn count_bits(w: u64) -> usize
+pub fn count_bits(w: u64) -> usize
     ensures within { λ r. ⌜ r ≤ BITS ⌝ }
     ensures counted { λ r. ⌜ r ≡ ones (w % 2 ^ BITS) ⌝ }
 {

@@ -2,8 +2,8 @@
 use crate::bits;
 use crate::bits::SlotBits;
 use crate::bits::WORDS;
+use crate::compact::compact_columns;
 use crate::renumbering::renumber;
-use crate::runs::compact_columns;
 use crate::runs::next_marked;
 use rows::find::count_requests;
 use rows::layout::NEXT;

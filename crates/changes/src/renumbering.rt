@@ -1,6 +1,7 @@
 // The sources of the rows that are left, renumbered: they are slots, and a removal moves rows to other slots.
 use crate::bits::BITS;
 use crate::bits::SlotBits;
+use crate::bits::least;
 use crate::bits::word_end;
 use crate::runs::next_left;
 use rows::layout::DEPTH;
@@ -13,7 +14,7 @@ ghost use lib.ListN.{length, getD};
 ghost use Rattle.rows.specs.contracts.Sizes.{ROWS, IsTables};
 ghost use Rattle.changes.specs.contracts.Bits.{EndsWord, marksIn};
 ghost use Rattle.changes.specs.contracts.Marks.{NoneMarked, AllMarked, lefts, RanksRun, RanksOn, Ranks};
-ghost use Rattle.changes.specs.contracts.Marks.{Remapped, RenumbersSources};
+ghost use Rattle.changes.specs.contracts.Marks.{rankAt, Remapped, RenumbersSources};
 
 // a word for each slot plus 1, and for 0
 const RANKS: usize = ROWS + 1;
@@ -35,7 +36,8 @@ fn ranks_each(to: &mut [u16], marks: &SlotBits, from: usize, end: usize, start: 
     requires sizes { ⌜ (end ≤ ROWS) × (start ≤ from + 1) × (end < length (now to)) ⌝ }
     requires word { ⌜ EndsWord from end end ⌝ }
     ensures within { λ r. ⌜ r ≤ end + 1 ⌝ }
-    ensures ranked { λ r. ⌜ RanksOn (marksIn (now (marks .entry))) from end start (now (to .entry)) (now (to .exit)) r ⌝ }
+    ensures ranked { λ r. ⌜ RanksOn (marksIn (now (marks .entry))) from end start (now (to .entry))
+        (now (to .exit)) r ⌝ }
 {
     let w = marks[from / BITS];
     let mut i = from;
@@ -55,7 +57,8 @@ fn ranks_word(to: &mut [u16], marks: &SlotBits, from: usize, end: usize, start: 
     requires sizes { ⌜ (end ≤ ROWS) × (start ≤ from + 1) × (end < length (now to)) ⌝ }
     requires word { ⌜ EndsWord from end end ⌝ }
     ensures within { λ r. ⌜ r ≤ end + 1 ⌝ }
-    ensures ranked { λ r. ⌜ RanksOn (marksIn (now (marks .entry))) from end start (now (to .entry)) (now (to .exit)) r ⌝ }
+    ensures ranked { λ r. ⌜ RanksOn (marksIn (now (marks .entry))) from end start (now (to .entry))
+        (now (to .exit)) r ⌝ }
 {
     if marks[from / BITS] == 0 {
         ranks_run(to, from, end, start);
@@ -81,20 +84,17 @@ fn ranks(to: &mut [u16], marks: &SlotBits, first: usize, count: usize)
     }
 }
 
-// The word of a table, 0 past its end.
+// The word of a table of what slots plus 1 become; past the last slot, that of the last one.
 fn rank_at(to: &[u16], s: u32) -> u32
-    ensures { λ r. ⌜ r ≡ getD (now (to .entry)) s 0 ⌝ }
+    requires { ⌜ ROWS < length (now to) ⌝ }
+    ensures { λ r. ⌜ r ≡ rankAt (now (to .entry)) s ⌝ }
 {
-    let at = s as usize;
-    if at < to.len() {
-        return to[at] as u32;
-    }
-    0
+    to[least(s as usize, ROWS)] as u32
 }
 
 // Looks the words of a column from one position up to another up in a table.
 fn remap(column: &mut [u32], to: &[u16], from: usize, count: usize)
-    requires { ⌜ (from ≤ count) × (count ≤ length (now column)) ⌝ }
+    requires { ⌜ (from ≤ count) × (count ≤ length (now column)) × (ROWS < length (now to)) ⌝ }
     ensures { λ _. ⌜ Remapped (now (to .entry)) from count (now (column .entry)) (now (column .exit)) ⌝ }
 {
     let mut i = from;

@@ -1,4 +1,4 @@
-// Marked slots taken out of columns: each run of slots that are not marked moves down, in all columns; 0 comes after.
+// Runs of slots that are marked or not, found in whole words of marks; the words of those that are not moved down.
 use crate::bits::BITS;
 use crate::bits::SlotBits;
 use crate::bits::least;
@@ -9,7 +9,7 @@ ghost use lib.ListN.{length};
 ghost use Rattle.rows.specs.contracts.Sizes.{ROWS};
 ghost use Rattle.changes.specs.contracts.Bits.{BITS, WORDS, bit, marksIn, sameAs};
 ghost use Rattle.changes.specs.contracts.Marks.{NoneMarked, EndsAt, EndsOn, lefts};
-ghost use Rattle.changes.specs.contracts.Marks.{slid, cleared, compacted, onParts};
+ghost use Rattle.changes.specs.contracts.Marks.{Moved, slid, onParts};
 
 // ---- runs of marks
 // The word of which a bit is set where the slot is marked, or where it is not.
@@ -99,36 +99,10 @@ fn slide_all(part: &mut [u32], size: usize, columns: usize, to: usize, from: usi
     }
 }
 
-// Sets the words of one column from one position up to another to 0.
-fn clear(column: &mut [u32], from: usize, to: usize)
-    requires { ⌜ (from ≤ to) × (to ≤ length (now column)) ⌝ }
-    ensures { λ _. ⌜ now (column .exit) ≡ cleared from to (now (column .entry)) ⌝ }
-{
-    let mut i = from;
-    while i < to {
-        column[i] = 0;
-        i += 1;
-    }
-}
-
-// Sets them to 0 in each of the columns.
-fn clear_all(part: &mut [u32], size: usize, columns: usize, from: usize, to: usize)
-    requires { ⌜ (length (now part) ≡ columns * size) × (from ≤ to) × (to ≤ size) ⌝ }
-    ensures { λ _. ⌜ now (part .exit) ≡ onParts (cleared from to) size columns (now (part .entry)) ⌝ }
-{
-    let mut c = 0;
-    while c < columns {
-        let a = c * size;
-        let e = a + size;
-        clear(&mut part[a..e], from, to);
-        c += 1;
-    }
-}
-
-// Compacts columns of one size that stand one after the other. Nothing is marked before the first slot given, and so
-// many of the first count are kept. The next run is looked for before the one that was found, from a up to e, moves.
-// Ruled out: a word of a marked slot stays; a word moves into another column.
-pub fn compact_columns(
+// Moves the words of the slots that are left down, run by run, in all columns. Nothing is marked before the first slot
+// given, and so many of the first count are left. The next run is looked for before the one found, from a to e, moves.
+// Ruled out: a word of a marked slot among those that are left; a word that moves into another column.
+pub fn move_by_runs(
     part: &mut [u32],
     size: usize,
     columns: usize,
@@ -140,8 +114,8 @@ pub fn compact_columns(
     requires sizes { ⌜ (length (now part) ≡ columns * size) × (first ≤ count) × (count ≤ size) × (count ≤ ROWS) ⌝ }
     requires clear { ⌜ NoneMarked (marksIn (now marks)) 0 first ⌝ }
     requires kept { ⌜ kept ≡ lefts (marksIn (now marks)) count ⌝ }
-    ensures { λ _. ⌜ now (part .exit) ≡ onParts (compacted (marksIn (now (marks .entry))) count) size columns
-        (now (part .entry)) ⌝ }
+    ensures { λ _. ⌜ Moved (marksIn (now (marks .entry))) size columns (now (part .entry)) (now (part .exit))
+        count kept ⌝ }
 {
     let mut j = first;
     let mut a = first;
@@ -155,5 +129,4 @@ pub fn compact_columns(
         a = b;
         e = f;
     }
-    clear_all(part, size, columns, kept, count);
 }

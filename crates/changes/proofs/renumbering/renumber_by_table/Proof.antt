@@ -54,7 +54,7 @@ remap-requires : tie.Need-remap-requires
 remap-requires c κs =
     let s = c .before .before .before .before .before .before in
     let t = now (s .args .t) in
-    (s .pre .0 .2, room t 6144 (s .args .count) (s .pre .0 .0) (lit≤ tt) (s .pre .0 .3))
+    (s .pre .0 .2, room t 6144 (s .args .count) (s .pre .0 .0) (lit≤ tt) (s .pre .0 .3), search needs)
 
 sub-remap-2 : tie.Need-sub-remap-2
 sub-remap-2 c = search needs
@@ -80,7 +80,7 @@ remap-requires-2 c κs =
     let t = now (s .args .t) in
     let ys = called .remap .last .0 in
     let once : List ℕ = back 6144 1024 t ys in
-    (s .pre .0 .2, room once 7168 (s .args .count) (long-once t ys (s .pre .0 .0) (called .remap .kept .0)) (lit≤ tt) (s .pre .0 .3))
+    (s .pre .0 .2, room once 7168 (s .args .count) (long-once t ys (s .pre .0 .0) (called .remap .kept .0)) (lit≤ tt) (s .pre .0 .3), search needs)
 
 same-length : tie.Need-same-length
 same-length c =
@@ -107,8 +107,8 @@ returns c =
     renumbers-both ms (s .args .count) t ys zs (s .pre .0 .0)
     (first .remap .kept .0 ∙ part-long 6144 1024 t (within t 7168 (s .pre .0 .0) (lit≤ tt)))
     (second .remap2 .kept .0 ∙ part-long 7168 1024 once (within once 8192 long (lit≤ tt)))
-    (renumbered-by ms (s .args .first) (s .args .count) (s .pre .1 .0) (s .args .left) to (midOf 6144 1024 t) ys (s .pre .1 .1) (ranked .ranks .ensures) (first .remap .ensures))
-    (renumbered-by ms (s .args .first) (s .args .count) (s .pre .1 .0) (s .args .left) to (midOf 7168 1024 once) zs (s .pre .1 .1) (ranked .ranks .ensures) (second .remap2 .ensures))
+    (renumbered-by ms (s .args .first) (s .args .count) (s .pre .1 .0) (s .args .left) to (midOf 6144 1024 t) ys (s .pre .0 .3) (s .pre .1 .1) (ranked .ranks .ensures) (first .remap .ensures))
+    (renumbered-by ms (s .args .first) (s .args .count) (s .pre .1 .0) (s .args .left) to (midOf 7168 1024 once) zs (s .pre .0 .3) (s .pre .1 .1) (ranked .ranks .ensures) (second .remap2 .ensures))
 
 pub renumber-by-table-spec : {M : Type 1} → statement M
 renumber-by-table-spec =

@@ -9,8 +9,8 @@ use lib.ListN.{length, take, drop, length-set}
 use Rattle.rows.specs.Lists.{pad}
 use Rattle.changes.specs.contracts.Marks.{cleared}
 use Rattle.changes.proofs.Keep.{clear-start, clear-turn}
-use Rattle.changes.proofs.runs.clear.Statement.{statement}
-use Rattle.changes.proofs.runs.clear.Tie as tie
+use Rattle.changes.proofs.clear.clear.Statement.{statement}
+use Rattle.changes.proofs.clear.clear.Tie as tie
 
 abbrev Inv-loop : tie.InvT-loop
 Inv-loop column₀ from to i₀ column i = (from ≤ i) × (i ≤ to) × (length column ≡ length column₀) × (column ≡ pad 0 i (take from column₀) ++ drop i column₀)

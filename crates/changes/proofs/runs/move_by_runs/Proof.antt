@@ -5,16 +5,16 @@ use Prim.Native.Nat.{ℕ, _≤_, _<_, _-_, _+_, _*_}
 use native.Mathlib.Nat.{le-refl, eq-or-lt-of-le}
 use native.Mathlib.Omega.{arith}
 use mathlib.Core.Logic.{⊎-elim}
-use mathlib.Core.Path.{_≡_, ap, sym, _∙_}
+use mathlib.Core.Path.{_≡_, sym, subst, _∙_}
 use denote.Ref.{now}
 use lib.ListN.{length}
 use Rattle.changes.specs.contracts.Bits.{marksIn}
-use Rattle.changes.specs.contracts.Marks.{NoneMarked, lefts, cleared, onParts}
+use Rattle.changes.specs.contracts.Marks.{Moved, NoneMarked, lefts}
 use Rattle.changes.proofs.Lefts.{lefts-le, lefts-clear, lefts-marked, lefts-run, lefts-up, still-some, all-marked}
-use Rattle.changes.proofs.Parts.{Moved, moved-start, moved-skip, moved-run, moved-end}
+use Rattle.changes.proofs.Parts.{moved-start, moved-skip, moved-run}
 use Rattle.changes.proofs.Slide.{run-forth}
-use Rattle.changes.proofs.runs.compact_columns.Statement.{statement}
-use Rattle.changes.proofs.runs.compact_columns.Tie as tie
+use Rattle.changes.proofs.runs.move_by_runs.Statement.{statement}
+use Rattle.changes.proofs.runs.move_by_runs.Tie as tie
 
 abbrev Inv-loop : tie.InvT-loop
 Inv-loop part₀ size columns marks first kept count j₀ a₀ e₀ part j a e =
@@ -101,32 +101,23 @@ loop-again c =
           (l .inv .0) (omega (arith, l .inv .1, s .pre .0 .2)) (l .inv .3) (slid .last .0) (slid .ensures)),
     )
 
-clear-all-requires : tie.Need-clear-all-requires Inv-loop μ-loop
-clear-all-requires c κs =
-    let l = c .before .before .loop in
-    let s = c .before .before .before .before in
-    (l .inv .4, omega (arith, s .pre .1 .1, lefts-le (marksIn (now (s .args .marks))) (s .args .count)), s .pre .0 .2)
-
 same-length : tie.Need-same-length Inv-loop μ-loop
 same-length c = search needs
 
 returns : tie.Need-returns Inv-loop μ-loop
 returns c =
-    let called = c .before .before .clear-all in
-    let l = c .before .before .before .before .before .loop in
-    let s = c .before .before .before .before .before .before .before in
+    let l = c .before .loop in
+    let s = c .before .before .before in
     let ms = marksIn (now (s .args .marks)) in
     let count : ℕ = s .args .count in
     let within : l .a ≤ count = omega (arith, l .inv .0, l .inv .1) in
-    let same : s .args .kept ≡ l .j = omega (arith, c .before .before .before .before .loop-test .left, l .inv .2, s .pre .1 .1, lefts-up ms (l .a) count within) in
-    called .ensures
-    ∙ ap (λ (k : ℕ). onParts (cleared k count) (s .args .size) (s .args .columns) (l .part)) same
-    ∙ moved-end ms count (s .args .size) (s .args .columns) (now (s .args .part)) (l .part) (l .j)
+    let same : l .j ≡ s .args .kept = omega (arith, c .loop-test .left, l .inv .2, s .pre .1 .1, lefts-up ms (l .a) count within) in
+    subst (λ (k : ℕ). Moved ms (s .args .size) (s .args .columns) (now (s .args .part)) (l .part) count k) same
     (moved-skip ms (s .args .size) (s .args .columns) count (now (s .args .part)) (l .part) (l .a) (l .j) (s .pre .0 .0) within (s .pre .0 .2)
     (all-marked ms (l .a) count (omega (arith, same, l .inv .2, s .pre .1 .1))) (l .inv .5))
 
-pub compact-columns-spec : {M : Type 1} → statement M
-compact-columns-spec =
+pub move-by-runs-spec : {M : Type 1} → statement M
+move-by-runs-spec =
     tie.close
     (tie.spec
     Inv-loop
@@ -139,6 +130,5 @@ compact-columns-spec =
     add-j
     loop-less
     loop-again
-    clear-all-requires
     same-length
     returns)

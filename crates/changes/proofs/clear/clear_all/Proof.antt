@@ -8,8 +8,8 @@ use denote.Ref.{now}
 use lib.ListN.{length}
 use Rattle.changes.specs.contracts.Marks.{cleared}
 use Rattle.changes.proofs.Parts.{part-end, Changed, changed-start, changed-long, changed-turn, changed-end, cleared-keeps}
-use Rattle.changes.proofs.runs.clear_all.Statement.{statement}
-use Rattle.changes.proofs.runs.clear_all.Tie as tie
+use Rattle.changes.proofs.clear.clear_all.Statement.{statement}
+use Rattle.changes.proofs.clear.clear_all.Tie as tie
 
 abbrev Inv-loop : tie.InvT-loop
 Inv-loop part₀ size columns from to c₀ part c =
