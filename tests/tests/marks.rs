@@ -8,6 +8,12 @@ use kernel::layout::{
 use kernel::{plain, RequestMarks, RowMarks, SlotBits};
 use model::random::Rng;
 
+/// Counts that end before, at and after the end of a word.
+const AT_WORDS: [usize; 8] = [63, 64, 65, 127, 128, 129, 1_023, 1_024];
+
+/// Of 100 slots so many are marked.
+const IN_100: [u32; 15] = [0, 1, 2, 5, 10, 20, 30, 50, 70, 80, 90, 95, 98, 99, 100];
+
 /// Words of tables with all rows, each word another; the sources of a row are any two older ones.
 fn lent(rng: &mut Rng) -> Vec<u32> {
     let mut t = vec![0; TABLES_WORDS];
@@ -106,12 +112,55 @@ fn counts() {
 #[test]
 fn any_marks() {
     let mut rng = Rng::new(35);
-    for count in [10, 63, 64, 65, 100, 128, 1_000, 1_024] {
-        for in_100 in [1, 2, 10, 50, 90, 98, 99] {
+    for count in [10, 100, 1_000].into_iter().chain(AT_WORDS) {
+        for in_100 in IN_100 {
             let t = lent(&mut rng);
             for _ in 0..10 {
                 agree(&t, count, &std::array::from_fn(|_| rng.percent(in_100)));
             }
+        }
+    }
+}
+
+/// One slot in up to ten is marked, or left. What is left moves by words of marks where its runs are short, or by runs.
+#[test]
+fn one_slot_in_few() {
+    let t = lent(&mut Rng::new(37));
+    for count in AT_WORDS {
+        for few in 2..=10 {
+            for one in 0..few {
+                agree(&t, count, &std::array::from_fn(|slot| slot % few == one));
+                agree(&t, count, &std::array::from_fn(|slot| slot % few != one));
+            }
+        }
+    }
+}
+
+/// Every other slot is marked from one beside a word on, or up to it.
+#[test]
+fn every_other_slot_of_a_part() {
+    let t = lent(&mut Rng::new(38));
+    for count in AT_WORDS {
+        for slot in beside_words().filter(|slot| *slot <= count) {
+            let other = |i: usize| i % 2 == slot % 2;
+            agree(&t, count, &std::array::from_fn(|i| i >= slot && other(i)));
+            agree(&t, count, &std::array::from_fn(|i| i < slot && other(i)));
+        }
+    }
+}
+
+/// Few rows go, next to each other or far apart: fewer than four are set to 0 row by row.
+#[test]
+fn few_rows_go() {
+    let t = lent(&mut Rng::new(39));
+    for count in AT_WORDS {
+        for gone in 1..=6 {
+            for from in [0, 30, 59, count - gone] {
+                let run = from..from + gone;
+                agree(&t, count, &std::array::from_fn(|slot| run.contains(&slot)));
+            }
+            let apart = count / gone;
+            agree(&t, count, &std::array::from_fn(|slot| slot % apart == 1));
         }
     }
 }
@@ -128,8 +177,9 @@ fn requests() {
         let last = count.wrapping_sub(1);
         let beside = [0, 62, 63, 64, 65, last, count];
         let one = beside.map(|gone| std::array::from_fn(|slot| slot == gone));
-        let any = [0, 2, 50, 98, 100].map(|in_100| std::array::from_fn(|_| rng.percent(in_100)));
-        for marks in one.iter().chain(&any) {
+        let any = IN_100.map(|in_100| std::array::from_fn(|_| rng.percent(in_100)));
+        let one_in = [2, 3, 4, 8, 9].map(|few| std::array::from_fn(|slot| slot % few == 1));
+        for marks in one.iter().chain(&any).chain(&one_in) {
             let marks: &RequestMarks = marks;
             let (mut proved, mut plainly) = (t.clone(), t.clone());
             remove_requests(&mut proved, marks);
