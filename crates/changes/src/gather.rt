@@ -29,7 +29,7 @@ fn list_left(slots: &mut [u16], marks: &SlotBits, from: usize, end: usize) -> us
     n
 }
 
-// Moves the words of the first slots of a list down in one column.
+// Moves down, in one column, the words of the first slots of a list.
 fn gather(column: &mut [u32], to: usize, slots: &[u16], n: usize)
     requires { ⌜ (n ≤ length (now slots)) × Ahead to (length (now column)) (now slots) n ⌝ }
     ensures { λ _. ⌜ now (column .exit) ≡ gathered to (now (slots .entry)) n (now (column .entry)) ⌝ }
@@ -57,7 +57,8 @@ fn gather_all(part: &mut [u32], size: usize, columns: usize, to: usize, slots: &
     }
 }
 
-// Moves the words of the slots from one up to an end in the same word that are left down, and says how many they are.
+// Moves down the words of the slots from one up to an end in the same word that are not marked, and says how many they
+// are.
 fn gather_word(
     part: &mut [u32],
     size: usize,
@@ -79,8 +80,8 @@ fn gather_word(
     n
 }
 
-// Moves the words of the slots that are left down, a word of marks at a time, in all columns. Nothing is marked before
-// the first slot given, and so many of the first count are left.
+// Moves down, a word of marks at a time and in all columns, the words of the slots that are not marked. Nothing is
+// marked before the first slot given, and so many of the first count are left.
 // Ruled out: a word of a marked slot among those that are left; a word that moves into another column.
 pub fn move_by_words(
     part: &mut [u32],

@@ -99,8 +99,9 @@ fn slide_all(part: &mut [u32], size: usize, columns: usize, to: usize, from: usi
     }
 }
 
-// Moves the words of the slots that are left down, run by run, in all columns. Nothing is marked before the first slot
-// given, and so many of the first count are left. The next run is looked for before the one found, from a to e, moves.
+// Moves down, run by run and in all columns, the words of the slots that are not marked. Nothing is marked before the
+// first slot given, and so many of the first count are left. The next run is looked for before the one found, from a up
+// to e, moves.
 // Ruled out: a word of a marked slot among those that are left; a word that moves into another column.
 pub fn move_by_runs(
     part: &mut [u32],
