@@ -104,7 +104,7 @@ module _ (ms : List Bool) (from : ℕ) where
         listed = λ i a b out. absurd (omega arith);
       }
 
-  module _ (slots : List ℕ) (i n : ℕ) (p : Lists ms from i slots n) (h : from ≤ i) (room : n < length slots) where
+  module _ (slots : List ℕ) (i n : ℕ) (p : Lists ms from i slots n) (room : n < length slots) where
     -- the word n is written over: what is listed stays
     listed-before : (x : ℕ) → from ≤ x → x < i → getD ms x false ≡ false → getD (set slots n i) (lefts ms x - lefts ms from) 0 ≡ x
     listed-before x a b out =

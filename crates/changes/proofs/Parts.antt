@@ -184,30 +184,30 @@ gathered-keeps k to slots n room l e = length-gathered l to slots n (omega arith
 pub cleared-keeps : (k from to : ℕ) → from ≤ to → to ≤ k → Keeps (cleared from to) k
 cleared-keeps k from to h room l e = length-cleared from to l h (omega arith) ∙ e
 
+-- a change of each part that passes the words from i up to e, so that n stand in front
+moved-by : (ms : List Bool) (k m : ℕ) (l₀ l : List ℕ) → length l₀ ≡ m * k → length l ≡ m * k → (i j e n : ℕ) → Moved ms k m l₀ l i j
+    → (f : List ℕ → List ℕ) → Keeps f k → ((x₀ x : List ℕ) → length x₀ ≡ k → Passed ms x₀ x i j → Passed ms x₀ (f x) e n)
+    → (l′ : List ℕ) → l′ ≡ onParts f k m l → Moved ms k m l₀ l′ e n
+moved-by ms k m l₀ l long₀ long i j e n p f keeps passes l′ is = λ c lt.
+    let w : c * k + k ≤ m * k = part-end k c m lt in
+    let same : part k l′ c ≡ f (part k l c) = ap (λ (t : List ℕ). part k t c) is ∙ part-of f k keeps l m c lt (omega (arith, long)) in
+    subst (λ (t : List ℕ). Passed ms (part k l₀ c) t e n) (sym same)
+    (passes (part k l₀ c) (part k l c) (part-long (c * k) k l₀ (omega (arith, long₀))) (p c lt))
+
 pub moved-run : (ms : List Bool) (k m : ℕ) (l₀ l : List ℕ) → length l₀ ≡ m * k → length l ≡ m * k
     → (i j e : ℕ) → Moved ms k m l₀ l i j → j ≤ i → i ≤ e → e ≤ k → NoneMarked ms i e
     → (l′ : List ℕ) → l′ ≡ onParts (slid j i (e - i)) k m l → Moved ms k m l₀ l′ e (j + (e - i))
-moved-run ms k m l₀ l long₀ long i j e p back h room clear l′ is = λ c lt.
-    let w : c * k + k ≤ m * k = part-end k c m lt in
-    let long-part : length (part k l₀ c) ≡ k = part-long (c * k) k l₀ (omega (arith, long₀)) in
-    let keeps : Keeps (slid j i (e - i)) k = slid-keeps k j i (e - i) back (omega arith) in
-    let same : part k l′ c ≡ slid j i (e - i) (part k l c) =
-    ap (λ (t : List ℕ). part k t c) is ∙ part-of (slid j i (e - i)) k keeps l m c lt (omega (arith, long)) in
-    subst (λ (t : List ℕ). Passed ms (part k l₀ c) t e (j + (e - i))) (sym same)
-    (passed-run ms (part k l₀ c) (part k l c) i j e (p c lt) h (omega (arith, long-part)) clear)
+moved-run ms k m l₀ l long₀ long i j e p back h room clear l′ is =
+    moved-by ms k m l₀ l long₀ long i j e (j + (e - i)) p (slid j i (e - i)) (slid-keeps k j i (e - i) back (omega arith))
+    (λ x₀ x long-part q. passed-run ms x₀ x i j e q h (omega arith) clear) l′ is
 
 -- the slots from i up to e that are left are listed
 pub moved-listed : (ms : List Bool) (k m : ℕ) (l₀ l : List ℕ) → length l₀ ≡ m * k → length l ≡ m * k
     → (i j e : ℕ) → Moved ms k m l₀ l i j → j ≤ i → e ≤ k → (slots : List ℕ) (n : ℕ) → Lists ms i e slots n
     → (l′ : List ℕ) → l′ ≡ onParts (gathered j slots n) k m l → Moved ms k m l₀ l′ e (j + n)
-moved-listed ms k m l₀ l long₀ long i j e p back room slots n q l′ is = λ c lt.
-    let w : c * k + k ≤ m * k = part-end k c m lt in
-    let long-part : length (part k l₀ c) ≡ k = part-long (c * k) k l₀ (omega (arith, long₀)) in
-    let keeps : Keeps (gathered j slots n) k = gathered-keeps k j slots n (omega (arith, q .few)) in
-    let same : part k l′ c ≡ gathered j slots n (part k l c) =
-    ap (λ (t : List ℕ). part k t c) is ∙ part-of (gathered j slots n) k keeps l m c lt (omega (arith, long)) in
-    subst (λ (t : List ℕ). Passed ms (part k l₀ c) t e (j + n)) (sym same)
-    (passed-listed ms (part k l₀ c) (part k l c) i j e (p c lt) slots n q (omega (arith, long-part)))
+moved-listed ms k m l₀ l long₀ long i j e p back room slots n listed l′ is =
+    moved-by ms k m l₀ l long₀ long i j e (j + n) p (gathered j slots n) (gathered-keeps k j slots n (omega (arith, listed .few)))
+    (λ x₀ x long-part q. passed-listed ms x₀ x i j e q slots n listed (omega arith)) l′ is
 
 -- all slots that are not passed are marked
 pub moved-skip : (ms : List Bool) (k m n : ℕ) (l₀ l : List ℕ) (i j : ℕ) → length l₀ ≡ m * k → i ≤ n → n ≤ k → AllMarked ms i n

@@ -69,8 +69,8 @@ loop-again c =
     let room : l .n < length (l .slots) = omega (arith, l .inv .2, l .inv .3 .few, s .pre .0, word) in
     let is = mark-with 64 (lit< tt) marks (s .args .from) (l .i) word in
     let listed : Lists ms (s .args .from) (l .i + 1) (set (l .slots) (l .n) (l .i)) (c .if1 .n) =
-    ⊎-elim (λ q. rw (q .1) (lists-left ms (s .args .from) (l .slots) (l .i) (l .n) (l .inv .3) (l .inv .0) room (is ∙ bit-even w (l .i % 64) (q .0 .taken))))
-    (λ q. rw (q .1) (lists-marked ms (s .args .from) (l .slots) (l .i) (l .n) (l .inv .3) (l .inv .0) room (is ∙ bit-odd w (l .i % 64) (q .0 .left))))
+    ⊎-elim (λ q. rw (q .1) (lists-left ms (s .args .from) (l .slots) (l .i) (l .n) (l .inv .3) room (is ∙ bit-even w (l .i % 64) (q .0 .taken))))
+    (λ q. rw (q .1) (lists-marked ms (s .args .from) (l .slots) (l .i) (l .n) (l .inv .3) room (is ∙ bit-odd w (l .i % 64) (q .0 .left))))
     (c .if1 .came) in
     (search needs, search needs, length-set (l .slots) (l .n) (l .i) ∙ l .inv .2, listed)
 
