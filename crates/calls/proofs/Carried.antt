@@ -13,14 +13,14 @@ use Rattle.rows.specs.contracts.Sizes.{IsTables, IsRecords}
 use Rattle.calls.specs.declared.Answer.the-variants.{Refused}
 use Rattle.calls.specs.declared.Answer.{Answer}
 use Rattle.calls.specs.declared.Call.{Call}
-use Rattle.calls.specs.declared.Call.the-variants.{Go, Hold, Register, Drop, Port, Close, Ask, Fetch, Revoke, Comes}
+use Rattle.calls.specs.declared.Call.the-variants.{Go, Hold, Register, Drop, Port, Close, Ask, Fetch, Revoke, Comes, Chain}
 use Rattle.calls.specs.Rules.{Out, lowest, refused, judge}
-use Rattle.calls.specs.Calls.{refusals, done, made, fetchedAnswer, effect, perform}
+use Rattle.calls.specs.Calls.{refusals, done, made, fetchedAnswer, chainedAnswer, effect, perform}
 use Rattle.calls.specs.contracts.Performs.{Agrees, RunsAfter, Performs, StaysIfRefused}
 
 -- what is done answers no refusal
 effect-accepts : (st : State) (c : Call) (k : ℕ) → effect st c .answer ≡ Refused k → ⊥
-unfolding effect done made fetchedAnswer
+unfolding effect done made fetchedAnswer chainedAnswer
 effect-accepts st (Go p e) k h = let z : _≡_ {A = ℕ} 0 1 = cc in omega arith
 effect-accepts st (Hold p s) k h = let z : _≡_ {A = ℕ} 0 1 = cc in omega arith
 effect-accepts st (Register p e) k h = let z : _≡_ {A = ℕ} 0 1 = cc in omega arith
@@ -32,6 +32,7 @@ effect-accepts st (Fetch p e) k h = let z : _≡_ {A = ℕ} 0 1 = cc in omega ar
 effect-accepts st (Call.Answer p e served) k h = let z : _≡_ {A = ℕ} 0 1 = cc in omega arith
 effect-accepts st (Revoke p q) k h = let z : _≡_ {A = ℕ} 0 1 = cc in omega arith
 effect-accepts st (Comes e q) k h = let z : _≡_ {A = ℕ} 0 1 = cc in omega arith
+effect-accepts st (Chain e) k h = let z : _≡_ {A = ℕ} 0 1 = cc in omega arith
 
 refused-after : (st : State) (c : Call) (k : ℕ) → perform st c .answer ≡ Refused k → perform st c .after ≡ st
 unfolding perform judge refused

@@ -8,7 +8,7 @@ use borrow.Author.Tests.{eq-eqb, ne-eqb}
 use Rattle.rows.specs.declared.Process.{Process}
 use Rattle.rows.specs.declared.Request.{Request}
 use Rattle.rows.specs.Codes.{isOperation}
-use Rattle.rows.specs.Tables.{State, rowOf, comesFrom}
+use Rattle.rows.specs.Tables.{State, rowOf, comesFrom, firstChain}
 use Rattle.rows.specs.Setters.{withProcesses}
 use Rattle.rows.specs.Sound.{rowsRise, requestsRise, rowsFit, requestsFit, itemsFew, sound}
 use Rattle.rows.specs.Layout.{rowSlot, wordsOf}
@@ -17,13 +17,14 @@ use Rattle.tables.proofs.Sound.{sound-open}
 use Rattle.tables.proofs.SoundFacts.{row-object, manager-listed, listed-range}
 use Rattle.rows.specs.contracts.Represents.{laidWell, Represents}
 use Rattle.calls.specs.declared.Items.{Items}
+use Rattle.calls.specs.declared.Answer.{Answer}
 use Rattle.calls.specs.declared.Answer.the-variants.{Done, Made, Fetched, Told}
 use Rattle.calls.specs.declared.Call.{Call}
-use Rattle.calls.specs.declared.Call.the-variants.{Go, Hold, Register, Drop, Port, Close, Ask, Fetch, Revoke, Comes}
+use Rattle.calls.specs.declared.Call.the-variants.{Go, Hold, Register, Drop, Port, Close, Ask, Fetch, Revoke, Comes, Chain}
 use Rattle.closing.specs.Closing.{closeRequest, closePort, dropRow}
 use Rattle.calls.specs.Loans.{itemsOf, withRequest, handedOver}
 use Rattle.calls.specs.Rules.{askedOf, withRecord, withNewRows}
-use Rattle.calls.specs.Calls.{goHome, goThrough, withHeld, withRegistered, withPort, done, made, fetchedAnswer, effect}
+use Rattle.calls.specs.Calls.{goHome, goThrough, withHeld, withRegistered, withPort, done, made, fetchedAnswer, chainedAnswer, effect}
 use Rattle.calls.specs.contracts.Performs.{Answers, Agrees}
 
 -- the words say nothing of the records
@@ -105,7 +106,7 @@ module _ {after : List ℕ} (st : State) (p e : ℕ) (r : List Process) where
       let h′ = subst (λ (n : ℕ). Represents after (closeRequest n st) × (r ≡ closeRequest n st .processes)) same h in
       record { answer = refl; words = h′ .0; records = h′ .1 }
 
--- ---- fetch and comes
+-- ---- fetch, comes and chain
 pub fetched-request : {after : List ℕ} (st : State) (p e : ℕ) (v : Request) → v ≡ askedOf st e → Represents after (handedOver p (askedOf st e) st)
     → Answers after (Fetched (v .number) (getD (v .items) 0 0) (getD (v .items) 1 0) (getD (v .items) 2 0) (getD (v .items) 3 0)) (effect st (Fetch p e))
 unfolding effect fetchedAnswer
@@ -119,3 +120,8 @@ pub told-comes : {t : List ℕ} (st : State) (e q : ℕ) (b : Bool) {ps : List P
     → Agrees t ps (Told b) (effect st (Comes e q))
 unfolding effect
 told-comes st e q b rep same h = record { answer = ap Told h; words = rep; records = sym same }
+
+pub told-chain : {t : List ℕ} (st : State) (e : ℕ) (r : Answer) {ps : List Process} → Represents t st → st .processes ≡ ps → r ≡ chainedAnswer (firstChain (st .rows) e)
+    → Agrees t ps r (effect st (Chain e))
+unfolding effect
+told-chain st e r rep same h = record { answer = h; words = rep; records = sym same }

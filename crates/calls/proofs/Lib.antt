@@ -13,6 +13,8 @@ pub mod Judging
 pub mod Refusing
 -- what the effect of each call leaves, as its function answers it
 pub mod Effected
+-- the answer of chain, read off the words written
+pub mod Chained
 -- whether a row is a source of another: the loop over all rows
 pub mod Used
 -- tests of several items joined

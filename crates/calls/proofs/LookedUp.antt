@@ -20,7 +20,8 @@ use Rattle.rows.proofs.Slots.{found-at, row-words, row-absent, row-none, row-fo
 use Rattle.rows.proofs.Bools.{and-rf, pos-some}
 use Rattle.tables.proofs.Sound.{sound-open}
 use Rattle.tables.proofs.SoundFacts.{row-below}
-use Rattle.questions.proofs.Questions.{reaches-none, depth-falls}
+use Rattle.tables.proofs.Standing.{depth-falls}
+use Rattle.questions.proofs.Questions.{reaches-none}
 use Rattle.calls.specs.contracts.Lookups.{slotIn, NotTooDeep}
 
 -- ---- a row in a place
@@ -66,7 +67,7 @@ depth-most st sd e = pick (rowSlot (st .rows) e) refl
   where
     pick : (s : ℕ) → rowSlot (st .rows) e ≡ s → rowOf (st .rows) e .depth ≤ 12
     pick zero h = let z = depth-absent [] st e h in omega arith
-    pick (suc i) h = depth-falls st (sound-open st sd) e (row-found (st .rows) e i h .0) .2
+    pick (suc i) h = depth-falls st (sound-open st sd .numbers) (sound-open st sd .rows) e (row-found (st .rows) e i h .0) .2
 
 -- one more than the greater of two depths
 pub over-first : (st : State) (a b : ℕ) {x y : ℕ} → x ≡ rowOf (st .rows) a .depth → y ≡ rowOf (st .rows) b .depth → y ≤ x → x + 1 ≡ depthOver (st .rows) a b

@@ -20,7 +20,7 @@ use Rattle.rows.proofs.Bools.{pos-some}
 use Rattle.rows.proofs.Keyed.{rises-range}
 use Rattle.rows.proofs.Slots.{represented-well, row-found, row-absent, request-found, request-absent, open-absent}
 use Rattle.calls.specs.Rules.{Test, _when_, lowest, notHeld, askedOf, tooDeep, rowsFull, numbersSpent}
-use Rattle.calls.specs.Calls.{refusalsGo, refusalsHold, heldDepth, refusalsRegister, registeredDepth, refusalsPort, portDepth, inUse, refusalsDrop, refusalsClose, refusalsFetch, refusalsRevoke, refusalsComes}
+use Rattle.calls.specs.Calls.{refusalsGo, refusalsHold, heldDepth, refusalsRegister, registeredDepth, refusalsPort, portDepth, inUse, refusalsDrop, refusalsClose, refusalsFetch, refusalsRevoke, refusalsComes, refusalsChain}
 use Rattle.calls.proofs.Handed.{open-number}
 
 -- ---- room for k rows of depth d
@@ -219,6 +219,15 @@ module _ (st : State) (e q : ℕ) where
   pub comes-both : eqb (rowOf (st .rows) e .number) 0 ≡ false → eqb (requestOf (st .requests) q .number) 0 ≡ false → 0 ≡ lowest (refusalsComes st e q)
   unfolding refusalsComes lowest
   comes-both a b = rw (a, b) refl
+
+module _ (st : State) (e : ℕ) where
+  pub chain-no-row : rowSlot (st .rows) e ≡ 0 → 7 ≡ lowest (refusalsChain st e)
+  unfolding refusalsChain lowest noRow
+  chain-no-row h = rw (row-absent (st .rows) e h) refl
+
+  pub chain-row : eqb (rowOf (st .rows) e .number) 0 ≡ false → 0 ≡ lowest (refusalsChain st e)
+  unfolding refusalsChain lowest
+  chain-row a = rw a refl
 
 -- what stands has a number
 module _ {t : List ℕ} {st : State} (rep : Represents t st) where

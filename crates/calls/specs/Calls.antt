@@ -1,5 +1,5 @@
--- The eleven calls on a state (docs/MANUAL.md, chapter 4). Of each the refusals 7 to 18, the lowest first; then, in one table, what each does where nothing refuses it.
-use Prim.Native.Nat.{ℕ, suc}
+-- The twelve calls on a state (docs/MANUAL.md, chapter 4). Of each the refusals 7 to 18, the lowest first; then, in one table, what each does where nothing refuses it.
+use Prim.Native.Nat.{ℕ, suc, _+_}
 use mathlib.Core.Bool.{Bool, not, _&&_, _||_}
 use mathlib.Core.List.{List, [], _∷_}
 use lib.Dec.{ltb, eqb}
@@ -8,15 +8,16 @@ use Rattle.rows.specs.declared.Row.{Row}
 use Rattle.rows.specs.declared.Request.{Request}
 use Rattle.rows.specs.Lists.{if_then_else_, filter, any, member, some, nonzero}
 use Rattle.rows.specs.Codes.{clientEnd, serverEnd, isOperation, isSubdirectory, isClient, isServer, isEnd, inNode, inClist, mayHold, mayTransfer, mayRegister, within}
-use Rattle.rows.specs.Tables.{State, rowOf, requestOf, processAt, sources, depthOver, comesFrom, lists, goesBack, onLoan, isLent}
+use Rattle.rows.specs.Tables.{State, rowOf, requestOf, processAt, sources, depthOver, comesFrom, firstChain, lists, goesBack, onLoan, isLent}
 use Rattle.rows.specs.Setters.{inPrimeNode, wentThrough}
 use Rattle.rows.specs.Sound.{isFetched}
 use Rattle.closing.specs.Closing.{closeRequest, closePort, dropRow}
 use Rattle.calls.specs.declared.Item.{Item}
+use Rattle.calls.specs.declared.Four.{Four}
 use Rattle.calls.specs.declared.Call.{Call}
-use Rattle.calls.specs.declared.Call.the-variants.{Go, Hold, Register, Drop, Port, Close, Ask, Fetch, Revoke, Comes}
+use Rattle.calls.specs.declared.Call.the-variants.{Go, Hold, Register, Drop, Port, Close, Ask, Fetch, Revoke, Comes, Chain}
 use Rattle.calls.specs.declared.Answer.{Answer}
-use Rattle.calls.specs.declared.Answer.the-variants.{Done, Made, Fetched, Told}
+use Rattle.calls.specs.declared.Answer.the-variants.{Done, Made, Fetched, Told, Chained}
 use Rattle.calls.specs.Rules.{Out, Test, _when_, judge, notHeld, hasOpen, askedOf, tooDeep, rowsFull, requestsFull, numbersSpent, withNewRows, copyOf, withRecord}
 use Rattle.calls.specs.Loans.{itemsOf, itemRow, moves, copies, copyDepth, withRequest, handedOver}
 
@@ -244,7 +245,14 @@ refusalsComes st e q =
     7 when (eqb (rowOf (st .rows) e .number) 0 || eqb (requestOf (st .requests) q .number) 0)
     ∷ []
 
--- ---- all eleven
+-- ---- chain
+unfoldable pub refusalsChain : State → ℕ → List Test
+refusalsChain st e =
+    -- (rule chain-7) no row e stands
+    7 when eqb (rowOf (st .rows) e .number) 0
+    ∷ []
+
+-- ---- all twelve
 -- (rule F8) the tests of a call, lowest number first
 unfoldable pub refusals : State → Call → List Test
 refusals st (Go p e) = refusalsGo st p e
@@ -258,8 +266,9 @@ refusals st (Fetch p e) = refusalsFetch st p e
 refusals st (Call.Answer p e served) = refusalsAnswer st p e served
 refusals st (Revoke p q) = refusalsRevoke st p q
 refusals st (Comes e q) = refusalsComes st e q
+refusals st (Chain e) = refusalsChain st e
 
--- (rule K4) no new number; a new number; what was fetched
+-- (rule K4) no new number; a new number; what was fetched; the rows of a chain
 unfoldable pub done : State → Out
 done st = record { answer = Done; after = st }
 
@@ -269,7 +278,13 @@ made n st = record { answer = Made n; after = st }
 unfoldable pub fetchedAnswer : Request → Answer
 fetchedAnswer v = let is = v .items in Fetched (v .number) (getD is 0 0) (getD is 1 0) (getD is 2 0) (getD is 3 0)
 
--- (rules go-ok, hold-ok, register-ok, drop-ok, port-ok, close-ok, ask-ok-4, fetch-ok, answer-ok, revoke-ok, comes-ok)
+unfoldable pub fourFrom : List ℕ → ℕ → Four
+fourFrom ns i = record { first = getD ns i 0; second = getD ns (i + 1) 0; third = getD ns (i + 2) 0; fourth = getD ns (i + 3) 0 }
+
+unfoldable pub chainedAnswer : List ℕ → Answer
+chainedAnswer ns = Chained (fourFrom ns 0) (fourFrom ns 4) (fourFrom ns 8)
+
+-- (rules go-ok, hold-ok, register-ok, drop-ok, port-ok, close-ok, ask-ok-4, fetch-ok, answer-ok, revoke-ok, comes-ok, chain-ok)
 -- what each answers and does where no test holds
 unfoldable pub effect : State → Call → Out
 effect st (Go p e) = done (if eqb e 0 then goHome st p else goThrough st p e)
@@ -283,12 +298,13 @@ effect st (Fetch p e) = let v = askedOf st e in record { answer = fetchedAnswer 
 effect st (Call.Answer p e served) = done (closeRequest (askedOf st e .number) st)
 effect st (Revoke p q) = done (closeRequest q st)
 effect st (Comes e q) = record { answer = Told (comesFrom (st .rows) q e); after = st }
+effect st (Chain e) = record { answer = chainedAnswer (firstChain (st .rows) e); after = st }
 
 -- (rules K5, F8) refused by the lowest number that applies, else carried out
 unfoldable pub perform : State → Call → Out
 perform st c = judge st (refusals st c) (effect st c)
 
--- (rule F2) the caller's number; comes has none
+-- (rule F2) the caller's number; comes and chain have none
 unfoldable pub callerOf : Call → ℕ
 callerOf (Go p e) = p
 callerOf (Hold p s) = p
@@ -301,3 +317,4 @@ callerOf (Fetch p e) = p
 callerOf (Call.Answer p e served) = p
 callerOf (Revoke p q) = p
 callerOf (Comes e q) = 0
+callerOf (Chain e) = 0

@@ -13,7 +13,8 @@ pub struct Items {
     pub fourth: Item,
 }
 
-// A call: the caller's number, then the call's; comes has no caller. Of an answer: whether the request was served.
+// A call: the caller's number, then the call's; comes and chain have no caller. Of an answer: whether the request was
+// served.
 pub enum Call {
     Go(u32, u32),
     Hold(u32, u32),
@@ -26,6 +27,15 @@ pub enum Call {
     Answer(u32, u32, bool),
     Revoke(u32, u32),
     Comes(u32, u32),
+    Chain(u32),
+}
+
+// Four numbers, 0 for none.
+pub struct Four {
+    pub first: u32,
+    pub second: u32,
+    pub third: u32,
+    pub fourth: u32,
 }
 
 // What a call answers. The numbers and values of each case: specs/Answers.antt.
@@ -35,6 +45,8 @@ pub enum Answer {
     // the request, and its four items, 0 for one that is not listed
     Fetched(u32, u32, u32, u32, u32),
     Told(bool),
+    // the rows of a chain, twelve at most, 0 after the last
+    Chained(Four, Four, Four),
     Refused(u32),
 }
 
@@ -99,6 +111,7 @@ pub struct Loan {
 
 pub mod answering;
 pub mod ask;
+pub mod chain;
 pub mod comes;
 pub mod directories;
 pub mod fetch;

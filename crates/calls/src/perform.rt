@@ -1,8 +1,9 @@
-// A call on the lent words: each of the eleven by its own function.
+// A call on the lent words: each of the twelve by its own function.
 use crate::Answer;
 use crate::Call;
 use crate::answering;
 use crate::ask;
+use crate::chain;
 use crate::comes;
 use crate::directories;
 use crate::fetch;
@@ -31,5 +32,6 @@ pub fn perform(t: &mut [u32], ps: &mut [u32], c: Call) -> Answer
         Call::Answer(p, e, served) => answering::answer(t, ps, p, e, served),
         Call::Revoke(p, q) => revoke::revoke(t, ps, p, q),
         Call::Comes(e, q) => comes::comes(t, e, q),
+        Call::Chain(e) => chain::chain(t, e),
     }
 }

@@ -6,16 +6,16 @@ use mathlib.Core.List.{List, [], _∷_, _++_}
 use mathlib.Core.Path.{_≡_, refl}
 use lib.Dec.{ltb, eqb}
 use lib.ListN.{length, length-append}
-use Rattle.rows.specs.Lists.{bytes, some, nonzero}
+use Rattle.rows.specs.Lists.{bytes}
+use Rattle.rows.specs.Limits.{greatestDepth}
 use Rattle.rows.specs.Layout.{stateOf, rightLengths, soundWords, clearedTables, clearedProcesses}
-use Rattle.changes.proofs.Removed.{length-filter}
 use Rattle.calls.specs.declared.Answer.{Answer}
-use Rattle.calls.specs.declared.Answer.the-variants.{Done, Made, Fetched, Told, Refused}
 use Rattle.calls.specs.Answers.{refusalOf, valuesOf}
 use Rattle.text.specs.Answers.{decimal, digitsOf, spaced, okText, noText, printed}
 use Rattle.text.specs.Opening.{Opening, opens, refusedAt, linesOf, openingOf}
 use Rattle.text.specs.Entry.{callOn, callEntry, openEntry, openedBy, replyOf, replyWith}
 use Rattle.text.specs.contracts.Sizes.{REPLY}
+use Rattle.text.proofs.AnswersBack.{few-values}
 
 -- ---- numbers
 decimal-short : (d n : ℕ) → length (decimal d n) ≤ d
@@ -34,33 +34,25 @@ spaced-short (n ∷ ns) = omega (arith, decimal-short 10 n, spaced-short ns, len
 
 -- ---- texts
 -- what stands around the values: `(ok` or `(no`, and the bracket and line feed after them
-framed-short : (w e ns : List ℕ) → length w ≡ 3 → length e ≡ 2 → length ns ≤ 5 → length (w ++ (spaced ns ++ e)) ≤ REPLY
+framed-short : (w e ns : List ℕ) → length w ≡ 3 → length e ≡ 2 → length ns ≤ 12 → length (w ++ (spaced ns ++ e)) ≤ REPLY
 framed-short w e ns hw he h =
     omega (arith, hw, he, h, spaced-short ns, length-append w (spaced ns ++ e), length-append (spaced ns) e)
 
-ok-short : (ns : List ℕ) → length ns ≤ 5 → length (okText ns) ≤ REPLY
+ok-short : (ns : List ℕ) → length ns ≤ 12 → length (okText ns) ≤ REPLY
 unfolding okText bytes
 ok-short ns h = framed-short (bytes "(ok") (bytes ")\n") ns refl refl h
 
-no-short : (ns : List ℕ) → length ns ≤ 5 → length (noText ns) ≤ REPLY
+no-short : (ns : List ℕ) → length ns ≤ 12 → length (noText ns) ≤ REPLY
 unfolding noText bytes
 no-short ns h = framed-short (bytes "(no") (bytes ")\n") ns refl refl h
 
 -- ---- answers
-values-few : (a : Answer) → length (valuesOf a) ≤ 5
-unfolding valuesOf nonzero
-values-few Done = omega arith
-values-few (Made n) = omega arith
-values-few (Fetched v a b c d) = omega (arith, length-filter some (a ∷ b ∷ c ∷ d ∷ []))
-values-few (Told t) = omega arith
-values-few (Refused k) = omega arith
-
 printed-short : (a : Answer) → length (printed a) ≤ REPLY
-unfolding printed
+unfolding printed greatestDepth
 printed-short a = pick (eqb (refusalOf a) 0)
   where
     pick : (b : Bool) → length (cond b (okText (valuesOf a)) (noText (refusalOf a ∷ []))) ≤ REPLY
-    pick true = ok-short (valuesOf a) (values-few a)
+    pick true = ok-short (valuesOf a) (few-values a)
     pick false = no-short (refusalOf a ∷ []) (omega arith)
 
 -- ---- the entry points

@@ -11,12 +11,12 @@ use Rattle.rows.proofs.Bools.{not-f, pos-some, all-mono}
 use Rattle.rows.proofs.Places.{between-range}
 use Rattle.tables.proofs.Sound.{Sound}
 use Rattle.calls.specs.declared.Call.{Call}
-use Rattle.calls.specs.declared.Call.the-variants.{Go, Hold, Register, Drop, Port, Close, Ask, Fetch, Revoke, Comes}
+use Rattle.calls.specs.declared.Call.the-variants.{Go, Hold, Register, Drop, Port, Close, Ask, Fetch, Revoke, Comes, Chain}
 use Rattle.calls.specs.Rules.{Out, Test, _when_, isRefusal, refused}
 use Rattle.calls.specs.Loans.{itemsOf}
-use Rattle.calls.specs.Calls.{refusalsGo, refusalsHold, refusalsRegister, refusalsDrop, refusalsPort, refusalsClose, refusalsAsk, refusalsFetch, refusalsAnswer, refusalsRevoke, refusalsComes, refusals, effect, perform, callerOf}
+use Rattle.calls.specs.Calls.{refusalsGo, refusalsHold, refusalsRegister, refusalsDrop, refusalsPort, refusalsClose, refusalsAsk, refusalsFetch, refusalsAnswer, refusalsRevoke, refusalsComes, refusalsChain, refusals, effect, perform, callerOf}
 use Rattle.kept.proofs.Judged.{Passed, numbered, judged}
-use Rattle.kept.proofs.Allowed.{GoAllowed, HoldAllowed, RegisterAllowed, DropAllowed, PortAllowed, CloseAllowed, AskAllowed, ServerAllowed, FetchAllowed, RevokeAllowed, ComesAllowed, go-allowed, hold-allowed, register-allowed, drop-allowed, port-allowed, close-allowed, ask-allowed, fetch-allowed, answer-allowed, revoke-allowed, comes-allowed}
+use Rattle.kept.proofs.Allowed.{GoAllowed, HoldAllowed, RegisterAllowed, DropAllowed, PortAllowed, CloseAllowed, AskAllowed, ServerAllowed, FetchAllowed, RevokeAllowed, ComesAllowed, ChainAllowed, go-allowed, hold-allowed, register-allowed, drop-allowed, port-allowed, close-allowed, ask-allowed, fetch-allowed, answer-allowed, revoke-allowed, comes-allowed, chain-allowed}
 use Rattle.text.specs.declared.Reading.{Reading}
 use Rattle.text.specs.declared.Reading.the-variants.{Asks, Crowded, Refused as BadLine}
 use Rattle.text.specs.CallLines.{readingOf, isProcess, isNumber}
@@ -36,6 +36,7 @@ Allowed st (Fetch p e) = FetchAllowed st p e
 Allowed st (Call.Answer p e served) = ServerAllowed st p e
 Allowed st (Revoke p q) = RevokeAllowed st p q
 Allowed st (Comes e q) = ComesAllowed st e q
+Allowed st (Chain e) = ChainAllowed st e
 
 -- the caller, a process's number, is listed
 caller-listed : (st : State) (p : ℕ) → isProcess p ≡ true → some p && not (isListed (st .processes) p) ≡ false → isListed (st .processes) p ≡ true
@@ -57,6 +58,7 @@ allowed st s (Fetch p e) g l w = fetch-allowed st p e (caller-listed st p (g .ca
 allowed st s (Call.Answer p e served) g l w = answer-allowed st p e (caller-listed st p (g .caller) l) served w
 allowed st s (Revoke p q) g l w = revoke-allowed st p q (caller-listed st p (g .caller) l) (number-some q (g .number)) w
 allowed st s (Comes e q) g l w = comes-allowed st e q w
+allowed st s (Chain e) g l w = chain-allowed st e w
 
 -- the tests have the numbers of refusals
 go-numbered : (st : State) (p e : ℕ) → numbered (refusalsGo st p e) ≡ true
@@ -68,7 +70,7 @@ go-numbered st p e = pick (eqb e 0) _ refl
     pick false ts n = n
 
 all-numbered : (st : State) (c : Call) → numbered (refusals st c) ≡ true
-unfolding refusals numbered all refusalsHold refusalsRegister refusalsDrop refusalsPort refusalsClose refusalsAsk refusalsFetch refusalsAnswer refusalsRevoke refusalsComes
+unfolding refusals numbered all refusalsHold refusalsRegister refusalsDrop refusalsPort refusalsClose refusalsAsk refusalsFetch refusalsAnswer refusalsRevoke refusalsComes refusalsChain
 all-numbered st (Go p e) = go-numbered st p e
 all-numbered st (Hold p s) = refl
 all-numbered st (Register p e) = refl
@@ -80,6 +82,7 @@ all-numbered st (Fetch p e) = refl
 all-numbered st (Call.Answer p e served) = refl
 all-numbered st (Revoke p q) = refl
 all-numbered st (Comes e q) = refl
+all-numbered st (Chain e) = refl
 
 -- ---- the law
 module _ (P : Out → Type 0) (st : State) (s : Sound st) (refusal : (k : ℕ) → isRefusal k ≡ true → P (refused st k)) where

@@ -111,7 +111,7 @@ along-call h w a l =
       lends = subst (λ r. Lends (noteLine h l r) (o .after)) (sym (ap (λ x. x .reply) q)) (k .lends);
     }
 
-along-lines : (h : History) (w : Replied) → Along h w → (ls : List (List ℕ)) → Along (historyAfter h ls (repliesTo w ls)) (lentAfter w ls)
+pub along-lines : (h : History) (w : Replied) → Along h w → (ls : List (List ℕ)) → Along (historyAfter h ls (repliesTo w ls)) (lentAfter w ls)
 unfolding historyAfter repliesTo lentAfter
 along-lines h w a [] = a
 along-lines h w a (l ∷ ls) = along-lines _ _ (along-call h w a l) ls
@@ -151,7 +151,7 @@ holds h st s i =
       closed = λ q c a. request-closed h (i .fit) q c a;
     }
 
-state-in : (w : Replied) (reply : List ℕ) (st : State) → Sound st → w ≡ replyWith reply st → stateIn w ≡ st
+pub state-in : (w : Replied) (reply : List ℕ) (st : State) → Sound st → w ≡ replyWith reply st → stateIn w ≡ st
 unfolding stateIn replyWith
 state-in w reply st s e = ap (λ x. stateOf (x .tables) (x .processes)) e ∙ state-words st s
 
@@ -161,9 +161,9 @@ unfolding refusalOf
 not-refused k h e = clash e (read-refused (Refused k) h)
 
 -- a call whose answer is read as accepted is allowed, and had its effect
-record Taken (st : State) (c : Call) (o : Out) : Type 0 where
-  allows : Allowed st c
-  is : o ≡ effect st c
+pub record Taken (st : State) (c : Call) (o : Out) : Type 0 where
+  pub allows : Allowed st c
+  pub is : o ≡ effect st c
 
 taken : (st : State) → Sound st → (c : Call) → Good c → accepts (printed (answered st (Asks c) .answer)) ≡ true → Taken st c (answered st (Asks c))
 unfolding refused
@@ -172,7 +172,8 @@ taken st s c g =
     (λ k r e. absurd (not-refused k (let l = leb-true 2 k (and-l (leb 2 k) (leb k 18) r) in omega arith) e)) c g
     (λ a _. record { allows = a; is = refl })
 
-module _ (h : History) (w : Replied) (a : Along h w) (line : List ℕ) (p q : ℕ) (e : readingOf line ≡ Asks (Revoke p q)) where
+-- a line that asks for the call c, after these
+module _ (h : History) (w : Replied) (a : Along h w) (line : List ℕ) (c : Call) (e : readingOf line ≡ Asks c) where
   o : Out
   o = callOn (a .st) line
 
@@ -187,55 +188,66 @@ module _ (h : History) (w : Replied) (a : Along h w) (line : List ℕ) (p q : �
   unfolding replyWith
   replied = ap (λ x. x .reply) called
 
-  read : o ≡ answered (a .st) (Asks (Revoke p q))
+  read : o ≡ answered (a .st) (Asks c)
   unfolding o callOn
   read = ap (answered (a .st)) e
 
-  module _ (acc : accepts (w′ .reply) ≡ true) where
-    accepted : accepts (printed (answered (a .st) (Asks (Revoke p q)) .answer)) ≡ true
-    accepted = sym (ap accepts replied ∙ ap (λ x. accepts (printed (x .answer))) read) ∙ acc
+  pub answered-as : callEntry (w .tables) (w .processes) line .reply ≡ printed (answered (a .st) (Asks c) .answer)
+  unfolding w′
+  answered-as = replied ∙ ap (λ x. printed (x .answer)) read
 
-    revokes : Taken (a .st) (Revoke p q) (answered (a .st) (Asks (Revoke p q)))
-    revokes = taken (a .st) (a .sound) (Revoke p q) (reading-good line (Revoke p q) e) accepted
+  pub taken-as : accepts (callEntry (w .tables) (w .processes) line .reply) ≡ true → Taken (a .st) c (answered (a .st) (Asks c))
+  taken-as acc = taken (a .st) (a .sound) c (reading-good line c e) (sym (ap accepts answered-as) ∙ acc)
 
-    allows : RevokeAllowed (a .st) p q
-    unfolding Allowed
-    allows = revokes .allows
+module _ (h : History) (w : Replied) (a : Along h w) (line : List ℕ) (p q : ℕ) (e : readingOf line ≡ Asks (Revoke p q)) (acc : accepts (callEntry (w .tables) (w .processes) line .reply) ≡ true) where
+  abbrev call : Call
+  call = Revoke p q
 
-    is-revoke : o ≡ done (closeRequest q (a .st))
-    unfolding effect
-    is-revoke = read ∙ revokes .is
+  abbrev left : Replied
+  left = callEntry (w .tables) (w .processes) line
 
-    before : stateIn w ≡ a .st
-    before = state-in w (a .reply) (a .st) (a .sound) (a .is)
+  allows : RevokeAllowed (a .st) p q
+  unfolding Allowed
+  allows = taken-as h w a line call e acc .allows
 
-    after : stateIn w′ ≡ closeRequest q (a .st)
-    unfolding done
-    after = state-in w′ (printed (o .answer)) (o .after) (unfold o in (call-kept (a .st) (a .sound) line)) called ∙ ap (λ x. x .after) is-revoke
+  is-revoke : callOn (a .st) line ≡ done (closeRequest q (a .st))
+  unfolding effect callOn
+  is-revoke = ap (answered (a .st)) e ∙ taken-as h w a line call e acc .is
 
-    noted-so : noteLine h line (w′ .reply) ≡ noteAnswer h (Revoke p q) Done
-    unfolding done
-    noted-so =
-        ap (noteLine h line) replied
-        ∙ note-asked h line (Revoke p q) (a .st) o e (unfold o in (call-spoken (a .st) (a .sound) line))
-        ∙ ap (λ x. noteAnswer h (Revoke p q) (x .answer)) is-revoke
+  called-so : left ≡ replyWith (printed (callOn (a .st) line .answer)) (callOn (a .st) line .after)
+  unfolding w′ o
+  called-so = called h w a line call e
 
-    vanished : Vanished h (stateIn w) (stateIn w′) q
-    vanished = subst (λ x. Vanished h x (stateIn w′) q) (sym before) (subst (λ x. Vanished h (a .st) x q) (sym after) (revoke-vanished h (a .st) (a .inv) (a .sound) p q allows))
+  before : stateIn w ≡ a .st
+  before = state-in w (a .reply) (a .st) (a .sound) (a .is)
 
-    returned : Returned h (noteLine h line (w′ .reply)) (stateIn w′)
-    returned =
-        subst (λ x. Returned h x (stateIn w′)) (sym noted-so)
-        (subst (λ x. Returned h (noteAnswer h (Revoke p q) Done) x) (sym after) (revoke-returned h (a .st) (a .inv) (a .lends) (a .sound) p q allows))
+  after : stateIn left ≡ closeRequest q (a .st)
+  unfolding done
+  after = state-in left (printed (callOn (a .st) line .answer)) (callOn (a .st) line .after) (call-kept (a .st) (a .sound) line) called-so ∙ ap (λ x. x .after) is-revoke
 
-    revoked : Revoked h w line q
-    unfolding Revoked w′
-    revoked = (vanished, returned)
+  noted-so : noteLine h line (left .reply) ≡ noteAnswer h (Revoke p q) Done
+  unfolding done replyWith
+  noted-so =
+      ap (λ x. noteLine h line (x .reply)) called-so
+      ∙ note-asked h line (Revoke p q) (a .st) (callOn (a .st) line) e (call-spoken (a .st) (a .sound) line)
+      ∙ ap (λ x. noteAnswer h (Revoke p q) (x .answer)) is-revoke
+
+  vanished : Vanished h (stateIn w) (stateIn left) q
+  vanished = subst (λ x. Vanished h x (stateIn left) q) (sym before) (subst (λ x. Vanished h (a .st) x q) (sym after) (revoke-vanished h (a .st) (a .inv) (a .sound) p q allows))
+
+  returned : Returned h (noteLine h line (left .reply)) (stateIn left)
+  returned =
+      subst (λ x. Returned h x (stateIn left)) (sym noted-so)
+      (subst (λ x. Returned h (noteAnswer h (Revoke p q) Done) x) (sym after) (revoke-returned h (a .st) (a .inv) (a .lends) (a .sound) p q allows))
+
+  revoked : Revoked h w line q
+  unfolding Revoked
+  revoked = (vanished, returned)
 
 pub demand3 : Demand3
 unfolding Demand3
 demand3 t p text a ls =
     let s = along-lines (begun text) (openEntry t p text) (along-opening t p text a) ls in (
       subst (Holds _) (sym (state-in _ (s .reply) (s .st) (s .sound) (s .is))) (holds _ (s .st) (s .sound) (s .inv)),
-      λ line p q e acc. unfold w′ in (revoked _ _ s line p q e acc),
+      λ line p q e acc. revoked _ _ s line p q e acc,
     )

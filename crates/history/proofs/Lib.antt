@@ -7,6 +7,8 @@ pub mod Promises
 pub mod Demand3
 -- kept soundness on words; `session` is what the entry points reply
 pub mod Kept
+-- what `chain` answers, by the history
+pub mod ChainTold
 -- rows of nodes never vanish; the rights of a copy are within those of its row
 pub mod Laws
 -- ---- the history by itself
@@ -25,6 +27,8 @@ pub mod Comes
 pub mod Inv
 -- rows of the tables as the history notes them
 pub mod View
+-- the first chain of a row: its rows, and the answer that holds them
+pub mod FirstChains
 -- every property of every answer: refusals have it, and the effects of calls that are allowed
 pub mod Allowed
 -- what a refusal and an accepted answer leave of the invariant

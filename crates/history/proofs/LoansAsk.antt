@@ -14,7 +14,7 @@ use Rattle.rows.specs.Tables.{State, noRow, rowOf, numbers}
 use Rattle.rows.proofs.Bools.{and-l, and-r, not-t, all-mono, all-filter, pos-some}
 use Rattle.tables.proofs.Picked.{first-here, first-other}
 use Rattle.tables.proofs.Sound.{Sound}
-use Rattle.rows.proofs.Lists.{all-append, filter-same}
+use Rattle.rows.proofs.Lists.{all-append, filter-append, filter-same}
 use Rattle.tables.proofs.SoundFacts.{row-below}
 use Rattle.calls.specs.declared.Item.{Item}
 use Rattle.calls.specs.Rules.{notHeld, copyOf}
@@ -29,15 +29,6 @@ use Rattle.history.proofs.Find.{end-noted}
 use Rattle.history.proofs.LoansAdd.{kinds-same}
 
 -- ---- lists
-filter-append : {A : Type 0} (f : A → Bool) (xs ys : List A) → filter f (xs ++ ys) ≡ filter f xs ++ filter f ys
-unfolding filter
-filter-append f [] ys = refl
-filter-append f (x ∷ xs) ys = rw (filter-append f xs ys) (pick (f x))
-  where
-    pick : (b : Bool) → cond b (x ∷ filter f xs ++ filter f ys) (filter f xs ++ filter f ys) ≡ cond b (x ∷ filter f xs) (filter f xs) ++ filter f ys
-    pick true = refl
-    pick false = refl
-
 filter-one : {A : Type 0} (f : A → Bool) (x : A) → f x ≡ true → filter f (x ∷ []) ≡ x ∷ []
 unfolding filter
 filter-one f x e = rw e refl

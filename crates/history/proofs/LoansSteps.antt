@@ -3,11 +3,11 @@ use mathlib.Core.Path.{refl, _∙_}
 use Rattle.rows.specs.Tables.{State}
 use Rattle.tables.proofs.Sound.{Sound}
 use Rattle.calls.specs.declared.Call.{Call}
-use Rattle.calls.specs.declared.Call.the-variants.{Go, Hold, Register, Drop, Port, Close, Ask, Fetch, Revoke, Comes}
+use Rattle.calls.specs.declared.Call.the-variants.{Go, Hold, Register, Drop, Port, Close, Ask, Fetch, Revoke, Comes, Chain}
 use Rattle.calls.specs.Answers.{refusalOf, valuesOf}
 use Rattle.calls.specs.Rules.{askedOf}
 use Rattle.calls.specs.Loans.{itemsOf}
-use Rattle.calls.specs.Calls.{fetchedAnswer, effect}
+use Rattle.calls.specs.Calls.{fetchedAnswer, chainedAnswer, effect}
 use Rattle.text.specs.declared.Reading.the-variants.{Asks}
 use Rattle.text.specs.Entry.{answered}
 use Rattle.text.proofs.Readings.{Good}
@@ -25,7 +25,7 @@ use Rattle.history.proofs.LoansAsk.{asked-loans}
 
 module _ (h : History) (st : State) (i : Inv h st) (l : Lends h st) (s : Sound st) where
   effect-lends : (c : Call) → Allowed st c → Keeps h c (effect st c) → LendsAfter h c (effect st c)
-  unfolding Allowed effect noteCall itemsOf itemsNamed fetchedAnswer refusalOf valuesOf firstValue noteGo noteHold noteRegister notePort noteEnd addRow
+  unfolding Allowed effect noteCall itemsOf itemsNamed fetchedAnswer chainedAnswer refusalOf valuesOf firstValue noteGo noteHold noteRegister notePort noteEnd addRow
   effect-lends (Go p e) a k = taken-done _ k (λ i. calm _ _ i (go-same st s p e ∙ l .lends))
   effect-lends (Hold p e) a k = taken-made _ _ k (λ i. calm _ _ i (held-same st s p e ∙ l .lends))
   effect-lends (Register p e) a k = taken-made _ _ k (λ i. calm _ _ i (registered-same st s p e ∙ l .lends))
@@ -37,6 +37,7 @@ module _ (h : History) (st : State) (i : Inv h st) (l : Lends h st) (s : Sound s
   effect-lends (Call.Answer p e served) a k = taken-done _ k (request-settles h st i l s _ _)
   effect-lends (Revoke p q) a k = taken-done _ k (request-settles h st i l s q q)
   effect-lends (Comes e q) a k = taken _ _ refl refl k (λ i. calm _ _ i (l .lends))
+  effect-lends (Chain e) a k = taken _ _ refl refl k (λ i. calm _ _ i (l .lends))
 
 pub call-lends : (h : History) (st : State) → Inv h st → Lends h st → Sound st → (c : Call) → Good c → LendsAfter h c (answered st (Asks c))
 call-lends h st i l s c g =

@@ -25,6 +25,7 @@ use Rattle.history.specs.Demand3.{Demand3, stateIn, InTables, endsOf, Tw
 use Rattle.history.specs.Promises.{Promises, Accepted, afterLines, toldBy, afterLine, rowsLent, portEnds}
 use Rattle.history.proofs.Demand3.{demand3}
 use Rattle.history.proofs.Kept.{kept}
+use Rattle.history.proofs.ChainTold.{chain-told, chain-accepted}
 use Rattle.history.proofs.Laws.{nodes-never-vanish, rights-never-grow}
 
 -- ---- demand 3, taken apart
@@ -86,6 +87,8 @@ promises =
       marked-least = marked-least;
       nodes-never-vanish = λ st e. nodes-never-vanish st (sound-open st e);
       rights-never-grow = rights-never-grow;
+      chain-told = chain-told;
+      chain-accepted = chain-accepted;
       never-wrapped = never-wrapped;
       call-read = call-read;
       answer-read = answer-read;

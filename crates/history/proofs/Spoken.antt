@@ -8,9 +8,9 @@ use lib.ListN.{length}
 use lib.Dec.{leb, ltb, eqb}
 use borrow.Author.Tests.{ltb-true, leb-true, le-leb}
 use Rattle.rows.specs.declared.Request.{Request}
-use Rattle.rows.specs.Lists.{all, firstWith}
+use Rattle.rows.specs.Lists.{all, member, firstWith}
 use Rattle.rows.specs.Limits.{greatestNumber}
-use Rattle.rows.specs.Tables.{State, noRequest, rowOf, openOn}
+use Rattle.rows.specs.Tables.{State, noRequest, rowOf, numbers, openOn}
 use Rattle.rows.specs.Sound.{nextInRange}
 use Rattle.rows.proofs.Bools.{and-l, and-r, all-mono}
 use Rattle.tables.proofs.Sound.{Sound}
@@ -18,15 +18,16 @@ use Rattle.rows.proofs.Places.{between-range}
 use Rattle.tables.proofs.SoundFacts.{requests-below}
 use Rattle.calls.specs.declared.Answer.the-variants.{Fetched, Told}
 use Rattle.calls.specs.declared.Call.{Call}
-use Rattle.calls.specs.declared.Call.the-variants.{Go, Hold, Register, Drop, Port, Close, Ask, Fetch, Revoke, Comes}
+use Rattle.calls.specs.declared.Call.the-variants.{Go, Hold, Register, Drop, Port, Close, Ask, Fetch, Revoke, Comes, Chain}
 use Rattle.calls.specs.Answers.{refusalOf, valuesOf}
 use Rattle.calls.specs.Rules.{Out, isRefusal, refused, askedOf}
 use Rattle.calls.specs.Loans.{itemsOf, copies}
-use Rattle.calls.specs.Calls.{done, made, fetchedAnswer, effect}
+use Rattle.calls.specs.Calls.{done, made, fetchedAnswer, chainedAnswer, effect}
 use Rattle.kept.proofs.AddRow.{numbers-room}
 use Rattle.text.specs.Entry.{callOn}
 use Rattle.history.proofs.Inv.{firstValue}
 use Rattle.history.proofs.Allowed.{Allowed, line-has}
+use Rattle.history.proofs.FirstChains.{chain-some, chain-first, row-found-there}
 
 pub record Spoken (st : State) (o : Out) : Type 0 where
   pub has-value : refusalOf (o .answer) ≡ 0 → 0 < length (valuesOf (o .answer))
@@ -65,6 +66,11 @@ told-spoken : (st : State) (t : Bool) (after : State) → Spoken st (record { an
 unfolding refusalOf valuesOf firstValue greatestNumber
 told-spoken st true after = accepted-spoken st _ refl (omega arith) (omega arith)
 told-spoken st false after = accepted-spoken st _ refl (omega arith) (omega arith)
+
+-- the numbers of a chain are those of rows
+chained-spoken : (st : State) → Sound st → (e : ℕ) → member e (numbers (st .rows)) ≡ true → Spoken st (effect st (Chain e))
+unfolding effect
+chained-spoken st s e t = accepted-spoken st _ (unfold refusalOf chainedAnswer in refl) (chain-some st s e t) (chain-first st s e t)
 
 -- ---- the calls
 -- a number is left, so the next one is in range
@@ -108,6 +114,7 @@ effect-spoken st s (Fetch p e) a = fetched-spoken st (askedOf st e .number) _ _ 
 effect-spoken st s (Call.Answer p e served) a = done-spoken st _
 effect-spoken st s (Revoke p q) a = done-spoken st _
 effect-spoken st s (Comes e q) a = told-spoken st _ _
+effect-spoken st s (Chain e) a = chained-spoken st s e (row-found-there st e (a .row))
 
 -- ---- a line
 pub call-spoken : (st : State) → Sound st → (line : List ℕ) → Spoken st (callOn st line)

@@ -15,7 +15,7 @@ use Rattle.rows.specs.Tables.{State, empty, rowOf, numbers, sources, reaches, m
 use Rattle.rows.specs.Sound.{sound}
 use Rattle.rows.specs.Layout.{wordsOf, recordsOf, stateOf, rightLengths, soundWords, clearedTables, clearedProcesses}
 use Rattle.calls.specs.declared.Call.{Call}
-use Rattle.calls.specs.declared.Call.the-variants.{Revoke}
+use Rattle.calls.specs.declared.Call.the-variants.{Revoke, Chain}
 use Rattle.calls.specs.declared.Answer.{Answer}
 use Rattle.closing.specs.Closing.{closeRequest, closePort}
 use Rattle.closing.specs.Steps.{closeRequestBySteps, closePortBySteps}
@@ -32,6 +32,7 @@ use Rattle.history.specs.Notes.{loanOf, stands, isClosed}
 use Rattle.history.specs.Chains.{aRequest, aPort, IsPort, AskedOver, Gone, Stands, ComesFrom, HasOnLoan}
 use Rattle.history.specs.Reading.{begun, accepts, noteLine, historyAfter}
 use Rattle.history.specs.Demand3.{Demand3, lentAfter, repliesTo, stateIn}
+use Rattle.history.specs.FirstChains.{FirstChain}
 use Rattle.history.specs.Kept.{Kept, joined}
 
 -- ---- a session
@@ -136,6 +137,15 @@ pub record Promises : Type 0 where
       let rows = stateIn (lentAfter (openEntry t p text) lines) .rows in
       member n (numbers rows) ≡ true → isEnd (rowOf rows n .kind) ≡ false → some (rowOf rows n .source) ≡ true
       → (member (rowOf rows n .source) (numbers rows) ≡ true) × (within (rowOf rows n .rights) (rowOf rows (rowOf rows n .source) .rights) ≡ true)
+  -- (rule P31) what an accepted `chain` answers is the first chain of the row by the history; rights never grow along it
+  pub chain-told : (t p text : List ℕ) → Accepted t p text → (lines : List (List ℕ)) (line : List ℕ) (e : ℕ) →
+      let w = afterLines t p text lines in
+      readingOf line ≡ Asks (Chain e) → accepts (afterLine w line .reply) ≡ true
+      → FirstChain (toldBy t p text lines) (rowsLent w) e (answeredBy (afterLine w line .reply) .values)
+  -- (rules P31, chain-7) and it is accepted for exactly the rows that stand
+  pub chain-accepted : (t p text : List ℕ) → Accepted t p text → (lines : List (List ℕ)) (line : List ℕ) (e : ℕ) →
+      let w = afterLines t p text lines in
+      readingOf line ≡ Asks (Chain e) → (accepts (afterLine w line .reply) ≡ true) ↔ Stands (toldBy t p text lines) e
   -- (rule P10) digits are worth their value, with no bound on it, up to 4,294,967,295, which stands for all above it
   pub never-wrapped : (s : List ℕ) (i : ℕ) →
       let n = run isDigit (λ v b. v * 10 + (b - 48)) 0 i (drop i s) .value in

@@ -7,7 +7,7 @@ use Rattle.rows.specs.Lists.{if_then_else_, filter, some}
 use Rattle.calls.specs.declared.Item.{Item}
 use Rattle.calls.specs.declared.Items.{Items}
 use Rattle.calls.specs.declared.Call.{Call}
-use Rattle.calls.specs.declared.Call.the-variants.{Go, Hold, Register, Drop, Port, Close, Ask, Fetch, Revoke, Comes}
+use Rattle.calls.specs.declared.Call.the-variants.{Go, Hold, Register, Drop, Port, Close, Ask, Fetch, Revoke, Comes, Chain}
 use Rattle.text.specs.declared.Read.{Read}
 use Rattle.text.specs.declared.Reading.{Reading}
 use Rattle.text.specs.declared.Reading.the-variants.{Asks, Crowded, Refused}
@@ -55,7 +55,7 @@ accepts reply = answerRead reply .good
 unfoldable pub itemsNamed : Items → List Item
 itemsNamed is = filter (λ i. some (i .row)) (is .first ∷ is .second ∷ is .third ∷ is .fourth ∷ [])
 
--- (rules H1, H2) what an accepted call adds; refused lines, `fetch` and `comes` add nothing
+-- (rules H1, H2) what an accepted call adds; refused lines, `fetch`, `comes` and `chain` add nothing
 unfoldable pub noteCall : Call → ℕ → History → History
 noteCall (Go p e) n h = noteGo p e h
 noteCall (Hold p s) n h = noteHold p s n h
@@ -68,6 +68,7 @@ noteCall (Fetch p v) n h = h
 noteCall (Call.Answer p v served) n h = noteEnd v h
 noteCall (Revoke p q) n h = noteRevoke q h
 noteCall (Comes e q) n h = h
+noteCall (Chain e) n h = h
 
 unfoldable pub noteReading : Reading → ℕ → History → History
 noteReading (Asks c) n h = loansSettled (noteCall c n h)

@@ -19,7 +19,7 @@ use Rattle.tables.proofs.SoundFacts.{active-node, clist-there}
 use Rattle.calls.specs.declared.Item.{Item}
 use Rattle.calls.specs.Rules.{notHeld, hasOpen, askedOf, tooDeep, rowsFull, requestsFull, numbersSpent}
 use Rattle.calls.specs.Loans.{moves, copies, copyDepth}
-use Rattle.calls.specs.Calls.{heldDepth, registeredDepth, portDepth, inUse, lacksRight, isBusy, refusalsGo, refusalsHold, refusalsRegister, refusalsDrop, refusalsPort, refusalsClose, refusalsAsk, refusalsFetch, refusalsAnswer, refusalsRevoke, refusalsComes}
+use Rattle.calls.specs.Calls.{heldDepth, registeredDepth, portDepth, inUse, lacksRight, isBusy, refusalsGo, refusalsHold, refusalsRegister, refusalsDrop, refusalsPort, refusalsClose, refusalsAsk, refusalsFetch, refusalsAnswer, refusalsRevoke, refusalsComes, refusalsChain}
 use Rattle.kept.proofs.AddRow.{rows-room, numbers-room}
 use Rattle.kept.proofs.AskCopy.{lendable}
 use Rattle.kept.proofs.Judged.{Passed}
@@ -251,3 +251,11 @@ comes-allowed st e q w =
     let none = eqb (rowOf (st .rows) e .number) 0 in
     let closed = eqb (requestOf (st .requests) q .number) 0 in
     record { row = or-fl none closed (w .0); asked = or-fr none closed (w .0) }
+
+-- ---- chain
+pub record ChainAllowed (st : State) (e : ℕ) : Type 0 where
+  pub row : eqb (rowOf (st .rows) e .number) 0 ≡ false
+
+pub chain-allowed : (st : State) (e : ℕ) → Passed (refusalsChain st e) → ChainAllowed st e
+unfolding refusalsChain Passed
+chain-allowed st e w = record { row = w .0 }

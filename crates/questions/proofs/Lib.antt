@@ -3,3 +3,5 @@
 pub mod Listed
 -- the questions that go back along the sources
 pub mod Questions
+-- the first chain, written from the oldest row on
+pub mod Chains

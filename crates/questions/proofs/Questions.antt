@@ -1,34 +1,32 @@
 -- The questions that go back along the sources: what a row's words say of it, one step back on sound tables, and the depth that falls.
-use Prim.Native.Nat.{ℕ, zero, suc, _+_, _-_, _<_, _≤_, max, zero-le, suc-le-suc}
+use Prim.Native.Nat.{ℕ, zero, suc, _+_, _-_, _<_, _≤_, zero-le, suc-le-suc}
 use mathlib.Core.Bool.{Bool, true, false, _&&_, _||_}
 use mathlib.Core.List.{List, [], _∷_}
 use mathlib.Core.Path.{_≡_, refl, ap, sym, _∙_}
-use mathlib.Core.Logic.{inl, inr}
 use native.Mathlib.Numerals.{add-one}
 use native.Mathlib.Omega.{arith}
-use borrow.Author.Tests.{eqb-true, eq-eqb, ne-eqb, leb-true}
-use lib.Dec.{leb, eqb}
+use borrow.Author.Tests.{eqb-true, eq-eqb, ne-eqb}
+use lib.Dec.{eqb}
 use lib.ListN.{getD}
 use Rattle.rows.specs.declared.Row.{Row}
-use Rattle.rows.specs.Lists.{filter, any, member, some, nonzero, each}
-use Rattle.rows.specs.Limits.{greatestDepth}
+use Rattle.rows.specs.Lists.{filter, any, member, some, nonzero}
 use Rattle.rows.specs.Codes.{operation, subdirectory, clientEnd, isOperation, isSubdirectory, isClient, isEnd, isCopied}
-use Rattle.rows.specs.Tables.{State, noRow, rowOf, numbers, sources, depthOver, reaches, marked, bears, comesFrom, onLoan, lentItself, isLent}
-use Rattle.rows.specs.Sound.{rowsRise, sound, isOpening, isRegistered, isHeld, isPortEnd, isLentCopy, sourceRight, sourcesRight, depthRight, depthsRight, hasRightDepth, sourceOf, viaOf, sourced}
+use Rattle.rows.specs.Tables.{State, rowOf, numbers, sources, reaches, marked, bears, comesFrom, onLoan, lentItself, isLent}
+use Rattle.rows.specs.Sound.{rowsRise, sound, isOpening, isRegistered, isHeld, isPortEnd, isLentCopy, sourceOf, viaOf}
 use Rattle.rows.specs.contracts.Sizes.{ROWS, SOURCE, VIA, REQUEST}
 use Rattle.rows.specs.contracts.Represents.{Represents}
 use Rattle.rows.specs.Layout.{rowSlot}
 use Rattle.questions.specs.contracts.Questions.{RowAt, DepthWithin, OnLoan, sourceless, touches, Touched, Reaches, ViaReaches, PortReaches}
 use Rattle.rows.proofs.Bools.{false-of, clash, and-l, and-r, or-r, or-false, some-pos, pos-some, any-eq}
-use Rattle.rows.proofs.Keyed.{olderOf, each-first, older-first, older-key, rises-range}
+use Rattle.rows.proofs.Keyed.{rises-range}
 use Rattle.tables.proofs.Sound.{Sound, sound-open}
-use Rattle.rows.proofs.RowSources.{Among, Shape, opening, registered, held, port-end, lent-copy, shape, shape-sources}
+use Rattle.rows.proofs.RowSources.{Shape, opening, registered, held, port-end, lent-copy}
 use Rattle.tables.proofs.Marking.{marked-stands, marked-reaches, marked-closed}
-use Rattle.tables.proofs.Standing.{standing-shape, sources-older}
+use Rattle.tables.proofs.Standing.{standing-shape, sources-older, depth-falls}
 use Rattle.rows.proofs.Slots.{slot-le, slot-there, represented-well, row-found, row-words, source-of, via-of}
 
 -- where the numbers and the kinds start
-abbrev NUMBER : ℕ
+abbrev pub NUMBER : ℕ
 NUMBER = 0
 
 abbrev KIND : ℕ
@@ -134,32 +132,6 @@ module _ (st : State) (s : Sound st) where
       ∙ any-sources (λ m. reaches f rs m) (reaches-zero f) r)
 
   module _ (n : ℕ) (t : member n (numbers (st .rows)) ≡ true) where
-    -- the depths of the sources are less
-    pub depth-falls : (rowOf (st .rows) (rowOf (st .rows) n .source) .depth < rowOf (st .rows) n .depth)
-        × (rowOf (st .rows) (rowOf (st .rows) n .via) .depth < rowOf (st .rows) n .depth)
-        × (rowOf (st .rows) n .depth ≤ 12)
-    unfolding depthsRight hasRightDepth depthOver greatestDepth rowsRise rowOf numbers sourcesRight each sourced
-    depth-falls =
-        let r = rowOf (st .rows) n in
-        let old = olderOf (λ r. r .number) (st .rows) n in
-        let over = suc (max (rowOf old (r .source) .depth) (rowOf old (r .via) .depth)) in
-        let right : eqb (r .depth) over && leb (r .depth) 12 ≡ true
-        = each-first (λ r. r .number) noRow depthRight (st .rows) (s .rows .depths-right) n t in
-        let shaped = each-first (λ r. r .number) noRow (sourceRight (st .requests)) (st .rows) (s .rows .sources-right) n t in
-        let (a, b) = shape-sources (st .requests) r old (shape (st .requests) r (sourceOf old r) (viaOf old r) shaped) in
-        let same : r .depth ≡ suc (max (rowOf (st .rows) (r .source) .depth) (rowOf (st .rows) (r .via) .depth))
-        = eqb-true (r .depth) over (and-l (eqb (r .depth) over) (leb (r .depth) 12) right) ∙ rw (look (r .source) a, look (r .via) b) refl in
-        let most : r .depth ≤ 12 = leb-true (r .depth) 12 (and-r (eqb (r .depth) over) (leb (r .depth) 12) right) in
-        (omega arith, omega arith, most)
-      where
-        lower : (m : ℕ) → Among (olderOf (λ r. r .number) (st .rows) n) m → m < n
-        lower m (inl z) = let (lo, hi) = rises-range (λ r. r .number) (st .rows) (s .numbers .rows-rise) n t in omega arith
-        lower m (inr u) = older-key (λ r. r .number) (st .rows) (s .numbers .rows-rise) n m t u .0
-
-        look : (m : ℕ) → Among (olderOf (λ r. r .number) (st .rows) n) m
-            → rowOf (olderOf (λ r. r .number) (st .rows) n) m ≡ rowOf (st .rows) m
-        look m a = older-first (λ r. r .number) noRow (st .rows) (s .numbers .rows-rise) n t m (lower m a)
-
     -- a client end has one source, its operation row
     pub client-via : isClient (rowOf (st .rows) n .kind) ≡ true → rowOf (st .rows) n .via ≡ 0
     unfolding isOpening isRegistered isHeld isPortEnd isLentCopy
@@ -194,20 +166,25 @@ module _ (st : State) (s : Sound st) where
         pick (lent-copy e) = search (and-l, and-r)
 
 -- ---- a step of the questions over the words: the row at source word s, in slot i
-module _ (t : List ℕ) (s q d : ℕ) where
+module _ (t : List ℕ) (s d : ℕ) where
   -- no row, or none so near
-  pub question-none : (0 < d → 0 < s → s ≤ ROWS → ⊥) → Reaches t s q d false
-  unfolding Reaches rowSlot numbers
-  question-none h st n so rep e deep =
-      sym
-      (reaches-none st (sound-open st so) (touches st q) n
-      (false-of (member n (numbers (st .rows)))
+  pub not-there : (0 < d → 0 < s → s ≤ ROWS → ⊥) → (st : State) (n : ℕ) → sound st ≡ true → Represents t st → rowSlot (st .rows) n ≡ s → DepthWithin d n st
+      → member n (numbers (st .rows)) ≡ false
+  unfolding rowSlot numbers
+  not-there h st n so rep e deep =
+      false-of (member n (numbers (st .rows)))
       (λ there.
-      let (a, b, c) = depth-falls st (sound-open st so) n there in
+      let whole = sound-open st so in
+      let (a, b, c) = depth-falls st (whole .numbers) (whole .rows) n there in
       let first = slot-there (λ r. r .number) (st .rows) n there in
       let last = slot-le (λ r. r .number) (st .rows) n in
       let fit = represented-well rep .rows-fit in
-      h (omega arith) (omega arith) (omega arith))))
+      h (omega arith) (omega arith) (omega arith))
+
+module _ (t : List ℕ) (s q d : ℕ) where
+  pub question-none : (0 < d → 0 < s → s ≤ ROWS → ⊥) → Reaches t s q d false
+  unfolding Reaches
+  question-none h st n so rep e deep = sym (reaches-none st (sound-open st so) (touches st q) n (not-there t s d h st n so rep e deep))
 
   pub row-port : (r : Bool) → Reaches t s q d r → PortReaches t s q d r
   unfolding Reaches PortReaches
@@ -234,7 +211,7 @@ module _ (t : List ℕ) (i q d : ℕ) where
     source : (r : Bool) → Reaches t (getD t (SOURCE + i) 0) q (d - 1) r → r ≡ reaches (touches st q) (st .rows) (rowOf (st .rows) n .source)
     unfolding Reaches
     source r h =
-        let (a, b, c) = depth-falls st whole n there in
+        let (a, b, c) = depth-falls st (whole .numbers) (whole .rows) n there in
         h st (rowOf (st .rows) n .source) so rep
         (sym (row-words rep n i e .source ∙ source-of st (represented-well rep) n i e .0)) (omega arith)
 
@@ -249,7 +226,7 @@ module _ (t : List ℕ) (i q d : ℕ) where
   pub via-row : (r : Bool) → Reaches t (getD t (VIA + i) 0) q (d - 1) r → ViaReaches t i q d r
   unfolding Reaches ViaReaches
   via-row r h st n so rep e deep =
-      let (a, b, c) = depth-falls st (whole st n so rep e deep) n (there st n so rep e deep) in
+      let (a, b, c) = depth-falls st (whole st n so rep e deep .numbers) (whole st n so rep e deep .rows) n (there st n so rep e deep) in
       h st (rowOf (st .rows) n .via) so rep (via-slot st n so rep e deep) (omega arith)
 
   pub via-none : getD t (VIA + i) 0 ≡ 0 → ViaReaches t i q d false
@@ -258,7 +235,7 @@ module _ (t : List ℕ) (i q d : ℕ) where
   pub via-port : (getD t (REQUEST + i) 0 ≡ 0 → ⊥) → (r : Bool) → PortReaches t (getD t (VIA + i) 0) q (d - 1) r → ViaReaches t i q d r
   unfolding PortReaches ViaReaches
   via-port bears r h st n so rep e deep =
-      let (a, b, c) = depth-falls st (whole st n so rep e deep) n (there st n so rep e deep) in
+      let (a, b, c) = depth-falls st (whole st n so rep e deep .numbers) (whole st n so rep e deep .rows) n (there st n so rep e deep) in
       h st (rowOf (st .rows) n .via) so rep (via-slot st n so rep e deep) (omega arith)
       (copy-port st (whole st n so rep e deep) n (there st n so rep e deep) (λ z. bears (row-words rep n i e .request ∙ z)))
 
@@ -310,7 +287,7 @@ module _ (t : List ℕ) (e : ℕ) (st : State) (n : ℕ) (so : sound st ≡ true
   -- twelve steps suffice
   asked : (r : Bool) (q : ℕ) → Reaches t (e + 1) q 12 r → r ≡ reaches (touches st q) (st .rows) n
   unfolding Reaches
-  asked r q h = h st n so rep (at ∙ sym (add-one e)) (depth-falls st (sound-open st so) n (row-found (st .rows) n e at .0) .2)
+  asked r q h = h st n so rep (at ∙ sym (add-one e)) (depth-falls st (sound-open st so .numbers) (sound-open st so .rows) n (row-found (st .rows) n e at .0) .2)
 
   module _ (q : ℕ) (pos : some q ≡ true) where
     pub comes-answer : (r : Bool) → Reaches t (e + 1) q 12 r → r ≡ comesFrom (st .rows) q n

@@ -1,2 +1,2 @@
--- The questions have no definitions of their own: rows/specs/Tables.antt has comesFrom, isLent and onLoan.
+-- The questions have no definitions of their own: rows/specs/Tables.antt has comesFrom, isLent, onLoan and firstChain.
 pub mod contracts

@@ -1,4 +1,5 @@
-// The row question and the port question: does a row come from a request, is it lent, is an end on loan.
+// What goes back along the sources of a row: does it come from a request, is it lent; its first chain. Is an end on loan.
 
 // ---- functions
+pub mod chain;
 pub mod question;

@@ -21,7 +21,7 @@ ghost use Rattle.questions.specs.contracts.Questions.{OnLoan, Comes, Len
 ghost use Rattle.questions.specs.contracts.Questions.{ViaReaches, PortReaches};
 
 // the greatest source word: the last slot plus 1
-const LAST_WORD: u32 = ROWS as u32;
+pub const LAST_WORD: u32 = ROWS as u32;
 
 // Whether the request in slot j lists e.
 fn lists_item(t: &[u32], j: usize, e: u32) -> bool

@@ -15,6 +15,15 @@ module _ {A : Type 0} where
   all-append f [] ys e d = d
   all-append f (x ∷ xs) ys e d = and-i (f x) (all f (xs ++ ys)) (and-l (f x) (all f xs) e) (all-append f xs ys (and-r (f x) (all f xs) e) d)
 
+  pub filter-append : (f : A → Bool) (xs ys : List A) → filter f (xs ++ ys) ≡ filter f xs ++ filter f ys
+  unfolding filter
+  filter-append f [] ys = refl
+  filter-append f (x ∷ xs) ys = rw (filter-append f xs ys) (pick (f x))
+    where
+      pick : (b : Bool) → cond b (x ∷ filter f xs ++ filter f ys) (filter f xs ++ filter f ys) ≡ cond b (x ∷ filter f xs) (filter f xs) ++ filter f ys
+      pick true = refl
+      pick false = refl
+
   pub all-map : {B : Type 0} (f : B → Bool) (g : A → B) (xs : List A) → all f (map g xs) ≡ all (λ x. f (g x)) xs
   unfolding all
   all-map f g [] = refl

@@ -1,7 +1,7 @@
--- The tables: rows, requests, process records, the next number; look-up; comes from, on loan, lent.
+-- The tables: rows, requests, process records, the next number; look-up; comes from, first chain, on loan, lent.
 use Prim.Native.Nat.{ℕ, zero, suc, max}
 use mathlib.Core.Bool.{Bool, true, false, _&&_, _||_}
-use mathlib.Core.List.{List, [], _∷_, map}
+use mathlib.Core.List.{List, [], _∷_, _++_, map}
 use lib.Dec.{eqb}
 use lib.ListN.{getD, replicate}
 use Rattle.rows.specs.declared.Row.{Row}
@@ -85,6 +85,11 @@ bears q r = eqb (r .request) q
 -- (rules R14, L11) e comes from q if it bears the number q, or if a source of e comes from q; to be on loan in q is not enough
 unfoldable pub comesFrom : List Row → ℕ → ℕ → Bool
 comesFrom rs q e = reaches (bears q) rs e
+
+-- (rule R15) the first chain of row e, oldest first: the first chain of its first source, which is an older row, then e
+unfoldable pub firstChain : List Row → ℕ → List ℕ
+firstChain [] e = []
+firstChain (r ∷ rs) e = elim (eqb (r .number) e) [ true ↦ firstChain rs (r .source) ++ (e ∷ []) | false ↦ firstChain rs e ]
 
 -- ---- loans
 -- (rules ask-ok-2, ask-ok-3) operations and subdirectories are copied, ends move: a row that is lent itself goes back when its loan closes

@@ -23,7 +23,7 @@ use Rattle.closing.proofs.Lookups.{oldest-none}
 use Rattle.closing.specs.Closing.{listedIn, settled, closing, closeRequest, closePort, dropRow}
 use Rattle.calls.specs.declared.Items.{Items}
 use Rattle.calls.specs.declared.Call.{Call}
-use Rattle.calls.specs.declared.Call.the-variants.{Go, Hold, Register, Drop, Port, Close, Ask, Fetch, Revoke, Comes}
+use Rattle.calls.specs.declared.Call.the-variants.{Go, Hold, Register, Drop, Port, Close, Ask, Fetch, Revoke, Comes, Chain}
 use Rattle.calls.specs.Rules.{askedOf, withNewRows, copyOf, withRecord}
 use Rattle.calls.specs.Loans.{itemsOf, handedOver}
 use Rattle.calls.specs.Calls.{heldDepth, registeredDepth, portDepth, portEnd, inUse, done, made, goHome, goThrough, withHeld, withRegistered, withPort, effect}
@@ -75,6 +75,7 @@ pub record Plain (st : State) (c : Call) : Type 0 where
 -- ---- the six kinds
 pub data Effect (st : State) : Call → State → Type 0 where
   tells : (e q : ℕ) → Effect st (Comes e q) st
+  shows : (e : ℕ) → Effect st (Chain e) st
   moves-to : (p e : ℕ) → GoAllowed st p e → Effect st (Go p e) (withRecord p (wentTo st p e) st)
   adds : (c : Call) (rs : List Row) (n : ℕ) → Adds st c rs → n ≡ st .next + length rs → Effect st c (withNewRows (rs ++ st .rows) n st)
   asks : (p c : ℕ) (is : Items) → AskAllowed st p c (itemsOf is) → Effect st (Ask p c is) (askedState st p c (itemsOf is))
@@ -184,3 +185,4 @@ effect-of st s (Fetch p e) a = fetches p e a
 effect-of st s (Call.Answer p e served) a = shuts-off (Call.Answer p e served) _ _ (request-closes st s (Call.Answer p e served) (askedOf st e .number) (a .asked) refl (λ r. refl)) (answer-plain st p e served)
 effect-of st s (Revoke p q) a = revoke-effect st s p q (a .number)
 effect-of st s (Comes e q) a = tells e q
+effect-of st s (Chain e) a = shows e

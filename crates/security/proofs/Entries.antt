@@ -8,7 +8,7 @@ use Rattle.rows.specs.Layout.{rightLengths, stateOf}
 use Rattle.tables.proofs.Sound.{Sound}
 use Rattle.tables.proofs.Words.{state-words}
 use Rattle.calls.specs.declared.Call.{Call}
-use Rattle.calls.specs.declared.Call.the-variants.{Go, Hold, Register, Drop, Port, Close, Ask, Fetch, Revoke, Comes}
+use Rattle.calls.specs.declared.Call.the-variants.{Go, Hold, Register, Drop, Port, Close, Ask, Fetch, Revoke, Comes, Chain}
 use Rattle.calls.specs.Answers.{valuesOf}
 use Rattle.calls.specs.Rules.{Out}
 use Rattle.calls.specs.Calls.{fetchedAnswer, effect}
@@ -39,6 +39,7 @@ answer-logged st log (Fetch p v) = refl
 answer-logged st log (Call.Answer p v served) = refl
 answer-logged st log (Revoke p q) = refl
 answer-logged st log (Comes e q) = refl
+answer-logged st log (Chain e) = refl
 
 module _ (st : State) (s : Sound st) (log : Log) (line : List ℕ) where
   abbrev o : Out

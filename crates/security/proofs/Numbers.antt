@@ -21,10 +21,10 @@ use Rattle.tables.proofs.Standing.{standing-shape}
 use Rattle.closing.proofs.Facts.{copy-listed, lists-open}
 use Rattle.calls.specs.declared.Answer.the-variants.{Made}
 use Rattle.calls.specs.declared.Call.{Call}
-use Rattle.calls.specs.declared.Call.the-variants.{Go, Hold, Register, Drop, Port, Close, Ask, Fetch, Revoke, Comes}
+use Rattle.calls.specs.declared.Call.the-variants.{Go, Hold, Register, Drop, Port, Close, Ask, Fetch, Revoke, Comes, Chain}
 use Rattle.calls.specs.Rules.{Out, refused, withNewRows, copyOf}
 use Rattle.calls.specs.Loans.{itemsOf, copies, newRequest}
-use Rattle.calls.specs.Calls.{portEnd, done, made, fetchedAnswer, effect}
+use Rattle.calls.specs.Calls.{portEnd, done, made, fetchedAnswer, chainedAnswer, effect}
 use Rattle.kept.proofs.Allowed.{AskAllowed}
 use Rattle.kept.proofs.AskFacts.{lentRows, askedRows, askedState}
 use Rattle.kept.proofs.AskStack.{bears-stacked}
@@ -34,7 +34,7 @@ use Rattle.security.specs.Changes.{takes, Touches}
 use Rattle.security.specs.Numbers.{Named, is-row, is-request, is-source, is-borne, is-item, is-port, is-gone-through, Spent, Lasting, Gives, Answered}
 use Rattle.security.proofs.Sessions.{session-sound, later-sound, later-has}
 use Rattle.security.proofs.Rows.{sources-cases, item-row, port-client, through-at}
-use Rattle.security.proofs.Effects.{Adds, holds, registers, makes, Effect, tells, moves-to, adds, asks, fetches, shuts-off, effect-of}
+use Rattle.security.proofs.Effects.{Adds, holds, registers, makes, Effect, tells, shows, moves-to, adds, asks, fetches, shuts-off, effect-of}
 use Rattle.security.proofs.Touches.{touches}
 use Rattle.security.proofs.Steps.{step-effect, step-sound, step-touches}
 
@@ -122,6 +122,7 @@ module _ (st : State) (s : Sound st) where
   given : (c : Call) (st′ : State) → Effect st c st′ → (n : ℕ) → st .next ≤ n → n < st′ .next → (IsRow st′ n) ⊎ (IsOpen st′ n)
   unfolding withNewRows
   given c st′ (tells e q) n lo hi = absurd (omega arith)
+  given c st′ (shows e) n lo hi = absurd (omega arith)
   given c st′ (moves-to p e a) n lo hi = let k = touches st s c st′ (moves-to p e a) .next in absurd (unfold takes in omega arith)
   given c st′ (adds c′ rs k a z) n lo hi = inl (adds-given c rs a n lo (omega arith))
   given c st′ (asks p d is a) n lo hi = asks-given p d is a n lo hi
@@ -168,7 +169,7 @@ module _ (st : State) (s : Sound st) where
       (z, omega arith)
 
   effect-answers : (c : Call) → Allowed st c → Answers st (effect st c)
-  unfolding effect takes fetchedAnswer made
+  unfolding effect takes fetchedAnswer chainedAnswer made
   effect-answers (Go p e) a n k = done-made _ n k
   effect-answers (Hold p e) a n k = next-made (Hold p e) a (omega arith) n k
   effect-answers (Register p e) a n k = next-made (Register p e) a (omega arith) n k
@@ -180,6 +181,7 @@ module _ (st : State) (s : Sound st) where
   effect-answers (Call.Answer p e served) a n k = done-made _ n k
   effect-answers (Revoke p q) a n k = done-made _ n k
   effect-answers (Comes e q) a n k = absurd (let z : _≡_ {A = ℕ} 0 1 = cc in omega arith)
+  effect-answers (Chain e) a n k = absurd (let z : _≡_ {A = ℕ} 0 1 = cc in omega arith)
 
 pub answered : Answered
 unfolding Answered refused

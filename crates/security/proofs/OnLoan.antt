@@ -22,7 +22,7 @@ use Rattle.closing.proofs.TrimmedLists.{trim, member-trim, any-first}
 use Rattle.closing.proofs.Facts.{request-number}
 use Rattle.calls.specs.declared.Items.{Items}
 use Rattle.calls.specs.declared.Call.{Call}
-use Rattle.calls.specs.declared.Call.the-variants.{Go, Hold, Register, Drop, Port, Close, Ask, Fetch, Revoke, Comes}
+use Rattle.calls.specs.declared.Call.the-variants.{Go, Hold, Register, Drop, Port, Close, Ask, Fetch, Revoke, Comes, Chain}
 use Rattle.calls.specs.Answers.{valuesOf}
 use Rattle.calls.specs.Rules.{Out}
 use Rattle.calls.specs.Loans.{itemsOf}
@@ -316,6 +316,7 @@ notes-request h n (Fetch p v) = no-request (Fetch p v) refl
 notes-request h n (Call.Answer p v served) = no-request (Call.Answer p v served) refl
 notes-request h n (Revoke p q) = no-request (Revoke p q) refl
 notes-request h n (Comes e q) = no-request (Comes e q) refl
+notes-request h n (Chain e) = no-request (Chain e) refl
 
 module _ (h : History) (st : State) (i : Inv h st) (l : Lends h st) (s : Sound st) (line : List ℕ) where
   abbrev o : Out

@@ -12,7 +12,7 @@ use Rattle.rows.specs.Codes.{inNode, inClist, withSystem}
 use Rattle.rows.specs.Tables.{rowOf}
 use Rattle.calls.specs.declared.Item.{Item}
 use Rattle.calls.specs.declared.Call.{Call}
-use Rattle.calls.specs.declared.Call.the-variants.{Go, Hold, Register, Drop, Port, Close, Ask, Fetch, Revoke, Comes}
+use Rattle.calls.specs.declared.Call.the-variants.{Go, Hold, Register, Drop, Port, Close, Ask, Fetch, Revoke, Comes, Chain}
 use Rattle.text.specs.declared.Entry.{Entry}
 use Rattle.text.specs.declared.Reading.{Reading}
 use Rattle.text.specs.declared.Reading.the-variants.{Asks, Crowded, Refused}
@@ -91,6 +91,7 @@ noteHomes fs h (Fetch p v) n hs = hs
 noteHomes fs h (Call.Answer p v served) n hs = hs
 noteHomes fs h (Revoke p q) n hs = hs
 noteHomes fs h (Comes e q) n hs = hs
+noteHomes fs h (Chain e) n hs = hs
 
 unfoldable pub readingHomes : List Form → History → Reading → ℕ → Homes → Homes
 readingHomes fs h (Asks c) n hs = noteHomes fs h c n hs

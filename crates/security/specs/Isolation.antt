@@ -106,7 +106,7 @@ pub data Alike (st st′ : State) (a a′ : Answer) : Type 0 where
   -- accepted, each with its next number
   new-number : a ≡ Made (st .next) → a′ ≡ Made (st′ .next) → Alike st st′ a a′
 
--- ==== on any two sound tables with the same view of p, a call of p (`comes` has no caller) is answered alike
+-- ==== on any two sound tables with the same view of p, a call of p (`comes` and `chain` have no caller) is answered alike
 unfoldable pub ViewDecides : Type 0
 ViewDecides =
     (st st′ : State) → sound st ≡ true → sound st′ ≡ true → (p : ℕ) → 0 < p → view st p ≡ view st′ p →

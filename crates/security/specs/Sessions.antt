@@ -9,7 +9,7 @@ use Rattle.rows.specs.Tables.{State, rowOf, numbers}
 use Rattle.rows.specs.Sound.{sound}
 use Rattle.rows.specs.Layout.{rightLengths}
 use Rattle.calls.specs.declared.Call.{Call}
-use Rattle.calls.specs.declared.Call.the-variants.{Go, Hold, Register, Drop, Port, Close, Ask, Fetch, Revoke, Comes}
+use Rattle.calls.specs.declared.Call.the-variants.{Go, Hold, Register, Drop, Port, Close, Ask, Fetch, Revoke, Comes, Chain}
 use Rattle.calls.specs.Answers.{refusalOf}
 use Rattle.calls.specs.Rules.{askedOf}
 use Rattle.text.specs.declared.Reading.{Reading}
@@ -60,6 +60,7 @@ logged st (Fetch p v) log = record { request = askedOf st v .number; process = p
 logged st (Call.Answer p v served) log = log
 logged st (Revoke p q) log = log
 logged st (Comes e q) log = log
+logged st (Chain e) log = log
 
 unfoldable pub nobody : Fetcher
 nobody = record { request = 0; process = 0 }
@@ -99,6 +100,7 @@ noteFetchCall (Fetch p v) q log = record { request = q; process = p } ∷ log
 noteFetchCall (Call.Answer p v served) q log = log
 noteFetchCall (Revoke p q′) q log = log
 noteFetchCall (Comes e q′) q log = log
+noteFetchCall (Chain e) q log = log
 
 unfoldable pub noteFetchReading : Reading → ℕ → Log → Log
 noteFetchReading (Asks c) q log = noteFetchCall c q log

@@ -5,6 +5,8 @@ pub mod Sound
 pub mod Marking
 -- standing rows of sound tables: shapes, sources, rights; rows in nodes stay
 pub mod Standing
+-- the first chain of a row: one step, its length, its rows
+pub mod FirstChain
 -- what sound tables tell of one row that is found and of one listed process
 pub mod SoundFacts
 -- keys that rise: each element is found by its key, also among those that a test picks

@@ -1,5 +1,5 @@
 -- Standing rows of sound tables: their shapes, sources and rights, looked up among all rows instead of the older ones; rows in nodes stay.
-use Prim.Native.Nat.{ℕ, _<_}
+use Prim.Native.Nat.{ℕ, suc, max, _<_, _≤_}
 use mathlib.Core.Bool.{Bool, true, false, not, cond, _&&_, _||_}
 use mathlib.Core.List.{List, [], _∷_}
 use mathlib.Core.Path.{_≡_, refl, sym, ap, _∙_}
@@ -10,10 +10,10 @@ use lib.Dec.{leb, eqb}
 use Rattle.rows.specs.declared.Row.{Row}
 use Rattle.rows.specs.declared.Request.{Request}
 use Rattle.rows.specs.Lists.{filter, any, all, each, member, between, some, nonzero}
-use Rattle.rows.specs.Limits.{nodes}
+use Rattle.rows.specs.Limits.{nodes, greatestDepth}
 use Rattle.rows.specs.Codes.{isEnd, inClist, isNode, isClist, within}
 use Rattle.rows.specs.Tables.{State, noRow, rowOf, numbers, sources, marked}
-use Rattle.rows.specs.Sound.{rowsRise, isOpening, isRegistered, isHeld, isPortEnd, isLentCopy, sourceRight, sourcesRight, copyMatches, copiesMatch, hasRightSources, matchesSource, sourced, sourceOf, viaOf}
+use Rattle.rows.specs.Sound.{rowsRise, isOpening, isRegistered, isHeld, isPortEnd, isLentCopy, sourceRight, sourcesRight, copyMatches, copiesMatch, hasRightSources, hasRightDepth, depthsRight, matchesSource, sourced, sourceOf, viaOf}
 use Rattle.rows.proofs.Bools.{false-of, clash, not-t, and-l, and-r, and-i, some-pos, member-here, member-there}
 use Rattle.rows.proofs.Keyed.{olderOf, each-first, older-first, older-key, rises-range}
 use Rattle.tables.proofs.Sound.{Numbers, RowsSound}
@@ -67,6 +67,16 @@ module _ (st : State) (up : Numbers (st .next) (st .rows) (st .requests)) (s : R
   pub standing-copy : copyMatches row (st .rows) ≡ true
   unfolding copiesMatch
   standing-copy = sourced-at matchesSource (s .copies-match)
+
+  -- the depths of the sources are less
+  pub depth-falls : (sourceOf (st .rows) row .depth < row .depth) × (viaOf (st .rows) row .depth < row .depth) × (row .depth ≤ 12)
+  unfolding depthsRight hasRightDepth greatestDepth
+  depth-falls =
+      let over = suc (max (sourceOf (st .rows) row .depth) (viaOf (st .rows) row .depth)) in
+      let right : eqb (row .depth) over && leb (row .depth) 12 ≡ true = sourced-at hasRightDepth (s .depths-right) in
+      let same : row .depth ≡ over = eqb-true (row .depth) over (and-l (eqb (row .depth) over) (leb (row .depth) 12) right) in
+      let most : row .depth ≤ 12 = leb-true (row .depth) 12 (and-r (eqb (row .depth) over) (leb (row .depth) 12) right) in
+      (omega arith, omega arith, most)
 
 -- ---- sources
 -- 0, or what passes

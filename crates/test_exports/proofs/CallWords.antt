@@ -1,4 +1,4 @@
--- The call of its words: a code above all others is that of comes, and a caller that fits is in range.
+-- The call of its words: comes, a code above all others is that of chain, and a caller that fits is in range.
 use Prim.Native.Nat.{ℕ, _≤_}
 use mathlib.Core.Bool.{Bool, true, false, cond, _||_}
 use mathlib.Core.Path.{_≡_, refl, subst}
@@ -11,7 +11,7 @@ use Rattle.rows.proofs.Bools.{or-cases}
 use Rattle.rows.proofs.Places.{between-range}
 use Rattle.calls.specs.declared.Items.{Items}
 use Rattle.calls.specs.declared.Call.{Call}
-use Rattle.calls.specs.declared.Call.the-variants.{Go, Hold, Register, Drop, Port, Close, Ask, Fetch, Revoke, Comes}
+use Rattle.calls.specs.declared.Call.the-variants.{Go, Hold, Register, Drop, Port, Close, Ask, Fetch, Revoke, Comes, Chain}
 use Rattle.calls.specs.contracts.Effects.{IsProcess}
 use Rattle.calls.specs.contracts.Performs.{CallerInRange}
 use Rattle.test_exports.specs.contracts.Calls.{callOfCode}
@@ -21,9 +21,10 @@ either-in-range true x y h k = h
 either-in-range false x y h k = k
 
 module _ (k p e : ℕ) (is : Items) (served : Bool) where
-  pub last-code : 10 ≤ k → Comes p e ≡ callOfCode k p e is served
+  -- codes of calls without a caller
+  no-caller : 10 ≤ k → cond (eqb k 10) (Comes p e) (Chain p) ≡ callOfCode k p e is served
   unfolding callOfCode
-  last-code h =
+  no-caller h =
       rw (
         ne-eqb k 0 (λ z. omega arith),
         ne-eqb k 1 (λ z. omega arith),
@@ -43,11 +44,11 @@ module _ (k p e : ℕ) (is : Items) (served : Bool) where
       either-in-range (eqb k 0) (Go p e) _ h (either-in-range (eqb k 1) (Hold p e) _ h (either-in-range (eqb k 2) (Register p e) _ h
       (either-in-range (eqb k 3) (Drop p e) _ h (either-in-range (eqb k 4) (Port p e) _ h (either-in-range (eqb k 5) (Close p e) _ h
       (either-in-range (eqb k 6) (Ask p e is) _ h (either-in-range (eqb k 7) (Fetch p e) _ h (either-in-range (eqb k 8) (Call.Answer p e served) _ h
-      (either-in-range (eqb k 9) (Revoke p e) (Comes p e) h tt)))))))))
+      (either-in-range (eqb k 9) (Revoke p e) _ h (either-in-range (eqb k 10) (Comes p e) (Chain p) tt tt))))))))))
 
   pub fits-in-range : leb 10 k || between 1 64 p ≡ true → CallerInRange (callOfCode k p e is served)
   unfolding CallerInRange
   fits-in-range h =
-      ⊎-elim (λ q. subst CallerInRange (last-code (leb-true 10 k q)) tt)
+      ⊎-elim (λ q. subst CallerInRange (no-caller (leb-true 10 k q)) (either-in-range (eqb k 10) (Comes p e) (Chain p) tt tt))
       (λ q. let (lo, hi) = between-range 1 64 p q in process-in-range (omega arith, hi))
       (or-cases (leb 10 k) (between 1 64 p) h)

@@ -1,5 +1,7 @@
-// Questions about the tables. Where the words have another length or the slot is none, the answer is no.
+// Questions about the tables. Where the words have another length or the slot is none, the answer is no, or 0 numbers.
+use questions::chain;
 use questions::question;
+use rows::codes::GREATEST_DEPTH;
 use rows::layout::ROWS;
 use rows::layout::TABLES;
 use soundness::sound;
@@ -9,6 +11,10 @@ ghost use Prim.Native.Nat.{_<_};
 ghost use Rattle.rows.specs.Layout.{soundWords};
 ghost use Rattle.rows.specs.contracts.Sizes.{ROWS, IsTables};
 ghost use Rattle.test_exports.specs.contracts.Exports.{Unless, TellsOnLoan, TellsComesFrom, TellsLent};
+ghost use Rattle.test_exports.specs.contracts.Exports.{ChainWritten, NoChain};
+
+// the rows of a chain at most: one of each depth
+const LONGEST_CHAIN: usize = 12;
 
 #[no_mangle]
 pub extern "C" fn kernel_sound(t: &[u32], p: &[u32]) -> bool
@@ -54,4 +60,22 @@ pub extern "C" fn kernel_lent(t: &[u32], e: usize) -> bool
         return false;
     }
     question::lent(t, e)
+}
+
+// The first chain of the row in slot e, written to the front of `chain`, which has twelve words at least.
+#[no_mangle]
+pub extern "C" fn kernel_first_chain(t: &[u32], e: usize, chain: &mut [u32]) -> usize
+    ensures written { λ r. ⌜ ChainWritten (now (t .entry)) e (now (chain .entry)) (now (chain .exit)) r ⌝ }
+    ensures other { λ r. ⌜ NoChain (now (t .entry)) e (now (chain .entry)) (now (chain .exit)) r ⌝ }
+{
+    if t.len() != TABLES {
+        return 0;
+    }
+    if ROWS <= e {
+        return 0;
+    }
+    if chain.len() < LONGEST_CHAIN {
+        return 0;
+    }
+    chain::first_chain(t, (e + 1) as u32, GREATEST_DEPTH, chain)
 }

@@ -11,13 +11,13 @@ ghost use mathlib.Core.Path.{_≡_};
 ghost use Rattle.test_exports.specs.contracts.Calls.{itemsOfWords, callOfWords, callFits, wordsOfAnswer};
 ghost use Rattle.test_exports.specs.contracts.Calls.{PerformsWords, AllStay};
 
-// a call: its code, its two numbers, row and rights of each item of an ask, or 1 for a request served; an answer: its
-// code and its numbers
+// a call: its code, its two numbers (of chain its row, and one that is not looked at), row and rights of each item of an
+// ask, or 1 for a request served; an answer: its code and its numbers
 pub const CALL_WORDS: usize = 11;
 
-pub const ANSWER_WORDS: usize = 6;
+pub const ANSWER_WORDS: usize = 13;
 
-// the code of comes, which has no caller
+// the code of comes: from it on calls have no caller
 const COMES: u32 = 10;
 
 fn items_of(w: &[u32; CALL_WORDS]) -> Items
@@ -47,7 +47,7 @@ fn items_of(w: &[u32; CALL_WORDS]) -> Items
     }
 }
 
-// The call of its words; a code above that of comes stands for comes too.
+// The call of its words; a code above that of chain stands for chain too.
 fn call_of(w: &[u32; CALL_WORDS]) -> Call
     ensures { λ r. ⌜ r ≡ callOfWords (now (w .entry)) ⌝ }
 {
@@ -66,7 +66,8 @@ fn call_of(w: &[u32; CALL_WORDS]) -> Call
         7 => Call::Fetch(p, e),
         8 => Call::Answer(p, e, served),
         9 => Call::Revoke(p, e),
-        _ => Call::Comes(p, e),
+        10 => Call::Comes(p, e),
+        _ => Call::Chain(p),
     }
 }
 
@@ -82,17 +83,32 @@ fn words_of(a: Answer) -> [u32; ANSWER_WORDS]
     ensures { λ r. ⌜ r ≡ wordsOfAnswer a ⌝ }
 {
     match a {
-        Answer::Done => [0, 0, 0, 0, 0, 0],
-        Answer::Made(n) => [1, n, 0, 0, 0, 0],
-        Answer::Fetched(v, e, f, g, h) => [2, v, e, f, g, h],
+        Answer::Done => [0, 0, 0, 0, 0, 0, 0, 0, 0, 0, 0, 0, 0],
+        Answer::Made(n) => [1, n, 0, 0, 0, 0, 0, 0, 0, 0, 0, 0, 0],
+        Answer::Fetched(v, e, f, g, h) => [2, v, e, f, g, h, 0, 0, 0, 0, 0, 0, 0],
         Answer::Told(b) => {
             if b {
-                [3, 1, 0, 0, 0, 0]
+                [3, 1, 0, 0, 0, 0, 0, 0, 0, 0, 0, 0, 0]
             } else {
-                [3, 0, 0, 0, 0, 0]
+                [3, 0, 0, 0, 0, 0, 0, 0, 0, 0, 0, 0, 0]
             }
         }
-        Answer::Refused(k) => [4, k, 0, 0, 0, 0],
+        Answer::Chained(a, b, c) => [
+            5,
+            a.first,
+            a.second,
+            a.third,
+            a.fourth,
+            b.first,
+            b.second,
+            b.third,
+            b.fourth,
+            c.first,
+            c.second,
+            c.third,
+            c.fourth,
+        ],
+        Answer::Refused(k) => [4, k, 0, 0, 0, 0, 0, 0, 0, 0, 0, 0, 0],
     }
 }
 

@@ -8,12 +8,12 @@ use lib.Dec.{leb, eqb}
 use lib.ListN.{length, getD}
 use borrow.Author.Tests.{leb-true, eq-eqb, eqb-true}
 use Rattle.rows.specs.Lists.{bytes, between, all, nonzero, some}
-use Rattle.rows.specs.Limits.{greatestNumber, mostItems}
+use Rattle.rows.specs.Limits.{greatestNumber, greatestDepth}
 use Rattle.rows.proofs.Bools.{and-l, and-r, clash}
 use Rattle.changes.proofs.Removed.{length-filter}
 use Rattle.calls.specs.declared.Answer.{Answer}
-use Rattle.calls.specs.declared.Answer.the-variants.{Done, Made, Fetched, Told, Refused}
-use Rattle.calls.specs.Answers.{refusalOf, valuesOf}
+use Rattle.calls.specs.declared.Answer.the-variants.{Done, Made, Fetched, Told, Chained, Refused}
+use Rattle.calls.specs.Answers.{refusalOf, numbersOf, valuesOf}
 use Rattle.text.specs.declared.Read.{Read}
 use Rattle.text.specs.Patterns.{isDigit, bad, began, form, whole}
 use Rattle.text.specs.Answers.{digitsOf, spaced, okText, noText, printed}
@@ -62,12 +62,12 @@ ok-no-refusal s u a0 =
     (then-reads s (reading 0 0 0 0 0) _ bad 40 (110 ∷ 111 ∷ 32 ∷ 35 ∷ 41 ∷ 10 ∷ []) (takes-byte s 0 0 0 0 0 40 _ a0 refl refl)
     (then-bad s (reading 1 0 0 0 0) 110 (111 ∷ 32 ∷ 35 ∷ 41 ∷ 10 ∷ []) (other-byte s 1 0 0 0 0 111 110 u (at-next s 0 40 _ a0) refl refl refl)))
 
-ok-back : (ns : List ℕ) → length ns ≤ suc mostItems → all (λ n. leb n greatestNumber) ns ≡ true → answeredBy (okText ns) ≡ record { refusal = 0; values = ns }
+ok-back : (ns : List ℕ) → length ns ≤ greatestDepth → all (λ n. leb n greatestNumber) ns ≡ true → answeredBy (okText ns) ≡ record { refusal = 0; values = ns }
 unfolding answeredBy okText whole bytes
 ok-back ns h r =
     let s : List ℕ = 40 ∷ 111 ∷ 107 ∷ (spaced ns ++ (41 ∷ 10 ∷ [])) in
     let a = at-next s 2 107 _ (at-next s 1 111 _ (at-next s 0 40 _ (at-start s))) in
-    rw (ok-no-refusal s _ (at-start s), values-back s (suc mostItems) ns 3 h r a) refl
+    rw (ok-no-refusal s _ (at-start s), values-back s greatestDepth ns 3 h r a) refl
 
 -- ---- `(no k)`
 no-back : (k : ℕ) → k ≤ greatestNumber → answeredBy (noText (k ∷ [])) ≡ record { refusal = k; values = [] }
@@ -95,12 +95,13 @@ no-back k h =
     ) refl
 
 -- ---- every answer
-few-values : (a : Answer) → length (valuesOf a) ≤ suc mostItems
-unfolding valuesOf mostItems nonzero
+pub few-values : (a : Answer) → length (valuesOf a) ≤ greatestDepth
+unfolding valuesOf numbersOf greatestDepth nonzero
 few-values Done = omega arith
 few-values (Made n) = omega arith
 few-values (Fetched v a b c d) = let h = length-filter some (a ∷ b ∷ c ∷ d ∷ []) in omega arith
 few-values (Told t) = omega arith
+few-values (Chained a b c) = length-filter some (numbersOf a ++ (numbersOf b ++ numbersOf c))
 few-values (Refused k) = omega arith
 
 values-none : (a : Answer) → eqb (refusalOf a) 0 ≡ false → valuesOf a ≡ []
@@ -109,6 +110,7 @@ values-none Done e = clash refl e
 values-none (Made n) e = clash refl e
 values-none (Fetched v a b c d) e = clash refl e
 values-none (Told t) e = clash refl e
+values-none (Chained a b c) e = clash refl e
 values-none (Refused k) e = refl
 
 pub answer-read : (a : Answer) → answerInRange a ≡ true → answeredBy (printed a) ≡ saying a

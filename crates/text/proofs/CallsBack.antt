@@ -13,17 +13,17 @@ use Rattle.rows.proofs.Bools.{and-l, and-r, clash}
 use Rattle.calls.specs.declared.Item.{Item}
 use Rattle.calls.specs.declared.Items.{Items}
 use Rattle.calls.specs.declared.Call.{Call}
-use Rattle.calls.specs.declared.Call.the-variants.{Go, Hold, Register, Drop, Port, Close, Ask, Fetch, Revoke, Comes}
+use Rattle.calls.specs.declared.Call.the-variants.{Go, Hold, Register, Drop, Port, Close, Ask, Fetch, Revoke, Comes, Chain}
 use Rattle.calls.specs.Loans.{itemsOf}
 use Rattle.changes.proofs.Removed.{length-filter}
 use Rattle.text.specs.declared.Read.{Read}
 use Rattle.text.specs.declared.Reading.{Reading}
 use Rattle.text.specs.declared.Reading.the-variants.{Asks}
-use Rattle.text.specs.Patterns.{isDigit, isLetter, spelt, bad, began, form, whole, wordFrom, wordOf, mostGroups}
-use Rattle.text.specs.CallLines.{isProcess, isNumber, ranged, simple, simpleForm, answerForm, comesForm, Gathered, itemOf, addItem, gathered, itemRanged, packed, judged, askForm, readingOf}
+use Rattle.text.specs.Patterns.{isDigit, isLetter, spelt, bad, began, pieces, form, whole, wordFrom, wordOf, mostGroups}
+use Rattle.text.specs.CallLines.{isProcess, isNumber, ranged, simple, simpleForm, answerForm, chainForm, comesForm, Gathered, itemOf, addItem, gathered, itemRanged, packed, judged, askForm, readingOf}
 use Rattle.text.specs.Answers.{decimal, digitsOf}
 use Rattle.text.proofs.Answers.{leads-decimal}
-use Rattle.text.specs.ReadBack.{simpleText, itemsText, askText, lastOf, answerText, comesText, callText, InRange}
+use Rattle.text.specs.ReadBack.{simpleText, itemsText, askText, lastOf, answerText, comesText, chainText, callText, InRange}
 use Rattle.text.proofs.Cursor.{At, at-start, at-skip, at-next, reading, takes-byte, other-byte, no-number, takes-number, takes-word, then-reads, reads-all, then-bad}
 
 -- ---- numbers as text
@@ -61,7 +61,7 @@ ends : (s : List ℕ) (i w x y z : ℕ) → At s i [] → whole s (reading i w x
 unfolding whole
 ends s i w x y z a = let e = a .size in eq-eqb i (length s) (omega arith)
 
-short : (s : List ℕ) → length s ≤ 256 → readingOf s ≡ askForm s (comesForm s (simpleForm s (answerForm s)))
+short : (s : List ℕ) → length s ≤ 256 → readingOf s ≡ askForm s (comesForm s (simpleForm s (answerForm s (chainForm s))))
 unfolding readingOf mostBytes
 short s h = rw (le-ltb 256 (length s) h) refl
 
@@ -134,7 +134,7 @@ module _ (s : List ℕ) (p n b : ℕ) (ws : List ℕ) (l : all isLetter (b ∷ w
       let e = a8 .size in
       let dp = digits-short p in
       let dn = digits-short n in
-      short s (omega arith) ∙ no-ask _ d ∙ no-comes s p _ _ a0 hp ∙ simple-form (answerForm s)
+      short s (omega arith) ∙ no-ask _ d ∙ no-comes s p _ _ a0 hp ∙ simple-form (answerForm s (chainForm s))
 
 -- ---- answer
 module _ (s : List ℕ) (p v x : ℕ) (hp : p ≤ greatestNumber) (hv : v ≤ greatestNumber) (hx : x ≤ greatestNumber)
@@ -255,12 +255,59 @@ comes-read s e q he hq a0 =
       at-next s _ 10 _ b2,
     )
 
--- `comes` is no number
-comes-no-ask : (s u : List ℕ) (other : Reading) → At s 0 (40 ∷ 99 ∷ u) → askForm s other ≡ other
-unfolding askForm form began bytes bad isDigit between
-comes-no-ask s u other a0 =
-    rw (then-reads s (reading 0 0 0 0 0) _ bad 40 (35 ∷ 32 ∷ 97 ∷ 115 ∷ 107 ∷ 32 ∷ 35 ∷ []) (takes-byte s 0 0 0 0 0 40 _ a0 refl refl)
-    (then-bad s (reading 1 0 0 0 0) 35 (32 ∷ 97 ∷ 115 ∷ 107 ∷ 32 ∷ 35 ∷ []) (no-number s 1 0 0 0 0 99 u (at-next s 0 40 _ a0) refl refl))) refl
+-- a line whose second byte is a c has no caller
+no-caller : (s u ps : List ℕ) → At s 0 (40 ∷ 99 ∷ u) → pieces s (reading 0 0 0 0 0) (40 ∷ 35 ∷ ps) ≡ bad
+unfolding isDigit between
+no-caller s u ps a0 =
+    then-reads s (reading 0 0 0 0 0) _ bad 40 (35 ∷ ps) (takes-byte s 0 0 0 0 0 40 _ a0 refl refl)
+    (then-bad s (reading 1 0 0 0 0) 35 ps (no-number s 1 0 0 0 0 99 u (at-next s 0 40 _ a0) refl refl))
+
+uncalled-no-ask : (s u : List ℕ) (other : Reading) → At s 0 (40 ∷ 99 ∷ u) → askForm s other ≡ other
+unfolding askForm form began bytes bad
+uncalled-no-ask s u other a0 = rw (no-caller s u (32 ∷ 97 ∷ 115 ∷ 107 ∷ 32 ∷ 35 ∷ []) a0) refl
+
+uncalled-no-simple : (s u : List ℕ) (other : Reading) → At s 0 (40 ∷ 99 ∷ u) → simpleForm s other ≡ other
+unfolding simpleForm whole form began bytes bad
+uncalled-no-simple s u other a0 = rw (no-caller s u (32 ∷ 64 ∷ 32 ∷ 35 ∷ 41 ∷ 10 ∷ []) a0) refl
+
+uncalled-no-answer : (s u : List ℕ) (other : Reading) → At s 0 (40 ∷ 99 ∷ u) → answerForm s other ≡ other
+unfolding answerForm whole form began bytes bad
+uncalled-no-answer s u other a0 = rw (no-caller s u (32 ∷ 97 ∷ 110 ∷ 115 ∷ 119 ∷ 101 ∷ 114 ∷ 32 ∷ 35 ∷ 32 ∷ 35 ∷ 41 ∷ 10 ∷ []) a0) refl
+
+-- ---- chain
+chain-read : (s : List ℕ) (e : ℕ) → e ≤ greatestNumber → At s 0 (bytes "(chain " ++ (digitsOf e ++ (41 ∷ 10 ∷ [])))
+    → (form s 0 "(chain #)\n" ≡ reading (7 + length (digitsOf e) + 1 + 1) 0 0 0 e) × At s (7 + length (digitsOf e) + 1 + 1) []
+unfolding form began bytes isDigit between
+chain-read s e he a0 =
+    let a1 = at-next s 0 40 _ a0 in
+    let a2 = at-next s 1 99 _ a1 in
+    let a3 = at-next s 2 104 _ a2 in
+    let a4 = at-next s 3 97 _ a3 in
+    let a5 = at-next s 4 105 _ a4 in
+    let a6 = at-next s 5 110 _ a5 in
+    let a7 = at-next s 6 32 _ a6 in
+    let a8 = at-skip s 7 (digitsOf e) _ a7 in
+    let a9 = at-next s _ 41 _ a8 in (
+      then-reads s _ _ _ 40 _ (takes-byte s 0 0 0 0 0 40 _ a0 refl refl)
+          (then-reads s _ _ _ 99 _ (takes-byte s 1 0 0 0 0 99 _ a1 refl refl)
+          (then-reads s _ _ _ 104 _ (takes-byte s 2 0 0 0 0 104 _ a2 refl refl)
+          (then-reads s _ _ _ 97 _ (takes-byte s 3 0 0 0 0 97 _ a3 refl refl)
+          (then-reads s _ _ _ 105 _ (takes-byte s 4 0 0 0 0 105 _ a4 refl refl)
+          (then-reads s _ _ _ 110 _ (takes-byte s 5 0 0 0 0 110 _ a5 refl refl)
+          (then-reads s _ _ _ 32 _ (takes-byte s 6 0 0 0 0 32 _ a6 refl refl)
+          (then-reads s _ _ _ 35 _ (takes-number s 7 0 0 0 0 e _ a7 he refl)
+          (then-reads s _ _ _ 41 _ (takes-byte s _ 0 0 0 e 41 _ a8 refl refl)
+          (then-reads s _ _ _ 10 _ (takes-byte s _ 0 0 0 e 10 _ a9 refl refl) (reads-all s _)))))))))),
+      at-next s _ 10 _ a9,
+    )
+
+chain-no-comes : (s u : List ℕ) (other : Reading) → At s 0 (40 ∷ 99 ∷ 104 ∷ u) → comesForm s other ≡ other
+unfolding comesForm whole form began bytes bad
+chain-no-comes s u other a0 =
+    let a1 = at-next s 0 40 _ a0 in
+    rw (then-reads s (reading 0 0 0 0 0) _ bad 40 _ (takes-byte s 0 0 0 0 0 40 _ a0 refl refl)
+    (then-reads s _ _ _ 99 _ (takes-byte s 1 0 0 0 0 99 _ a1 refl refl)
+    (then-bad s (reading 2 0 0 0 0) 111 (109 ∷ 101 ∷ 115 ∷ 32 ∷ 35 ∷ 32 ∷ 35 ∷ 41 ∷ 10 ∷ []) (other-byte s 2 0 0 0 0 104 111 u (at-next s 1 99 _ a1) refl refl refl)))) refl
 
 -- ---- ask
 items-lead : (is : List Item) → isDigit (getD (itemsText is ++ (41 ∷ 10 ∷ [])) 0 0) ≡ false
@@ -431,14 +478,25 @@ comes-back e q he hq =
     let z = f .1 .size in
     let de = digits-short e in
     let dq = digits-short q in
-    short s (omega arith) ∙ comes-no-ask s _ _ (at-start s) ∙ (rw (f .0, ends s _ 0 0 e q (f .1), he, hq) refl)
+    short s (omega arith) ∙ uncalled-no-ask s _ _ (at-start s) ∙ (rw (f .0, ends s _ 0 0 e q (f .1), he, hq) refl)
+
+chain-back : (e : ℕ) → isNumber e ≡ true → readingOf (bytes "(chain " ++ (digitsOf e ++ (41 ∷ 10 ∷ []))) ≡ Asks (Chain e)
+unfolding chainForm ranged bytes
+chain-back e he =
+    let s = bytes "(chain " ++ (digitsOf e ++ (41 ∷ 10 ∷ [])) in
+    let a = at-start s in
+    let f = chain-read s e (number-fits e he) a in
+    let z = f .1 .size in
+    let de = digits-short e in
+    short s (omega arith) ∙ uncalled-no-ask s _ _ a ∙ chain-no-comes s _ _ a ∙ uncalled-no-simple s _ _ a ∙ uncalled-no-answer s _ _ a
+    ∙ (rw (f .0, ends s _ 0 0 0 e (f .1), he) refl)
 
 few-items : (is : Items) → length (itemsOf is) ≤ 4
 unfolding itemsOf
 few-items is = length-filter (λ i. some (i .row)) (is .first ∷ is .second ∷ is .third ∷ is .fourth ∷ [])
 
 pub call-read : (c : Call) → InRange c → readingOf (callText c) ≡ Asks c
-unfolding InRange callText simpleText askText answerText lastOf comesText simple ranged bytes wordOf wordFrom spelt all isLetter between
+unfolding InRange callText simpleText askText answerText lastOf comesText chainText simple ranged bytes wordOf wordFrom spelt all isLetter between
 call-read (Go p e) h =
     one-number p e 103 (111 ∷ []) refl refl (omega arith) (and-l (isProcess p) (leb e greatestNumber) h) (leb-true e greatestNumber (and-r (isProcess p) (leb e greatestNumber) h)) (Asks (Go p e)) (rw h refl)
 call-read (Hold p e) h = named p e h 104 (111 ∷ 108 ∷ 100 ∷ []) refl refl (omega arith) (Asks (Hold p e)) (rw h refl)
@@ -452,3 +510,4 @@ call-read (Call.Answer p e true) h = answered p e 1 h (omega arith)
 call-read (Call.Answer p e false) h = answered p e 0 h (omega arith)
 call-read (Revoke p e) h = named p e h 114 (101 ∷ 118 ∷ 111 ∷ 107 ∷ 101 ∷ []) refl refl (omega arith) (Asks (Revoke p e)) (rw h refl)
 call-read (Comes e q) h = comes-back e q (and-l (isNumber e) (isNumber q) h) (and-r (isNumber e) (isNumber q) h)
+call-read (Chain e) h = chain-back e h

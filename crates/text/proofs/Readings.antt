@@ -13,7 +13,7 @@ use Rattle.rows.proofs.Bools.{and-l, and-r, all-mono}
 use Rattle.rows.proofs.Places.{between-range}
 use Rattle.calls.specs.declared.Item.{Item}
 use Rattle.calls.specs.declared.Call.{Call}
-use Rattle.calls.specs.declared.Call.the-variants.{Go, Hold, Register, Drop, Port, Close, Ask, Fetch, Revoke, Comes}
+use Rattle.calls.specs.declared.Call.the-variants.{Go, Hold, Register, Drop, Port, Close, Ask, Fetch, Revoke, Comes, Chain}
 use Rattle.calls.specs.Rules.{isRefusal}
 use Rattle.calls.specs.Loans.{itemsOf}
 use Rattle.calls.specs.contracts.Effects.{IsProcess}
@@ -21,7 +21,7 @@ use Rattle.calls.specs.contracts.Performs.{CallerInRange}
 use Rattle.text.specs.declared.Reading.{Reading}
 use Rattle.text.specs.declared.Reading.the-variants.{Asks, Crowded, Refused}
 use Rattle.text.specs.Patterns.{form, whole, wordOf, mostGroups}
-use Rattle.text.specs.CallLines.{isProcess, isNumber, ranged, simple, simpleForm, answerForm, comesForm, gathered, itemRanged, noItem, packed, judged, askForm, readingOf}
+use Rattle.text.specs.CallLines.{isProcess, isNumber, ranged, simple, simpleForm, chainForm, answerForm, comesForm, gathered, itemRanged, noItem, packed, judged, askForm, readingOf}
 
 -- ---- what is guaranteed
 pub record GoodNumber (p e : ℕ) : Type 0 where
@@ -56,6 +56,7 @@ Good (Fetch p v) = GoodNumber p v
 Good (Call.Answer p v served) = GoodNumber p v
 Good (Revoke p q) = GoodNumber p q
 Good (Comes e q) = GoodComes e q
+Good (Chain e) = isNumber e ≡ true
 
 -- a call that is read is good; a refusal has such a number
 unfoldable Reads : Reading → Type 0
@@ -101,16 +102,22 @@ simple-form-reads s other h =
     let f = form s 0 "(# @ #)\n" in
     if-reads (whole s f) (simple (f .word) (f .b) (f .c)) other (simple-reads (f .word) (f .b) (f .c)) h
 
-answer-form-reads : (s : List ℕ) → Reads (answerForm s)
+chain-form-reads : (s : List ℕ) → Reads (chainForm s)
+unfolding chainForm Good Reads
+chain-form-reads s =
+    let f = form s 0 "(chain #)\n" in
+    if-reads (whole s f) (ranged (isNumber (f .c)) (Chain (f .c))) (Refused 2) (ranged-reads (isNumber (f .c)) (Chain (f .c)) (λ e. e)) refl
+
+answer-form-reads : (s : List ℕ) (other : Reading) → Reads other → Reads (answerForm s other)
 unfolding answerForm Good Reads
-answer-form-reads s =
+answer-form-reads s other h =
     let f = form s 0 "(# answer # #)\n" in
     let p = isProcess (f .a) in
     let v = isNumber (f .b) in
     let x = leb (f .c) 1 in
     let call = Call.Answer (f .a) (f .b) (eqb (f .c) 1) in
-    if-reads (whole s f) (ranged (p && (v && x)) call) (Refused 2)
-    (ranged-reads (p && (v && x)) call (λ e. record { caller = and-l p (v && x) e; number = and-l v x (and-r p (v && x) e) })) refl
+    if-reads (whole s f) (ranged (p && (v && x)) call) other
+    (ranged-reads (p && (v && x)) call (λ e. record { caller = and-l p (v && x) e; number = and-l v x (and-r p (v && x) e) })) h
 
 comes-form-reads : (s : List ℕ) (other : Reading) → Reads other → Reads (comesForm s other)
 unfolding comesForm Good
@@ -187,10 +194,10 @@ ask-form-reads s other h =
 line-reads : (s : List ℕ) → Reads (readingOf s)
 unfolding readingOf Reads
 line-reads s =
-    let answered = answerForm s in
+    let answered = answerForm s (chainForm s) in
     let one = simpleForm s answered in
     if-reads (ltb (suc mostBytes) (length s)) (Refused 2) (askForm s (comesForm s one)) refl
-    (ask-form-reads s (comesForm s one) (comes-form-reads s one (simple-form-reads s answered (answer-form-reads s))))
+    (ask-form-reads s (comesForm s one) (comes-form-reads s one (simple-form-reads s answered (answer-form-reads s (chainForm s) (chain-form-reads s)))))
 
 -- ---- what other files use
 pub reading-good : (line : List ℕ) (c : Call) → readingOf line ≡ Asks c → Good c
@@ -219,6 +226,7 @@ good-in-range (Fetch p v) g = process-range p (g .caller)
 good-in-range (Call.Answer p v served) g = process-range p (g .caller)
 good-in-range (Revoke p q) g = process-range p (g .caller)
 good-in-range (Comes e q) g = tt
+good-in-range (Chain e) g = tt
 
 pub reading-in-range : (line : List ℕ) (c : Call) → readingOf line ≡ Asks c → CallerInRange c
 reading-in-range line c e = good-in-range c (reading-good line c e)

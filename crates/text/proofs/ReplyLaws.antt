@@ -13,6 +13,7 @@ use lib.Seq.{take-suc, take-all}
 use borrow.Author.Tests.{lt-ltb, le-ltb, le-leb, ltb-true, leb-true}
 use mir.Val.{boolByte}
 use Rattle.rows.proofs.Bools.{clash, and-l, and-r, and-i}
+use Rattle.rows.proofs.Lists.{filter-append}
 use Rattle.rows.specs.Lists.{pad, nonzero, filter, some, if_then_else_}
 use Rattle.text.specs.Answers.{decimal, spaced, digitsOf}
 use Rattle.text.specs.contracts.Replies.{inReply, Puts}
@@ -122,6 +123,17 @@ four-listed a b c d =
 -- values in two parts, then the end
 pub two-parts : (ms ns e : List ℕ) → spaced ms ++ (spaced ns ++ e) ≡ spaced (ms ++ ns) ++ e
 two-parts ms ns e = rw (spaced-append ms ns, append-assoc) refl
+
+-- the listed ones of three lists, one after the other, then the end
+nonzero-append : (ms ns : List ℕ) → nonzero (ms ++ ns) ≡ nonzero ms ++ nonzero ns
+unfolding nonzero
+nonzero-append ms ns = filter-append some ms ns
+
+pub three-listed : (ks ms ns e : List ℕ)
+    → spaced (nonzero ks) ++ (spaced (nonzero ms) ++ (spaced (nonzero ns) ++ e)) ≡ spaced (nonzero (ks ++ (ms ++ ns))) ++ e
+three-listed ks ms ns e =
+    rw (nonzero-append ks (ms ++ ns), nonzero-append ms ns)
+    (ap (λ (t : List ℕ). spaced (nonzero ks) ++ t) (two-parts (nonzero ms) (nonzero ns) e) ∙ two-parts (nonzero ks) (nonzero ms ++ nonzero ns) e)
 
 -- a bool as a number
 pub told-number : (b : Bool) → boolByte b ≡ (if b then 1 else 0)

@@ -9,7 +9,7 @@ use Rattle.rows.specs.Limits.{processes, allRights, greatestNumber, mostItems, 
 use Rattle.calls.specs.declared.Item.{Item}
 use Rattle.calls.specs.declared.Items.{Items}
 use Rattle.calls.specs.declared.Call.{Call}
-use Rattle.calls.specs.declared.Call.the-variants.{Go, Hold, Register, Drop, Port, Close, Ask, Fetch, Revoke, Comes}
+use Rattle.calls.specs.declared.Call.the-variants.{Go, Hold, Register, Drop, Port, Close, Ask, Fetch, Revoke, Comes, Chain}
 use Rattle.text.specs.declared.Read.{Read}
 use Rattle.text.specs.declared.Reading.{Reading}
 use Rattle.text.specs.declared.Reading.the-variants.{Asks, Crowded, Refused}
@@ -44,13 +44,18 @@ simple w p e =
 unfoldable pub simpleForm : List ℕ → Reading → Reading
 simpleForm s other = let f = form s 0 "(# @ #)\n" in if whole s f then simple (f .word) (f .b) (f .c) else other
 
+-- ---- chain
+-- (rules F2, F3) `(chain e)`, with no caller; every other line is 2
+unfoldable pub chainForm : List ℕ → Reading
+chainForm s = let f = form s 0 "(chain #)\n" in if whole s f then ranged (isNumber (f .c)) (Chain (f .c)) else Refused 2
+
 -- ---- answer
--- (rules F2, F3, F4) `(p answer v x)`, x 0 or 1: with 1 the request was served; every other line is 2
-unfoldable pub answerForm : List ℕ → Reading
-answerForm s =
+-- (rules F2, F3, F4) `(p answer v x)`, x 0 or 1: with 1 the request was served
+unfoldable pub answerForm : List ℕ → Reading → Reading
+answerForm s other =
     let f = form s 0 "(# answer # #)\n" in
     let good = isProcess (f .a) && (isNumber (f .b) && leb (f .c) 1) in
-    if whole s f then ranged good (Call.Answer (f .a) (f .b) (eqb (f .c) 1)) else Refused 2
+    if whole s f then ranged good (Call.Answer (f .a) (f .b) (eqb (f .c) 1)) else other
 
 -- ---- comes
 -- (rules F2, F3) `(comes e q)`, with no caller
@@ -106,4 +111,4 @@ askForm s other =
 
 -- (rules T1, F1, F3) a call is one line, whose line feed is the last byte, of at most 255 bytes before it; every other line is 2
 unfoldable pub readingOf : List ℕ → Reading
-readingOf s = if ltb (suc mostBytes) (length s) then Refused 2 else askForm s (comesForm s (simpleForm s (answerForm s)))
+readingOf s = if ltb (suc mostBytes) (length s) then Refused 2 else askForm s (comesForm s (simpleForm s (answerForm s (chainForm s))))

@@ -15,7 +15,7 @@ use Rattle.text.specs.Opening.{Form, Opening, opens, refusedAt, linesOf,
 use Rattle.text.specs.Answers.{okText, noText, printed}
 
 -- ---- a call on a state
--- (rule F6) 5: the caller is not listed; comes has none
+-- (rule F6) 5: the caller is not listed; comes and chain have none
 unfoldable pub callerUnlisted : State → Call → Bool
 callerUnlisted st c = let p = callerOf c in some p && not (isListed (st .processes) p)
 

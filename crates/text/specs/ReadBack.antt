@@ -6,11 +6,11 @@ use mathlib.Core.List.{List, [], _∷_, _++_, map}
 use mathlib.Core.Path.{_≡_}
 use lib.Dec.{leb}
 use Rattle.rows.specs.Lists.{if_then_else_, all, distinct, bytes}
-use Rattle.rows.specs.Limits.{greatestNumber, mostItems}
+use Rattle.rows.specs.Limits.{greatestNumber, greatestDepth}
 use Rattle.calls.specs.declared.Item.{Item}
 use Rattle.calls.specs.declared.Items.{Items}
 use Rattle.calls.specs.declared.Call.{Call}
-use Rattle.calls.specs.declared.Call.the-variants.{Go, Hold, Register, Drop, Port, Close, Ask, Fetch, Revoke, Comes}
+use Rattle.calls.specs.declared.Call.the-variants.{Go, Hold, Register, Drop, Port, Close, Ask, Fetch, Revoke, Comes, Chain}
 use Rattle.calls.specs.declared.Answer.{Answer}
 use Rattle.calls.specs.Loans.{itemsOf}
 use Rattle.calls.specs.Answers.{refusalOf, valuesOf}
@@ -42,6 +42,9 @@ answerText p v x =
 unfoldable pub comesText : ℕ → ℕ → List ℕ
 comesText e q = bytes "(comes " ++ (digitsOf e ++ (bytes " " ++ (digitsOf q ++ bytes ")\n")))
 
+unfoldable pub chainText : ℕ → List ℕ
+chainText e = bytes "(chain " ++ (digitsOf e ++ bytes ")\n")
+
 -- (rules F2, P28) the line of a call
 unfoldable pub callText : Call → List ℕ
 callText (Go p e) = simpleText p "go" e
@@ -55,6 +58,7 @@ callText (Fetch p e) = simpleText p "fetch" e
 callText (Call.Answer p e served) = answerText p e (lastOf served)
 callText (Revoke p q) = simpleText p "revoke" q
 callText (Comes e q) = comesText e q
+callText (Chain e) = chainText e
 
 -- (rules F4, F5, F7) the numbers of a call are in range; no row twice among its items, and no gap before one
 pub record AskInRange (p c : ℕ) (is : Items) : Type 0 where
@@ -76,6 +80,7 @@ InRange (Fetch p e) = isProcess p && isNumber e ≡ true
 InRange (Call.Answer p e served) = isProcess p && isNumber e ≡ true
 InRange (Revoke p q) = isProcess p && isNumber q ≡ true
 InRange (Comes e q) = isNumber e && isNumber q ≡ true
+InRange (Chain e) = isNumber e ≡ true
 
 -- ---- answers
 -- (rules K4, K5) what the text of an answer says: the refusal, 0 for none, and the values
@@ -88,11 +93,11 @@ unfoldable pub valuesAt : ℕ → List ℕ → ℕ → List ℕ
 valuesAt zero s i = []
 valuesAt (suc n) s i = let f = form s i " #" in if f .good then f .c ∷ valuesAt n s (f .next) else []
 
--- (rules K4, K5, P29) `(no k)`, or `(ok n ..)` with a request and four items at most
+-- (rules K4, K5, P29) `(no k)`, or `(ok n ..)` with the twelve rows of a chain at most
 unfoldable pub answeredBy : List ℕ → Answered
 answeredBy s =
     let f = form s 0 "(no #)\n" in
-    if whole s f then record { refusal = f .c; values = [] } else record { refusal = 0; values = valuesAt (suc mostItems) s 3 }
+    if whole s f then record { refusal = f .c; values = [] } else record { refusal = 0; values = valuesAt greatestDepth s 3 }
 
 -- (rule P29) what an answer says, and that its numbers are in range
 unfoldable pub saying : Answer → Answered

@@ -17,10 +17,10 @@ ghost use Prim.Native.Nat.{_+_, _<_};
 ghost use lib.ListN.{length};
 ghost use Rattle.rows.specs.Lists.{member};
 ghost use Rattle.text.specs.Patterns.{form};
-ghost use Rattle.text.specs.CallLines.{isProcess, isNumber, ranged, simple, simpleForm, answerForm};
+ghost use Rattle.text.specs.CallLines.{isProcess, isNumber, ranged, simple, simpleForm, chainForm};
 ghost use Rattle.text.specs.CallLines.{Gathered, gathered, packed, judged, askForm, readingOf};
 ghost use Rattle.text.specs.contracts.Sizes.{GROUPS};
-ghost use Rattle.text.specs.contracts.Asks.{askedFrom, withItem, otherCall, JudgesAsk};
+ghost use Rattle.text.specs.contracts.Asks.{askedFrom, withItem, answerOrChain, otherCall, JudgesAsk};
 
 const MOST_ITEMS: usize = 4;
 
@@ -72,17 +72,30 @@ fn if_ranged(in_range: bool, c: Call) -> Reading
     }
 }
 
+// ---- chain
+// `(chain e)`; any other form is a bad one.
+fn chain_form(line: &[u8]) -> Reading
+    ensures { λ r. ⌜ r ≡ chainForm (now (line .entry)) ⌝ }
+{
+    let f = read_form(line, 0, b"(chain #)\n");
+    if is_whole(line, f) {
+        let good = is_number(f.c);
+        return if_ranged(good, Call::Chain(f.c));
+    }
+    Reading::Refused(2)
+}
+
 // ---- answer
-// `(p answer v x)`; any other form is a bad one.
+// `(p answer v x)`, else a chain.
 fn answer_form(line: &[u8]) -> Reading
-    ensures { λ r. ⌜ r ≡ answerForm (now (line .entry)) ⌝ }
+    ensures { λ r. ⌜ r ≡ answerOrChain (now (line .entry)) ⌝ }
 {
     let f = read_form(line, 0, b"(# answer # #)\n");
     if is_whole(line, f) {
         let good = is_process(f.a) & (is_number(f.b) & (f.c <= 1));
         return if_ranged(good, Call::Answer(f.a, f.b, f.c == 1));
     }
-    Reading::Refused(2)
+    chain_form(line)
 }
 
 // ---- calls of one number
@@ -105,9 +118,9 @@ fn simple_call(w: u64, p: u32, e: u32) -> Reading
     }
 }
 
-// `(p word e)`, else an answer.
+// `(p word e)`, else an answer or a chain.
 fn simple_form(line: &[u8]) -> Reading
-    ensures { λ r. ⌜ r ≡ simpleForm (now (line .entry)) (answerForm (now (line .entry))) ⌝ }
+    ensures { λ r. ⌜ r ≡ simpleForm (now (line .entry)) (answerOrChain (now (line .entry))) ⌝ }
 {
     let f = read_form(line, 0, b"(# @ #)\n");
     if !is_whole(line, f) {

@@ -3,12 +3,13 @@
 use crate::REPLY;
 use crate::Reply;
 use calls::Answer;
+use calls::Four;
 ghost use mathlib.Core.Path.{_≡_};
 ghost use mathlib.Core.List.{[], _∷_};
 ghost use Prim.Native.Nat.{_+_, _*_, _≤_, _%_};
 ghost use lib.ListN.{length};
 ghost use Rattle.rows.specs.Lists.{nonzero};
-ghost use Rattle.calls.specs.declared.Answer.the-variants.{Refused};
+ghost use Rattle.calls.specs.declared.Answer.the-variants.{Chained, Refused};
 ghost use Rattle.text.specs.Answers.{spaced, okText, printed};
 ghost use Rattle.text.specs.contracts.Sizes.{REPLY, VALUE};
 ghost use Rattle.text.specs.contracts.Replies.{inReply, Puts, openingText};
@@ -71,7 +72,7 @@ fn put_listed(o: &mut [u8; REPLY], at: usize, n: u32) -> usize
     put_value(o, at, n as u64)
 }
 
-// The items of a fetched request that are still listed, in the order asked.
+// Those of four values that are listed, in their order: of a request's items those that it still has.
 fn put_items(o: &mut [u8; REPLY], at: usize, a: u32, b: u32, c: u32, d: u32) -> usize
     requires { ⌜ at + 4 * VALUE ≤ REPLY ⌝ }
     ensures put { λ r. ⌜ Puts (now (o .entry)) at (spaced (nonzero (a ∷ b ∷ c ∷ d ∷ []))) (now (o .exit)) r ⌝ }
@@ -103,6 +104,17 @@ fn put_fetched(o: &mut [u8; REPLY], v: u32, a: u32, b: u32, c: u32, d: u32) -> u
     put_text(o, listed, b")\n")
 }
 
+// `(ok n ..)`: the rows of a chain.
+fn put_chained(o: &mut [u8; REPLY], a: Four, b: Four, c: Four) -> usize
+    ensures { λ r. ⌜ Puts (now (o .entry)) 0 (printed (Chained a b c)) (now (o .exit)) r ⌝ }
+{
+    let begun = put_text(o, 0, b"(ok");
+    let first = put_items(o, begun, a.first, a.second, a.third, a.fourth);
+    let second = put_items(o, first, b.first, b.second, b.third, b.fourth);
+    let third = put_items(o, second, c.first, c.second, c.third, c.fourth);
+    put_text(o, third, b")\n")
+}
+
 // `(no k)`; 0 is no refusal.
 fn put_refusal(o: &mut [u8; REPLY], k: u32) -> usize
     ensures { λ r. ⌜ Puts (now (o .entry)) 0 (printed (Refused k)) (now (o .exit)) r ⌝ }
@@ -124,6 +136,7 @@ fn put_answer(o: &mut [u8; REPLY], a: Answer) -> usize
         Answer::Made(n) => put_accepted(o, n as u64),
         Answer::Fetched(v, a, b, c, d) => put_fetched(o, v, a, b, c, d),
         Answer::Told(t) => put_accepted(o, t as u64),
+        Answer::Chained(a, b, c) => put_chained(o, a, b, c),
         Answer::Refused(k) => put_refusal(o, k),
     }
 }

@@ -9,7 +9,7 @@ use Rattle.rows.specs.declared.Found.{Found}
 use Rattle.rows.specs.declared.Process.{Process}
 use Rattle.rows.specs.Lists.{any, member, some}
 use Rattle.rows.specs.Codes.{isSubdirectory, isServer, inClist, inNode}
-use Rattle.rows.specs.Tables.{State, rowOf, processAt, isListed, sources, isLent}
+use Rattle.rows.specs.Tables.{State, rowOf, processAt, isListed, sources, isLent, firstChain}
 use Rattle.rows.specs.Sound.{sound}
 use Rattle.rows.specs.Layout.{rowSlot, recordsIn, recordsOf}
 use Rattle.rows.specs.contracts.Represents.{Represents}
@@ -18,9 +18,9 @@ use Rattle.rows.specs.contracts.Sizes.{ROWS, PROCESSES, LAST-NEXT}
 use Rattle.calls.specs.declared.Answer.{Answer}
 use Rattle.calls.specs.declared.Answer.the-variants.{Refused}
 use Rattle.calls.specs.declared.Call.{Call}
-use Rattle.calls.specs.declared.Call.the-variants.{Go, Hold, Register, Drop, Port, Close, Ask, Fetch, Revoke, Comes}
+use Rattle.calls.specs.declared.Call.the-variants.{Go, Hold, Register, Drop, Port, Close, Ask, Fetch, Revoke, Comes, Chain}
 use Rattle.calls.specs.Rules.{Out, _when_, lowest, tooDeep, rowsFull, numbersSpent}
-use Rattle.calls.specs.Calls.{refusalsHold, heldDepth, refusalsRegister, registeredDepth, refusalsPort, portDepth, refusalsClose, refusalsDrop, perform, callerOf}
+use Rattle.calls.specs.Calls.{refusalsHold, heldDepth, refusalsRegister, registeredDepth, refusalsPort, portDepth, refusalsClose, refusalsDrop, chainedAnswer, perform, callerOf}
 use Rattle.calls.specs.contracts.Lookups.{HasRows, HasRequests, StandsAt}
 use Rattle.calls.specs.contracts.Effects.{IsProcess}
 
@@ -40,7 +40,7 @@ pub record Agrees (after : List ℕ) (left : List Process) (r : Answer) (o : Out
 abbrev pub RunsAfter : List ℕ → List ℕ → Out → Type 0
 RunsAfter u v o = Represents u (o .after) × (v ≡ recordsOf (o .after .processes))
 
--- the caller is listed; comes has none
+-- the caller is listed; comes and chain have none
 abbrev pub CallerListed : State → Call → Type 0
 CallerListed st c = some (callerOf c) ≡ true → isListed (st .processes) (callerOf c) ≡ true
 
@@ -60,7 +60,7 @@ StaysIfRefused t ps c after left r =
     (st : State) (k : ℕ) → sound st ≡ true → Represents t st → st .processes ≡ recordsIn ps → CallerListed st c
     → r ≡ Refused k → (after ≡ t) × (left ≡ ps)
 
--- what reading a line gives of a call: its caller is a process's number; comes has none
+-- what reading a line gives of a call: its caller is a process's number; comes and chain have none
 unfoldable pub CallerInRange : Call → Type 0
 CallerInRange (Go p e) = IsProcess p
 CallerInRange (Hold p s) = IsProcess p
@@ -73,6 +73,7 @@ CallerInRange (Fetch p e) = IsProcess p
 CallerInRange (Call.Answer p e served) = IsProcess p
 CallerInRange (Revoke p q) = IsProcess p
 CallerInRange (Comes e q) = Unit {0}
+CallerInRange (Chain e) = Unit {0}
 
 -- ---- what refuses new rows
 -- k rows of depth d: 15, 16, 18, 0 for nothing
@@ -180,3 +181,9 @@ abbrev pub RefusesDrop : List ℕ → ℕ → ℕ → ℕ → ℕ → ℕ → Ty
 RefusesDrop t n i through e r =
     (st : State) (p : ℕ) → HasRows t n st → HeldAt st p e i → processAt (st .processes) p .through ≡ through
     → r ≡ lowest (refusalsDrop st p e)
+
+-- ---- chain
+-- r is the answer for the row in slot i
+abbrev pub ChainedAt : List ℕ → ℕ → Answer → Type 0
+ChainedAt t i r =
+    (st : State) (e : ℕ) → sound st ≡ true → Represents t st → StandsAt st e i → r ≡ chainedAnswer (firstChain (st .rows) e)

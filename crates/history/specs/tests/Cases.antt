@@ -310,6 +310,34 @@ misreadings =
           ∷ "(1 ask 5 (4 1) (5 1) (6 1) (7 1) (8 1))" ⇒ "(no 6)"
           ∷ [];
     }
+    -- (rules R15, chain-7, chain-ok)
+    ∷ record {
+      name = "a chain follows first sources alone, the oldest row first and the row itself last; a registered row's is its directory row";
+      opening = offices;
+      opened = "(ok 0)";
+      calls =
+          "(1 hold 3)" ⇒ "(ok 7)"
+          ∷ "(1 go 7)" ⇒ "(ok 0)"
+          -- 8 is taken from 4, through 7
+          ∷ "(1 hold 4)" ⇒ "(ok 8)"
+          ∷ "(1 register 8)" ⇒ "(ok 9)"
+          ∷ "(1 port 8)" ⇒ "(ok 10)"
+          -- 13 is a copy of 8, lent over 10
+          ∷ "(1 ask 10 (8 3))" ⇒ "(ok 12)"
+          ∷ "(chain 4)" ⇒ "(ok 4)"
+          ∷ "(chain 7)" ⇒ "(ok 3 7)"
+          ∷ "(chain 8)" ⇒ "(ok 4 8)"
+          ∷ "(chain 9)" ⇒ "(ok 4 9)"
+          ∷ "(chain 11)" ⇒ "(ok 4 8 11)"
+          ∷ "(chain 13)" ⇒ "(ok 4 8 13)"
+          ∷ "(chain 12)" ⇒ "(no 7)"
+          ∷ "(chain 14)" ⇒ "(no 7)"
+          ∷ "(chain 0)" ⇒ "(no 3)"
+          ∷ "(1 chain 8)" ⇒ "(no 2)"
+          ∷ "(chain 8 9)" ⇒ "(no 2)"
+          ∷ "(1 drop 7)" ⇒ "(no 13)"
+          ∷ [];
+    }
     ∷ []
 
 -- (rules K7, O8, O12, O14, O15, O17) the openings that are refused: number and line

@@ -1,14 +1,14 @@
 -- What the questions answer, over the lent words: of every state that the words t represent (and that is sound, where the answer needs it).
 use Prim.Native.Nat.{ℕ, suc, _+_, _≤_}
 use mathlib.Core.Bool.{Bool, true, _&&_}
-use mathlib.Core.List.{List}
+use mathlib.Core.List.{List, _++_}
 use mathlib.Core.Path.{_≡_}
 use lib.Dec.{eqb}
-use lib.ListN.{getD}
+use lib.ListN.{length, getD, drop}
 use Rattle.rows.specs.declared.Row.{Row}
 use Rattle.rows.specs.Lists.{if_then_else_, some}
 use Rattle.rows.specs.Codes.{isClient}
-use Rattle.rows.specs.Tables.{State, rowOf, reaches, bears, lentItself, onLoan, comesFrom, isLent}
+use Rattle.rows.specs.Tables.{State, rowOf, reaches, bears, lentItself, onLoan, comesFrom, isLent, firstChain}
 use Rattle.rows.specs.Sound.{sound}
 use Rattle.rows.specs.contracts.Sizes.{SOURCE, VIA}
 use Rattle.rows.specs.contracts.Represents.{Represents}
@@ -65,3 +65,14 @@ unfoldable pub PortReaches : List ℕ → ℕ → ℕ → ℕ → Bool → Type 
 PortReaches t c q d r =
     (st : State) (n : ℕ) → sound st ≡ true → Represents t st → rowSlot (st .rows) n ≡ c → DepthWithin d n st
     → isClient (rowOf (st .rows) n .kind) ≡ true → r ≡ reaches (touches st q) (st .rows) n
+
+-- ---- the first chain
+-- ns stands in front of the words that were there, and r is how many numbers it has
+abbrev pub Written : List ℕ → List ℕ → List ℕ → ℕ → Type 0
+Written ns before after r = (after ≡ ns ++ drop (length ns) before) × (r ≡ length ns)
+
+-- the first chain of the row at a source word s, of depth d at most, is written
+unfoldable pub WritesChain : List ℕ → ℕ → ℕ → List ℕ → List ℕ → ℕ → Type 0
+WritesChain t s d before after r =
+    (st : State) (e : ℕ) → sound st ≡ true → Represents t st → rowSlot (st .rows) e ≡ s → DepthWithin d e st
+    → Written (firstChain (st .rows) e) before after r

@@ -1,10 +1,10 @@
 -- What the exported call says: the call of its words, the words of its answer, and both runs after it.
 use Prim.Native.Nat.{ℕ, suc}
 use mathlib.Core.Bool.{Bool, true, _||_}
-use mathlib.Core.List.{List, [], _∷_}
+use mathlib.Core.List.{List, _∷_, _++_}
 use mathlib.Core.Path.{_≡_}
 use lib.Dec.{leb, eqb}
-use lib.ListN.{getD}
+use lib.ListN.{getD, replicate}
 use Rattle.rows.specs.Lists.{if_then_else_, between}
 use Rattle.rows.specs.Tables.{State}
 use Rattle.rows.specs.Sound.{sound}
@@ -14,21 +14,22 @@ use Rattle.rows.specs.contracts.Sizes.{PROCESSES, IsTables, IsRecords}
 use Rattle.calls.specs.declared.Item.{Item}
 use Rattle.calls.specs.declared.Items.{Items}
 use Rattle.calls.specs.declared.Answer.{Answer}
-use Rattle.calls.specs.declared.Answer.the-variants.{Done, Made, Fetched, Told, Refused}
+use Rattle.calls.specs.declared.Answer.the-variants.{Done, Made, Fetched, Told, Chained, Refused}
 use Rattle.calls.specs.declared.Call.{Call}
-use Rattle.calls.specs.declared.Call.the-variants.{Go, Hold, Register, Drop, Port, Close, Ask, Fetch, Revoke, Comes}
+use Rattle.calls.specs.declared.Call.the-variants.{Go, Hold, Register, Drop, Port, Close, Ask, Fetch, Revoke, Comes, Chain}
+use Rattle.calls.specs.Answers.{numbersOf}
 use Rattle.calls.specs.Calls.{perform}
 use Rattle.calls.specs.contracts.Performs.{RunsAfter, CallerListed}
 use Rattle.test_exports.specs.contracts.Exports.{Unless}
 
--- ---- a call in words: its code, its two numbers, row and rights of each item of an ask, or 1 for a request served
+-- ---- a call in words: its code, its two numbers (of chain the first alone), row and rights of each item of an ask, or 1 for a request served
 abbrev itemOfWords : List ℕ → ℕ → Item
 itemOfWords w k = record { row = getD w k 0; rights = getD w (suc k) 0 }
 
 abbrev pub itemsOfWords : List ℕ → Items
 itemsOfWords w = record { first = itemOfWords w 3; second = itemOfWords w 5; third = itemOfWords w 7; fourth = itemOfWords w 9 }
 
--- the calls in the order of their type; any other code is that of comes
+-- the calls in the order of their type; any other code is that of chain
 unfoldable pub callOfCode : ℕ → ℕ → ℕ → Items → Bool → Call
 callOfCode k p e is served =
     if eqb k 0 then Go p e
@@ -41,7 +42,8 @@ callOfCode k p e is served =
     else if eqb k 7 then Fetch p e
     else if eqb k 8 then Call.Answer p e served
     else if eqb k 9 then Revoke p e
-    else Comes p e
+    else if eqb k 10 then Comes p e
+    else Chain p
 
 abbrev pub callOfWords : List ℕ → Call
 callOfWords w = callOfCode (getD w 0 0) (getD w 1 0) (getD w 2 0) (itemsOfWords w) (eqb (getD w 3 0) 1)
@@ -52,11 +54,12 @@ callFits w = leb 10 (getD w 0 0) || between 1 PROCESSES (getD w 1 0)
 
 -- ---- an answer in words: its code, its numbers, 0 after them
 unfoldable pub wordsOfAnswer : Answer → List ℕ
-wordsOfAnswer Done = 0 ∷ 0 ∷ 0 ∷ 0 ∷ 0 ∷ 0 ∷ []
-wordsOfAnswer (Made n) = 1 ∷ n ∷ 0 ∷ 0 ∷ 0 ∷ 0 ∷ []
-wordsOfAnswer (Fetched v a b c d) = 2 ∷ v ∷ a ∷ b ∷ c ∷ d ∷ []
-wordsOfAnswer (Told b) = 3 ∷ (if b then 1 else 0) ∷ 0 ∷ 0 ∷ 0 ∷ 0 ∷ []
-wordsOfAnswer (Refused k) = 4 ∷ k ∷ 0 ∷ 0 ∷ 0 ∷ 0 ∷ []
+wordsOfAnswer Done = replicate 13 0
+wordsOfAnswer (Made n) = 1 ∷ n ∷ replicate 11 0
+wordsOfAnswer (Fetched v a b c d) = 2 ∷ v ∷ a ∷ b ∷ c ∷ d ∷ replicate 7 0
+wordsOfAnswer (Told b) = 3 ∷ (if b then 1 else 0) ∷ replicate 11 0
+wordsOfAnswer (Refused k) = 4 ∷ k ∷ replicate 11 0
+wordsOfAnswer (Chained a b c) = 5 ∷ numbersOf a ++ (numbersOf b ++ numbersOf c)
 
 -- ---- the call on both runs
 -- lengths and caller fit

@@ -3,16 +3,17 @@ use Prim.Native.Nat.{ℕ, suc, _<_, _≤_}
 use mathlib.Core.Bool.{Bool, true}
 use mathlib.Core.List.{List}
 use mathlib.Core.Path.{_≡_}
-use lib.ListN.{getD}
+use lib.ListN.{length, getD}
 use Rattle.rows.specs.declared.Row.{Row}
 use Rattle.rows.specs.declared.Request.{Request}
 use Rattle.rows.specs.Lists.{some}
-use Rattle.rows.specs.Tables.{State, onLoan, comesFrom, isLent}
+use Rattle.rows.specs.Tables.{State, onLoan, comesFrom, isLent, firstChain}
 use Rattle.rows.specs.Sound.{sound}
 use Rattle.rows.specs.Layout.{wordsOfRow, rowFrom, wordsOfRequest, requestFrom, rowSlot, rawRow, requestAt, recordsIn, recordsOf}
 use Rattle.rows.specs.contracts.Represents.{Represents}
 use Rattle.rows.specs.contracts.Sizes.{ROWS, REQUESTS, ITEMS, IsTables, IsRecords}
 use Rattle.changes.specs.contracts.Changes.{AddsRow, AddsRequest}
+use Rattle.questions.specs.contracts.Questions.{Written}
 
 -- what holds where the arguments do not fit
 abbrev pub Unless : Type 0 → Type 0 → Type 0
@@ -45,6 +46,19 @@ TellsComesFrom t e q r =
 
 abbrev pub TellsLent : List ℕ → ℕ → Bool → Type 0
 TellsLent t e r = (st : State) (n : ℕ) → sound st ≡ true → Represents t st → rowSlot (st .rows) n ≡ suc e → r ≡ isLent st n
+
+-- tables, a slot of theirs, and words for a chain of every length
+abbrev pub ChainFits : List ℕ → ℕ → List ℕ → Type 0
+ChainFits t e chain = IsTables t × (e < ROWS) × (12 ≤ length chain)
+
+-- the first chain of the row in slot e is written in front, r numbers
+abbrev pub ChainWritten : List ℕ → ℕ → List ℕ → List ℕ → ℕ → Type 0
+ChainWritten t e before after r =
+    ChainFits t e before → (st : State) (n : ℕ) → sound st ≡ true → Represents t st → rowSlot (st .rows) n ≡ suc e
+    → Written (firstChain (st .rows) n) before after r
+
+abbrev pub NoChain : List ℕ → ℕ → List ℕ → List ℕ → ℕ → Type 0
+NoChain t e before after r = Unless (ChainFits t e before) ((after ≡ before) × (r ≡ 0))
 
 -- ---- changes
 -- the row and the request of words in the order of the columns

@@ -8,7 +8,7 @@ use Rattle.rows.specs.Lists.{if_then_else_, all, distinct, pad}
 use Rattle.text.specs.declared.Read.{Read}
 use Rattle.text.specs.declared.Asked.{Asked}
 use Rattle.text.specs.declared.Reading.{Reading}
-use Rattle.text.specs.CallLines.{Gathered, itemOf, itemRanged, judged, comesForm, simpleForm, answerForm}
+use Rattle.text.specs.CallLines.{Gathered, itemOf, itemRanged, judged, comesForm, simpleForm, answerForm, chainForm}
 use Rattle.text.specs.contracts.Sizes.{GROUPS}
 
 unfoldable pub askedFrom : Gathered → Asked
@@ -26,9 +26,12 @@ askedFrom g =
 abbrev pub withItem : Gathered → Read → Gathered
 withItem g f = record { items = g .items ++ (itemOf f ∷ []); next = f .next }
 
--- what a line reads as if it is no ask
+-- what a line reads as if no call before these is read; if it is no ask
+abbrev pub answerOrChain : List ℕ → Reading
+answerOrChain s = answerForm s (chainForm s)
+
 abbrev pub otherCall : List ℕ → Reading
-otherCall s = comesForm s (simpleForm s (answerForm s))
+otherCall s = comesForm s (simpleForm s (answerOrChain s))
 
 -- if a are the items g, r is the ask of the head f and of them where the head was read and the line ended, else another call
 abbrev pub JudgesAsk : List ℕ → Read → Asked → Bool → Reading → Type 0

@@ -103,6 +103,12 @@ enum-known-c-11 c = search needs
 comes-requires : tie.Need-comes-requires
 comes-requires c κs = search needs
 
+enum-known-c-12 : tie.Need-enum-known-c-12
+enum-known-c-12 c = search needs
+
+chain-requires : tie.Need-chain-requires
+chain-requires c κs = search needs
+
 same-length : tie.Need-same-length
 same-length c = search needs
 
@@ -234,6 +240,16 @@ returns-11 c =
     let a = c .before .before .before .before .before .before .before .args in
     carried (now (a .t)) (now (a .t)) (now (a .ps)) (now (a .ps)) (done .result) (pre .1) (pre .0, pre .1) (a .c) _ (c .before .before .before .c11 .given .1) (done .ensures (now (a .ps)))
 
+same-length-19 : tie.Need-same-length-19
+same-length-19 c = search needs
+
+returns-12 : tie.Need-returns-12
+returns-12 c =
+    let done = c .chain in
+    let pre = c .before .before .before .before .before .before .before .pre in
+    let a = c .before .before .before .before .before .before .before .args in
+    carried (now (a .t)) (now (a .t)) (now (a .ps)) (now (a .ps)) (done .result) (pre .1) (pre .0, pre .1) (a .c) _ (c .before .before .before .c12 .given .1) (done .ensures (now (a .ps)))
+
 pub perform-spec : {M : Type 1} → statement M
 perform-spec =
     tie.close
@@ -260,6 +276,8 @@ perform-spec =
     revoke-requires
     enum-known-c-11
     comes-requires
+    enum-known-c-12
+    chain-requires
     same-length
     same-length-2
     returns
@@ -288,4 +306,6 @@ perform-spec =
     same-length-17
     returns-10
     same-length-18
-    returns-11)
+    returns-11
+    same-length-19
+    returns-12)

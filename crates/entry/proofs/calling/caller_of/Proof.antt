@@ -38,6 +38,9 @@ enum-known-c-10 c = search needs
 enum-known-c-11 : tie.Need-enum-known-c-11
 enum-known-c-11 c = search needs
 
+enum-known-c-12 : tie.Need-enum-known-c-12
+enum-known-c-12 c = search needs
+
 returns : tie.Need-returns
 unfolding callerOf
 returns c = sym (ap callerOf (c .before .c .given .1))
@@ -82,6 +85,10 @@ returns-11 : tie.Need-returns-11
 unfolding callerOf
 returns-11 c = sym (ap callerOf (c .before .c11 .given .1))
 
+returns-12 : tie.Need-returns-12
+unfolding callerOf
+returns-12 c = sym (ap callerOf (c .before .c12 .given .1))
+
 pub caller-of-spec : {M : Type 1} → statement M
 caller-of-spec =
     tie.close
@@ -97,6 +104,7 @@ caller-of-spec =
     enum-known-c-9
     enum-known-c-10
     enum-known-c-11
+    enum-known-c-12
     returns
     returns-2
     returns-3
@@ -107,4 +115,5 @@ caller-of-spec =
     returns-8
     returns-9
     returns-10
-    returns-11)
+    returns-11
+    returns-12)

@@ -62,9 +62,13 @@ returns-10 c = rw (c .match .keys10)
 
 returns-11 : tie.Need-returns-11
 unfolding callOfCode
-returns-11 c =
+returns-11 c = rw (c .match .keys11)
+
+returns-12 : tie.Need-returns-12
+unfolding callOfCode
+returns-12 c =
     let r = c .match .rest in
-    let r4 = r .0 .0 .0 .0 in
+    let r4 = r .0 .0 .0 .0 .0 in
     rw (
       ne-eqb _ 0 (r4 .0 .0 .0 .0 .0 .1),
       ne-eqb _ 1 (r4 .0 .0 .0 .0 .1),
@@ -72,10 +76,11 @@ returns-11 c =
       ne-eqb _ 3 (r4 .0 .0 .1),
       ne-eqb _ 4 (r4 .0 .1),
       ne-eqb _ 5 (r4 .1),
-      ne-eqb _ 6 (r .0 .0 .0 .1),
-      ne-eqb _ 7 (r .0 .0 .1),
-      ne-eqb _ 8 (r .0 .1),
-      ne-eqb _ 9 (r .1),
+      ne-eqb _ 6 (r .0 .0 .0 .0 .1),
+      ne-eqb _ 7 (r .0 .0 .0 .1),
+      ne-eqb _ 8 (r .0 .0 .1),
+      ne-eqb _ 9 (r .0 .1),
+      ne-eqb _ 10 (r .1),
     )
 
 pub call-of-spec : {M : Type 1} → statement M
@@ -97,4 +102,5 @@ call-of-spec =
     returns-8
     returns-9
     returns-10
-    returns-11)
+    returns-11
+    returns-12)

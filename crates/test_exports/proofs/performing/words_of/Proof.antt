@@ -2,6 +2,7 @@
 use borrow.Author.Needs.{needs}
 use mathlib.Core.Path.{ap, sym, _∙_}
 use Rattle.calls.specs.declared.Answer.the-variants.{Told}
+use Rattle.calls.specs.Answers.{numbersOf}
 use Rattle.test_exports.specs.contracts.Calls.{wordsOfAnswer}
 use Rattle.test_exports.proofs.performing.words_of.Statement.{statement}
 use Rattle.test_exports.proofs.performing.words_of.Tie as tie
@@ -20,6 +21,9 @@ enum-known-a-3 c = search needs
 
 enum-known-a-4 : tie.Need-enum-known-a-4
 enum-known-a-4 c = search needs
+
+enum-known-a-5 : tie.Need-enum-known-a-5
+enum-known-a-5 c = search needs
 
 returns : tie.Need-returns
 unfolding wordsOfAnswer
@@ -42,8 +46,12 @@ unfolding wordsOfAnswer
 returns-5 c = sym (ap wordsOfAnswer (c .before .before .a3 .given .1 ∙ ap Told (c .if1 .left)))
 
 returns-6 : tie.Need-returns-6
-unfolding wordsOfAnswer
+unfolding wordsOfAnswer numbersOf
 returns-6 c = sym (ap wordsOfAnswer (c .before .a4 .given .1))
+
+returns-7 : tie.Need-returns-7
+unfolding wordsOfAnswer
+returns-7 c = sym (ap wordsOfAnswer (c .before .a5 .given .1))
 
 pub words-of-spec : {M : Type 1} → statement M
 words-of-spec =
@@ -54,9 +62,11 @@ words-of-spec =
     enum-known-a-2
     enum-known-a-3
     enum-known-a-4
+    enum-known-a-5
     returns
     returns-2
     returns-3
     returns-4
     returns-5
-    returns-6)
+    returns-6
+    returns-7)

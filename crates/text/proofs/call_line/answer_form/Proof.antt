@@ -34,9 +34,14 @@ returns c =
     let ends = sym (t .before .is-whole .ensures) ∙ t .if1 .taken in
     c .if-ranged .ensures ∙ rw (form-read, ends, n .before .is-process .ensures, n .is-number .ensures)
 
+chain-form-requires : tie.Need-chain-form-requires
+chain-form-requires c κs = search needs
+
 returns-2 : tie.Need-returns-2
 unfolding answerForm form bytes
-returns-2 c = rw (sym (c .before .before .read-form .ensures), sym (c .before .is-whole .ensures) ∙ c .if1 .left)
+returns-2 c =
+    let t = c .before in
+    c .chain-form .ensures ∙ rw (sym (t .before .before .read-form .ensures), sym (t .before .is-whole .ensures) ∙ t .if1 .left)
 
 pub answer-form-spec : {M : Type 1} → statement M
 answer-form-spec =
@@ -49,4 +54,5 @@ answer-form-spec =
     is-number-requires
     if-ranged-requires
     returns
+    chain-form-requires
     returns-2)

@@ -42,6 +42,12 @@ put-accepted-requires-3 c κs = search needs
 enum-known-a-4 : tie.Need-enum-known-a-4
 enum-known-a-4 c = search needs
 
+put-chained-requires : tie.Need-put-chained-requires
+put-chained-requires c κs = search needs
+
+enum-known-a-5 : tie.Need-enum-known-a-5
+enum-known-a-5 c = search needs
+
 put-refusal-requires : tie.Need-put-refusal-requires
 put-refusal-requires c κs = search needs
 
@@ -64,8 +70,11 @@ returns-4 c =
     rw (t .1) (puts-as _ _ (ap (λ (n : ℕ). okText (n ∷ [])) (told-number (t .0 .0))) (c .put-accepted3 .ensures))
 
 returns-5 : tie.Need-returns-5
+returns-5 c = rw (c .before .before .before .a4 .given .1) (c .put-chained .ensures)
+
+returns-6 : tie.Need-returns-6
 unfolding printed refusalOf valuesOf
-returns-5 c = rw (c .before .before .before .a4 .given .1) (c .put-refusal .ensures)
+returns-6 c = rw (c .before .before .before .a5 .given .1) (c .put-refusal .ensures)
 
 pub put-answer-spec : {M : Type 1} → statement M
 put-answer-spec =
@@ -82,9 +91,12 @@ put-answer-spec =
     cast-put-accepted-2
     put-accepted-requires-3
     enum-known-a-4
+    put-chained-requires
+    enum-known-a-5
     put-refusal-requires
     returns
     returns-2
     returns-3
     returns-4
-    returns-5)
+    returns-5
+    returns-6)
