@@ -2,7 +2,7 @@
 
 #[derive(Clone, PartialEq, Eq, Debug)]
 pub enum Answer {
-    /// (rule K4) `(ok n)`, n the new number or 0; fetch gives more numbers.
+    /// (rule K4) `(ok n)`, n the new number or 0; fetch and chain give more numbers.
     Ok(Vec<u32>),
     /// `(no k)`.
     No(u32),

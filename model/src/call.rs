@@ -56,6 +56,9 @@ pub enum Call {
         row: u32,
         request: u32,
     },
+    Chain {
+        row: u32,
+    },
 }
 
 /// (rules F1, F2, F3) The call on a line, none for a bad form: one line, whose
@@ -67,6 +70,7 @@ pub fn read_call(line: &[u8]) -> Option<Call> {
             row: *row,
             request: *request,
         }),
+        [Part::Word(b"chain"), Part::Number(row)] => Some(Call::Chain { row: *row }),
         [Part::Number(caller), Part::Word(b"ask"), Part::Number(client), items @ ..] => {
             let items = items.iter().map(read_item).collect::<Option<_>>()?;
             Some(Call::Ask {
@@ -108,13 +112,13 @@ fn read_item(part: &Part) -> Option<Item> {
 }
 
 impl Call {
-    /// None for `(comes e q)`.
+    /// None for `(comes e q)` and `(chain e)`.
     pub fn caller(&self) -> Option<u32> {
         match self {
             Call::One { caller, .. } | Call::Ask { caller, .. } | Call::Answer { caller, .. } => {
                 Some(*caller)
             }
-            Call::Comes { .. } => None,
+            Call::Comes { .. } | Call::Chain { .. } => None,
         }
     }
 
@@ -125,6 +129,7 @@ impl Call {
             Call::Ask { .. } => "ask".to_string(),
             Call::Answer { .. } => "answer".to_string(),
             Call::Comes { .. } => "comes".to_string(),
+            Call::Chain { .. } => "chain".to_string(),
         }
     }
 
@@ -150,6 +155,7 @@ impl Call {
                 *row = number(*row);
                 *request = number(*request);
             }
+            Call::Chain { row } => *row = number(*row),
         }
         call
     }
@@ -174,6 +180,7 @@ impl Call {
             }
             Call::Answer { caller, end, last } => format!("({caller} answer {end} {last})\n"),
             Call::Comes { row, request } => format!("(comes {row} {request})\n"),
+            Call::Chain { row } => format!("(chain {row})\n"),
         };
         text.into_bytes()
     }

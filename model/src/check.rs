@@ -4,11 +4,12 @@ use crate::answer::Answer;
 use crate::call::{read_call, Call};
 use crate::demand3::demand3;
 use crate::history::History;
+use crate::limits::DEEPEST;
 use crate::random::shifted::near_limit;
 use crate::random::{lines, openings, Profile, Rng};
 use crate::session::{call, open};
 use crate::sound::broken;
-use crate::tables::Tables;
+use crate::tables::{Row, Tables};
 use crate::words::{decode, encode};
 use std::collections::BTreeMap;
 
@@ -80,6 +81,7 @@ fn step(history: &mut History, tables: &mut Tables, line: &[u8]) -> Result<Answe
     }
     check(history, tables)?;
     comes_agrees(history, line, &answer)?;
+    chain_agrees(history, tables, line, &answer)?;
     Ok(answer)
 }
 
@@ -102,6 +104,49 @@ fn comes_agrees(history: &History, line: &[u8], answer: &Answer) -> Result<(), S
         true => Err(format!("comes {row} {request}: {answer:?}")),
         false => Ok(()),
     }
+}
+
+/// (rules R15, chain-7, chain-ok) What `chain` answers is what the history says: 7 where the row
+/// does not stand, else its first chain.
+fn chain_agrees(
+    history: &History,
+    tables: &Tables,
+    line: &[u8],
+    answer: &Answer,
+) -> Result<(), String> {
+    let Some(Call::Chain { row }) = read_call(line) else {
+        return Ok(());
+    };
+    let stands = history.now.standing.contains(&row);
+    let agrees = match answer {
+        Answer::Ok(numbers) => stands && is_first_chain(history, tables, row, numbers),
+        _ => !stands,
+    };
+    match agrees {
+        true => Ok(()),
+        false => Err(format!("chain {row}: {answer:?}")),
+    }
+}
+
+/// (rules R15, P31) By the notes, from a row without a source, which is one of the text, each the
+/// first source of the next, to the row itself. By the tables no more of them than the row is deep;
+/// from one to the next rights never grow, and all but ends name the same.
+fn is_first_chain(history: &History, tables: &Tables, row: u32, numbers: &[u32]) -> bool {
+    let sources = |n: &u32| history.notes.rows.get(n).map(|r| r.sources.as_slice());
+    let from_text = numbers.first().and_then(sources) == Some(&[]);
+    let to_row = numbers.last() == Some(&row);
+    let linked = |pair: &[u32]| sources(&pair[1]).and_then(<[u32]>::first) == Some(&pair[0]);
+    let depth = tables.row(row).map_or(0, |r| r.depth);
+    let short = numbers.len() <= depth.min(DEEPEST) as usize;
+    let named = |r: &Row| (r.kind, r.object, r.operation);
+    let within = |pair: &[u32]| match (tables.row(pair[0]), tables.row(pair[1])) {
+        (Some(source), Some(next)) => {
+            source.permits(next.rights) && (next.is_end() || named(source) == named(next))
+        }
+        _ => false,
+    };
+    let mut pairs = numbers.windows(2);
+    from_text && to_row && short && pairs.all(|pair| linked(pair) && within(pair))
 }
 
 /// The words of sound tables stand for these tables.

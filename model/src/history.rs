@@ -53,7 +53,7 @@ impl History {
         history
     }
 
-    /// (rule H1) Feeds one line and its answer. Refused lines, `fetch` and `comes` add
+    /// (rule H1) Feeds one line and its answer. Refused lines, `fetch`, `comes` and `chain` add
     /// nothing.
     pub fn note(&mut self, line: &[u8], answer: &[u8]) {
         self.revoked = None;
@@ -73,7 +73,7 @@ impl History {
                 items,
             } => self.note_ask(caller, client, &items, n),
             Call::Answer { end, .. } => self.note_answered(end),
-            Call::Comes { .. } => return,
+            Call::Comes { .. } | Call::Chain { .. } => return,
         }
         self.before = std::mem::take(&mut self.now);
         self.now = Moment::after(&self.notes, &self.before, asked);

@@ -82,6 +82,7 @@ fn out_of_range(call: &Call) -> bool {
             last,
         } => caller(*p) && number(*end) && *last <= 1,
         Call::Comes { row, request } => number(*row) && number(*request),
+        Call::Chain { row } => number(*row),
     };
     !in_range
 }
@@ -107,6 +108,7 @@ fn state_tests(tables: &Tables, call: &Call) -> Tests {
         } => ask(tables, *caller, *client, items),
         Call::Answer { caller, end, last } => answer(tables, *caller, *end, *last),
         Call::Comes { row, request } => comes(tables, *row, *request),
+        Call::Chain { row } => chain(tables, *row),
     }
 }
 
@@ -306,4 +308,9 @@ fn comes(tables: &Tables, row: u32, request: u32) -> Tests {
         (7, tables.row(row).is_none()),
         (7, tables.request(request).is_none()),
     ]
+}
+
+/// (rule chain-7) The row may be in any place.
+fn chain(tables: &Tables, row: u32) -> Tests {
+    vec![(7, tables.row(row).is_none())]
 }

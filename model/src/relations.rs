@@ -1,4 +1,4 @@
-//! Comes from, on loan and lent, as predicates over the rows and requests.
+//! Comes from, on loan and lent, as predicates over the rows and requests; the first chain of a row.
 
 use crate::tables::{Request, Row, Tables};
 use std::collections::BTreeSet;
@@ -13,6 +13,15 @@ pub fn rows_from(tables: &Tables, requests: &BTreeSet<u32>) -> BTreeSet<u32> {
 
 pub fn comes_from(tables: &Tables, row: u32, request: u32) -> bool {
     rows_from(tables, &BTreeSet::from([request])).contains(&row)
+}
+
+/// (rule R15) The rows from one of the text to this one, each the first source of the next. A row
+/// of the text has the source 0, which is no row's number.
+pub fn first_chain(tables: &Tables, row: u32) -> Vec<u32> {
+    let sources = std::iter::successors(tables.row(row), |r| tables.row(r.source));
+    let mut chain: Vec<u32> = sources.map(|r| r.number).collect();
+    chain.reverse();
+    chain
 }
 
 /// (rule L7) An end is on loan while an open request lists it.

@@ -1,10 +1,12 @@
 //! The call `answer`: its forms, and each ground of its refusals with each last number.
 
+mod common;
+
 use model::call::read_call;
 use model::random::{sound_state_of, Rng, SMALL_SHAPES};
 use model::refusals::decided_by;
 use model::relations::request_on;
-use model::session::{call, Session};
+use model::session::call;
 use model::tables::{Kind, Place, Tables};
 
 /// Rows 5 and 8 of process 1 are operations of 2 and of 3; ports 6 and 9 are made from them, with
@@ -13,18 +15,9 @@ const OFFICE: &str = "(node 1 (op 2 1 7) (op 3 1 7))|(node 2 (op 1 2 7) (op 2 3 
     (process 1 1)|(process 2 2)|(process 3 2)|(open)|\
     (1 hold 1)|(1 port 5)|(1 hold 2)|(1 port 8)";
 
-/// The tables after these lines, all of which are accepted.
+/// The tables of the office after these lines.
 fn after(lines: &str) -> Tables {
-    let lines = OFFICE.split('|').chain(lines.split('|'));
-    let lines = lines.filter(|line| !line.is_empty());
-    let input: String = lines.map(|line| format!("{line}\n")).collect();
-    let mut session = Session::begin(input.as_bytes());
-    assert!(session.opening.accepted());
-    while let Some((line, answer)) = session.step() {
-        let line = String::from_utf8_lossy(line);
-        assert!(answer.accepted(), "{line}{answer:?}");
-    }
-    session.tables
+    common::after(&format!("{OFFICE}|{lines}"))
 }
 
 /// The refusal of a line, none if it is accepted, and the tables after it.

@@ -5,8 +5,9 @@ use model::chains;
 use model::check::{self, Tally};
 use model::history::History;
 use model::random::{self, Profile, PROFILES};
-use model::run_session;
 use model::session::{call, Session};
+use model::tables::Tables;
+use model::{run_session, Answer};
 use std::sync::OnceLock;
 
 fn variable(name: &str, default: u64) -> u64 {
@@ -61,6 +62,17 @@ fn every_refusal_is_seen() {
     assert_eq!(tally.get(&1), None);
 }
 
+/// A random session at its end, and its history.
+fn told(seed: u64, profile: Profile, calls: usize) -> (Tables, History) {
+    let input = random::session(seed, profile, calls);
+    let mut session = Session::begin(&input);
+    let mut history = History::begin(&input, &session.opening.print());
+    while let Some((line, answer)) = session.step() {
+        history.note(line, &answer.print());
+    }
+    (session.tables, history)
+}
+
 /// What stands and comes from, worked from number to number, is what listing
 /// all chains says.
 #[test]
@@ -68,12 +80,7 @@ fn moments_are_what_the_chains_say() {
     let mut gone = 0;
     for seed in 0..100 {
         let profile = PROFILES[seed as usize % 5];
-        let input = random::session(seed, profile, 60);
-        let mut session = Session::begin(&input);
-        let mut history = History::begin(&input, &session.opening.print());
-        while let Some((line, answer)) = session.step() {
-            history.note(line, &answer.print());
-        }
+        let (_, history) = told(seed, profile, 60);
         gone += compare_with_chains(&history);
     }
     assert!(gone > 500, "{gone} rows gone");
@@ -100,6 +107,29 @@ fn compare_with_chains(history: &History) -> usize {
         }
     }
     notes.rows.len() - now.standing.len()
+}
+
+/// What `chain` answers of every row, standing or gone, after a session: the first of all its chains
+/// by the history, which lists first sources first. Each length is among them.
+#[test]
+fn chain_is_the_first_of_all_chains() {
+    let mut lengths = [0; 13];
+    for seed in 0..250 {
+        let profile = PROFILES[seed as usize % 5];
+        let (mut tables, history) = told(seed, profile, 150);
+        for row in history.notes.rows.keys() {
+            let chain = chains::chains(&history.notes, *row).swap_remove(0);
+            let (length, expected) = match history.now.standing.contains(row) {
+                true => (chain.len(), Answer::Ok(chain)),
+                false => (0, Answer::No(7)),
+            };
+            let line = format!("(chain {row})\n");
+            let answer = call(&mut tables, line.as_bytes());
+            assert_eq!(answer, expected, "seed {seed}: {line}");
+            lengths[length] += 1;
+        }
+    }
+    assert!(lengths.iter().all(|seen| *seen >= 10), "{lengths:?}");
 }
 
 /// A request has an end on loan, by the history, exactly where the tables

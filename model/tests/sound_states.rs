@@ -130,8 +130,9 @@ fn every_kind_and_every_edge() {
 }
 
 /// The grounds of 7 to 18, a letter to each test where a number has more than one.
-/// register-15 never applies to sound tables. Those of answer have the last number too.
-const GROUNDS: [&str; 51] = [
+/// register-15 never applies to sound tables. Those of answer have the last number too, those of
+/// chain how many rows it has.
+const GROUNDS: [&str; 52] = [
     "answer-10 with 1",
     "answer-11a with 0",
     "answer-11a with 1",
@@ -152,6 +153,7 @@ const GROUNDS: [&str; 51] = [
     "ask-7",
     "ask-8",
     "ask-9",
+    "chain-7 of 0",
     "close-12",
     "close-7",
     "close-8",
@@ -185,12 +187,25 @@ const GROUNDS: [&str; 51] = [
     "register-9",
 ];
 
-/// The calls that are accepted, an answer out of range, and revoke's one ground.
-const OTHERS: [&str; 14] = [
+/// The calls that are accepted, an answer and a chain out of range, and revoke's one ground.
+const OTHERS: [&str; 27] = [
     "answer-3 with 2",
     "answer-ok with 0",
     "answer-ok with 1",
     "ask-ok",
+    "chain-3 of 0",
+    "chain-ok of 1",
+    "chain-ok of 2",
+    "chain-ok of 3",
+    "chain-ok of 4",
+    "chain-ok of 5",
+    "chain-ok of 6",
+    "chain-ok of 7",
+    "chain-ok of 8",
+    "chain-ok of 9",
+    "chain-ok of 10",
+    "chain-ok of 11",
+    "chain-ok of 12",
     "close-ok",
     "comes-ok",
     "drop-ok",

@@ -119,7 +119,8 @@ const REFUSED_LINES: [(u32, &str); 6] = [
         (1 ask 5 (5 1) )|go|(process 1 1)|(node 1)|(1 goo 0)|(1 g 0)|(1 answer)|(1 answer 1)|\
         (1 answer 1 1 1)|(1 answer 1 (1))|(1 answer 1 (1 0))|(1 answer (1 1))|(1 answer 1 01)|\
         (1 answer 1 1 )|(1 answer 1  1)|(answer 1 1)|(1 Answer 1 1)|(1 reply 1)|(1 refuse 1)|\
-        (1 reply 1 1)|(1 refuse 1 0)|(65 answer 1 01)",
+        (1 reply 1 1)|(1 refuse 1 0)|(65 answer 1 01)|(chain)|(1 chain 1)|(chain 1 1)|(chain (1))|\
+        (chain 01)|(chain 1 )|(chain  1)|(Chain 1)|(chains 1)|(chain1)",
     ),
     (
         3,
@@ -128,7 +129,8 @@ const REFUSED_LINES: [(u32, &str); 6] = [
         (1 go 18446744073709551616)|(comes 0 1)|(comes 1 0)|(comes 4294967295 1)|(1 ask 0)|\
         (1 ask 5 (0 1))|(1 ask 5 (1 8))|(2 ask 5 (1 8) (1 8))|(1 revoke 0)|\
         (1 ask 5 (1 0) (1 0) (1 0) (1 0) (1 9))|(1 answer 1 2)|(2 answer 1 2)|(1 answer 0 1)|\
-        (1 answer 1 4294967295)|(1 answer 1 4294967297)|(1 answer 4294967295 0)|(65 answer 1 1)",
+        (1 answer 1 4294967295)|(1 answer 1 4294967297)|(1 answer 4294967295 0)|(65 answer 1 1)|\
+        (chain 0)|(chain 4294967295)|(chain 4294967297)|(chain 18446744073709551617)",
     ),
     (
         4,
@@ -144,7 +146,8 @@ const REFUSED_LINES: [(u32, &str); 6] = [
     (
         7,
         "(1 go 4294967294)|(1 go 4294967290)|(1 go 1000001)|(1 go 1)|(comes 1 1)|\
-        (1 hold 2)|(1 revoke 1)|(1 ask 1 (1 0) (2 0) (3 0) (4 0))|(1 answer 1 0)|(1 answer 1 1)",
+        (1 hold 2)|(1 revoke 1)|(1 ask 1 (1 0) (2 0) (3 0) (4 0))|(1 answer 1 0)|(1 answer 1 1)|\
+        (chain 2)|(chain 4294967294)",
     ),
 ];
 
@@ -166,6 +169,7 @@ fn call_lines() {
     assert_eq!(answer(""), Some(2));
     assert_eq!(answer("(1 go 0)"), Some(2));
     assert_eq!(answer("(1 go 0)\n"), None);
+    assert_eq!(answer("(chain 1)\n"), None);
 }
 
 /// (rules O8, K10) What follows it is not read; the last line without a line feed is a call.
@@ -242,7 +246,7 @@ fn forms_have_one_spelling() {
 #[test]
 fn any_bytes() {
     let mut rng = Rng::new(43);
-    let alphabet = b"(( )) \n\n0123456789 node process open op dir go hold ask answer comes";
+    let alphabet = b"(( )) \n\n0123456789 node process open op dir go hold ask answer comes chain";
     for round in 0..20_000 {
         let length = rng.below(80);
         let byte = |_| match round % 2 {

@@ -6,8 +6,8 @@ use super::case::{same, Case};
 use crate::session::{call, run_session};
 use crate::tables::Tables;
 
-/// An answer is read up to its line feed. The longest has five numbers of ten digits.
-const BYTES: usize = 60;
+/// An answer is read up to its line feed. The longest has twelve numbers of ten digits.
+const BYTES: usize = 137;
 
 /// The bits of a byte of ASCII.
 const BITS: u32 = 7;

@@ -7,6 +7,7 @@ use crate::limits::LAST_NUMBER;
 use crate::random::shifted::near_limit;
 use crate::random::{lines, openings, Profile, Rng, SMALL};
 use crate::refusals;
+use crate::relations::first_chain;
 use crate::session::{call_sound, open};
 use crate::tables::{Place, Request, Row, Tables};
 use std::collections::{BTreeMap, BTreeSet};
@@ -27,6 +28,7 @@ fn features(before: &Tables, line: &[u8], answer: &Answer, after: &Tables) -> Fe
         found.extend(of_requests(before, after));
         found.extend(of_processes(before, after));
         found.insert(format!("answers {} numbers", numbers.len()));
+        found.extend(of_chain(before, &call));
         if before.next <= LAST_NUMBER && LAST_NUMBER < after.next {
             found.insert("gives the last number".to_string());
         }
@@ -42,6 +44,7 @@ fn word(call: &Call) -> String {
         Call::Ask { items, .. } => format!("Ask {}", items.len().min(5)),
         Call::Answer { last, .. } => format!("Answer {}", last.min(&2)),
         Call::Comes { .. } => "Comes".to_string(),
+        Call::Chain { .. } => "Chain".to_string(),
     }
 }
 
@@ -85,6 +88,20 @@ fn of_rows(before: &Tables, after: &Tables) -> Features {
     }
     found.insert(format!("rows gone: {}", gone.len().min(4)));
     found
+}
+
+/// The sort of a row whose chain is asked for, and those of the rows on the way that have a second
+/// source; no other call has any.
+fn of_chain(tables: &Tables, call: &Call) -> Features {
+    let Call::Chain { row } = call else {
+        return Features::new();
+    };
+    let chain = first_chain(tables, *row);
+    let rows = chain.iter().filter_map(|n| tables.row(*n));
+    let last = tables.row(*row).map(|r| format!("of {}", sort(r)));
+    let second = rows.filter(|r| r.via != 0);
+    let passed = second.map(|r| format!("past the second source of {}", sort(r)));
+    passed.chain(last).collect()
 }
 
 /// Ends that go to another place: how many requests listed them, and whether

@@ -199,15 +199,20 @@ fn listed(rng: &mut Rng, t: &mut Tables) -> Option<()> {
     Some(())
 }
 
+/// A source becomes no row, the row itself or a younger one; of these, if there is one, one that
+/// breaks no other clause.
 fn sources_older(rng: &mut Rng, t: &mut Tables) -> Option<()> {
     let next = t.next;
     let newest = t.rows.last()?.number;
-    let odd = |r: &Row| r.source != 0;
-    let altered = row(rng, t, odd)?;
-    let source = [next, altered.number, newest, u32::MAX];
+    let altered = *row(rng, t, |r| r.source != 0)?;
+    let thing = |r: &Row| (r.kind, r.object, r.operation, r.rights);
+    let fits = |r: &Row| r.in_node() && thing(r) == thing(&altered) && r.depth + 1 == altered.depth;
+    let younger = number(rng, t, |r| r.number > altered.number && fits(r)).unwrap_or(newest);
+    let source = rng.pick(&[next, altered.number, newest, younger, u32::MAX])?;
+    let altered = row(rng, t, |r| r.number == altered.number)?;
     match rng.below(3) {
-        0 if altered.via != 0 => altered.via = rng.pick(&source)?,
-        _ => altered.source = rng.pick(&source)?,
+        0 if altered.via != 0 => altered.via = source,
+        _ => altered.source = source,
     }
     Some(())
 }

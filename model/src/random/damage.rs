@@ -1,5 +1,5 @@
 //! Damaged texts: bytes flipped, cut out, doubled or added, lines made too
-//! long, numbers made odd; lines that are nearly an answer.
+//! long, numbers made odd; lines that are nearly an answer or a chain.
 
 use super::prng::Rng;
 
@@ -55,6 +55,37 @@ const ANSWERS: [(&str, &str); 16] = [
 pub fn garbled_answer(rng: &mut Rng, caller: u32, end: u32) -> Vec<u8> {
     let (word, last) = rng.pick(&ANSWERS).unwrap_or(("answer", ""));
     format!("({caller} {word} {end}{last})\n").into_bytes()
+}
+
+/// Lines that are no question for the chain of a row, which E stands for: with a caller, the number
+/// missing, doubled, bracketed, odd or past 32 bits, another word.
+const CHAINS: [&str; 18] = [
+    "(chain)",
+    "(chain )",
+    "(1 chain E)",
+    "(1 chain)",
+    "(chain E E)",
+    "(chain E 1)",
+    "(chain (E))",
+    "(chain E ())",
+    "(chain 0E)",
+    "(chain  E)",
+    "(chain E )",
+    "(chainE)",
+    "(chain -E)",
+    "(chain e)",
+    "(chains E)",
+    "(Chain E)",
+    "(E chain)",
+    "(chain WRAPPED)",
+];
+
+/// A line that is nearly a question for the chain of this row.
+pub fn garbled_chain(rng: &mut Rng, row: u32) -> Vec<u8> {
+    let line = rng.pick(&CHAINS).unwrap_or("(chain)");
+    let wrapped = (1u64 << 32) + u64::from(row);
+    let line = line.replace("WRAPPED", &wrapped.to_string());
+    (line.replace('E', &row.to_string()) + "\n").into_bytes()
 }
 
 /// The text damaged once to three times.

@@ -1,24 +1,26 @@
 //! Random call lines, made by looking at the tables: most are accepted.
 
-use super::damage::{damage, garbled_answer};
+use super::damage::{damage, garbled_answer, garbled_chain};
 use super::prng::Rng;
 use super::profile::Profile;
 use crate::call::{Call, Item, Word, WORDS};
 use crate::limits::{ALL_RIGHTS, LAST_NUMBER, PROCESSES};
 use crate::refusals::refusal;
-use crate::relations::{on_loan, request_on};
+use crate::relations::{first_chain, on_loan, request_on};
 use crate::tables::{Kind, Place, Request, Row, Tables};
 
-/// What is proposed: a word with one number, an ask, an answer with its last number or a comes.
+/// What is proposed: a word with one number, an ask, an answer with its last number, a comes or a
+/// chain.
 #[derive(Clone, Copy)]
 enum Plan {
     One(Word),
     Ask,
     Answer(u32),
     Comes,
+    Chain,
 }
 
-const PLANS: [Plan; 12] = [
+const PLANS: [Plan; 13] = [
     Plan::One(Word::Go),
     Plan::One(Word::Hold),
     Plan::One(Word::Register),
@@ -31,21 +33,22 @@ const PLANS: [Plan; 12] = [
     Plan::Answer(0),
     Plan::One(Word::Revoke),
     Plan::Comes,
+    Plan::Chain,
 ];
 
 /// Last numbers of an answer that are out of range.
 const ODD_LAST: [u32; 6] = [2, 3, 10, 256, LAST_NUMBER, u32::MAX];
 
 /// How likely each plan is, in the order of `PLANS`.
-fn weights(profile: Profile, tables: &Tables) -> [u32; 12] {
+fn weights(profile: Profile, tables: &Tables) -> [u32; 13] {
     match profile {
-        Profile::Tiny => [8, 10, 5, 6, 10, 3, 24, 16, 5, 3, 4, 6],
-        Profile::Loans => [4, 10, 3, 4, 13, 2, 32, 20, 4, 2, 3, 3],
-        Profile::Nested => [1, 6, 1, 2, 16, 1, 36, 24, 4, 3, 4, 2],
-        Profile::Directories => [18, 20, 8, 6, 7, 1, 18, 14, 2, 1, 3, 2],
-        Profile::Deep => [12, 20, 10, 2, 16, 1, 18, 16, 1, 1, 2, 1],
-        Profile::Full if tables.rows.len() < 1022 => [2, 40, 6, 0, 26, 0, 26, 5, 0, 0, 0, 1],
-        Profile::Full => [2, 20, 6, 20, 12, 2, 20, 8, 3, 2, 3, 2],
+        Profile::Tiny => [8, 10, 5, 6, 10, 3, 24, 16, 5, 3, 4, 6, 4],
+        Profile::Loans => [4, 10, 3, 4, 13, 2, 32, 20, 4, 2, 3, 3, 3],
+        Profile::Nested => [1, 6, 1, 2, 16, 1, 36, 24, 4, 3, 4, 2, 2],
+        Profile::Directories => [18, 20, 8, 6, 7, 1, 18, 14, 2, 1, 3, 2, 3],
+        Profile::Deep => [12, 20, 14, 2, 16, 1, 18, 16, 1, 1, 2, 1, 4],
+        Profile::Full if tables.rows.len() < 1022 => [2, 40, 6, 0, 26, 0, 26, 5, 0, 0, 0, 1, 1],
+        Profile::Full => [2, 20, 6, 20, 12, 2, 20, 8, 3, 2, 3, 2, 2],
     }
 }
 
@@ -66,6 +69,10 @@ pub fn line(rng: &mut Rng, profile: Profile, tables: &Tables) -> Vec<u8> {
         2 if maker.rng.percent(50) => {
             let (caller, end) = maker.answerer(1);
             garbled_answer(maker.rng, caller, end)
+        }
+        3 if maker.rng.percent(25) => {
+            let row = maker.any_number();
+            garbled_chain(maker.rng, row)
         }
         2..=5 => maker.careless().print(),
         6..=20 => maker.propose().print(),
@@ -115,17 +122,20 @@ impl<'a> Maker<'a> {
             1 => self.rng.between(1, PROCESSES),
             _ => self.some_process(),
         };
-        match self.rng.below(12) {
+        match self.rng.below(13) {
             0 => Call::Comes {
                 row: self.any_number(),
                 request: self.any_number(),
             },
-            1..=4 => Call::Ask {
+            1 => Call::Chain {
+                row: self.any_number(),
+            },
+            2..=5 => Call::Ask {
                 caller,
                 client: self.any_number(),
                 items: self.careless_items(),
             },
-            5 => Call::Answer {
+            6 => Call::Answer {
                 caller,
                 end: self.any_number(),
                 last: self.any_last(),
@@ -185,16 +195,23 @@ impl<'a> Maker<'a> {
                 Call::Answer { caller, end, last }
             }
             Plan::Comes => {
-                let rows: Vec<&Row> = self.tables.rows.iter().collect();
-                let row = match self.near && self.rng.percent(30) {
-                    true => Some(self.any_number()),
-                    false => self.pick_row(&rows).map(|r| r.number),
-                };
-                let row = row.unwrap_or(1);
+                let row = self.some_row();
                 let request = self.some_request(|_| true).map_or(1, |q| q.number);
                 Call::Comes { row, request }
             }
+            Plan::Chain => Call::Chain {
+                row: self.some_row(),
+            },
         }
+    }
+
+    /// The number of a row of any place. Near: now and then any number.
+    fn some_row(&mut self) -> u32 {
+        if self.near && self.rng.percent(30) {
+            return self.any_number();
+        }
+        let rows: Vec<&Row> = self.tables.rows.iter().collect();
+        self.pick_row(&rows).map_or(1, |r| r.number)
     }
 
     fn propose_word(&mut self, word: Word) -> Call {
@@ -219,12 +236,16 @@ impl<'a> Maker<'a> {
         }
     }
 
-    /// A row, in the deep profile often one of the greatest depth.
+    /// A row, in the deep profile often one of the greatest depth or of the longest first chain.
     fn pick_row<'b>(&mut self, rows: &[&'b Row]) -> Option<&'b Row> {
-        if self.profile == Profile::Deep && self.rng.percent(50) {
-            return rows.iter().copied().max_by_key(|r| r.depth);
+        if self.profile != Profile::Deep || self.rng.percent(50) {
+            return self.rng.pick(rows);
         }
-        self.rng.pick(rows)
+        let rows = rows.iter().copied();
+        match self.rng.percent(50) {
+            true => rows.max_by_key(|r| r.depth),
+            false => rows.max_by_key(|r| first_chain(self.tables, r.number).len()),
+        }
     }
 
     /// A row of a c-list that passes the test, with its holder.

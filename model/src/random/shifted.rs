@@ -57,7 +57,8 @@ pub fn shift_line(line: &[u8], by: u32) -> Vec<u8> {
 /// The answer to a line, with the numbers raised that it gives. `comes` answers 1 or 0, no number.
 pub fn shift_answer(line: &[u8], answer: &Answer, by: u32) -> Answer {
     match (read_call(line), answer) {
-        (Some(Call::One { .. } | Call::Ask { .. } | Call::Answer { .. }), Answer::Ok(numbers)) => {
+        (Some(Call::Comes { .. }), _) => answer.clone(),
+        (_, Answer::Ok(numbers)) => {
             Answer::Ok(numbers.iter().map(|n| shift_number(*n, by)).collect())
         }
         _ => answer.clone(),

@@ -32,7 +32,7 @@ fn weights(shape: Shape) -> [u32; 6] {
     match shape {
         Shape::Few => [20, 8, 20, 20, 20, 30],
         Shape::Mixed => [16, 10, 24, 16, 16, 30],
-        Shape::Deep => [8, 10, 30, 12, 12, 30],
+        Shape::Deep => [8, 22, 24, 12, 12, 24],
         Shape::Loans => [8, 4, 10, 26, 40, 20],
         Shape::FullRows => [20, 20, 30, 16, 2, 10],
         Shape::FullRequests => [4, 2, 6, 40, 60, 20],

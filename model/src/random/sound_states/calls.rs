@@ -4,6 +4,7 @@ use crate::call::Call;
 use crate::random::lines::near_call;
 use crate::random::{Rng, PROFILES};
 use crate::refusals::decided_by;
+use crate::relations::first_chain;
 use crate::tables::Tables;
 use std::collections::BTreeMap;
 
@@ -16,11 +17,13 @@ pub struct Calls {
     pub seen: BTreeMap<String, u64>,
 }
 
-/// What decides, by the rule's name; of an answer with its last number too.
+/// What decides, by the rule's name; of an answer with its last number too, of a chain with how
+/// many rows it has.
 fn ground(tables: &Tables, call: &Call) -> Option<String> {
     let rule = decided_by(tables, call)?;
     match call {
         Call::Answer { last, .. } => Some(format!("{rule} with {}", last.min(&2))),
+        Call::Chain { row } => Some(format!("{rule} of {}", first_chain(tables, *row).len())),
         _ => Some(rule),
     }
 }
