@@ -1,19 +1,23 @@
 //! A call and its answer in words, as crates/test_exports/src/performing.rt has them.
 
 use model::call::{Call, Item, Word};
-use model::limits::ITEMS;
+use model::limits::{DEEPEST, ITEMS};
 use model::relations::request_on;
 use model::{Answer, Tables};
 
-/// The call's code and its two numbers; then the last number of answer, or row and rights of each
-/// item of an ask, 0 for no item.
+/// The call's code and its two numbers, of chain its row and 0; then the last number of answer, or
+/// row and rights of each item of an ask, 0 for no item.
 pub type CallWords = [u32; 3 + 2 * ITEMS];
 
-/// The answer's code and its numbers, 0 after them.
-pub type AnswerWords = [u32; 2 + ITEMS];
+/// The rows of a chain at most.
+pub const LONGEST_CHAIN: usize = DEEPEST as usize;
 
-/// The words in the order of their codes; ask, answer and comes are no words with one number.
-const CODES: [Option<Word>; 11] = [
+/// The answer's code and its numbers, 0 after them; a chain has most.
+pub type AnswerWords = [u32; 1 + LONGEST_CHAIN];
+
+/// The words in the order of their codes; ask, answer, comes and chain are no words with one
+/// number after the caller's.
+const CODES: [Option<Word>; 12] = [
     Some(Word::Go),
     Some(Word::Hold),
     Some(Word::Register),
@@ -25,23 +29,28 @@ const CODES: [Option<Word>; 11] = [
     None,
     Some(Word::Revoke),
     None,
+    None,
 ];
 
 pub const ASK: u32 = 6;
 pub const ANSWER: u32 = 8;
+/// From comes on calls have no caller.
 pub const COMES: u32 = 10;
+pub const CHAIN: u32 = 11;
 
 pub const DONE: u32 = 0;
 pub const MADE: u32 = 1;
 pub const FETCHED: u32 = 2;
 pub const TOLD: u32 = 3;
 pub const REFUSED: u32 = 4;
+pub const CHAINED: u32 = 5;
 
 pub fn code(call: &Call) -> u32 {
     match call {
         Call::Ask { .. } => ASK,
         Call::Answer { .. } => ANSWER,
         Call::Comes { .. } => COMES,
+        Call::Chain { .. } => CHAIN,
         Call::One { word, .. } => {
             let at = CODES.iter().position(|w| *w == Some(*word));
             at.expect("every word has a code") as u32
@@ -66,6 +75,7 @@ pub fn call_words(call: &Call) -> Option<CallWords> {
         Call::Ask { caller, client, .. } => (*caller, *client),
         Call::Answer { caller, end, .. } => (*caller, *end),
         Call::Comes { row, request } => (*row, *request),
+        Call::Chain { row } => (*row, 0),
     };
     let items: &[Item] = call.items();
     if items.len() > ITEMS || items.iter().any(|item| item.row == 0) {
@@ -82,28 +92,44 @@ pub fn call_words(call: &Call) -> Option<CallWords> {
     Some(words)
 }
 
+/// An answer in words: its code, its numbers, 0 after them.
+#[inline]
+pub fn said<const N: usize>(code: u32, numbers: [u32; N]) -> AnswerWords {
+    let mut words = [0; 1 + LONGEST_CHAIN];
+    words[0] = code;
+    words[1..=N].copy_from_slice(&numbers);
+    words
+}
+
 /// The words of the model's answer to a call on these tables, the tables before it.
 pub fn answer_words(before: &Tables, call: &Call, answer: &Answer) -> AnswerWords {
     let numbers = match answer {
-        Answer::No(k) | Answer::NoAt(k, _) => return [REFUSED, *k, 0, 0, 0, 0],
+        Answer::No(k) | Answer::NoAt(k, _) => return said(REFUSED, [*k]),
         Answer::Ok(numbers) => numbers,
     };
-    match (CODES[code(call) as usize], numbers.as_slice()) {
-        (None, [told]) if code(call) == COMES => [TOLD, *told, 0, 0, 0, 0],
-        (Some(Word::Fetch), _) => fetched_words(before, call, numbers),
-        (_, [0]) => [DONE, 0, 0, 0, 0, 0],
-        (_, [number]) => [MADE, *number, 0, 0, 0, 0],
+    match (call, numbers.as_slice()) {
+        (Call::Comes { .. }, [told]) => said(TOLD, [*told]),
+        (Call::Chain { .. }, rows) => said(CHAINED, chain_words(rows)),
+        (Call::One { word, number, .. }, _) if *word == Word::Fetch => {
+            fetched_words(before, *number, numbers)
+        }
+        (_, [0]) => said(DONE, []),
+        (_, [number]) => said(MADE, [*number]),
         _ => panic!("{call:?}: {answer:?}"),
     }
 }
 
+/// The rows of a chain, 0 after them.
+fn chain_words(rows: &[u32]) -> [u32; LONGEST_CHAIN] {
+    let mut words = [0; LONGEST_CHAIN];
+    words[..rows.len()].copy_from_slice(rows);
+    words
+}
+
 /// The request's number and its items, 0 for one that is not listed; the model
 /// answers those that are listed.
-fn fetched_words(before: &Tables, call: &Call, numbers: &[u32]) -> AnswerWords {
-    let Call::One { number: end, .. } = call else {
-        panic!("a fetch has one number");
-    };
-    let port = before.row(*end).map_or(0, |row| row.object);
+fn fetched_words(before: &Tables, end: u32, numbers: &[u32]) -> AnswerWords {
+    let port = before.row(end).map_or(0, |row| row.object);
     let request = request_on(before, port).expect("a request that was fetched");
     let [a, b, c, d] = request.items.map(|item| item.unwrap_or(0));
     let listed: Vec<u32> = [request.number]
@@ -111,5 +137,5 @@ fn fetched_words(before: &Tables, call: &Call, numbers: &[u32]) -> AnswerWords {
         .chain(request.listed())
         .collect();
     assert_eq!(listed, numbers);
-    [FETCHED, request.number, a, b, c, d]
+    said(FETCHED, [request.number, a, b, c, d])
 }

@@ -37,6 +37,13 @@ extern "C" {
     pub fn kernel_on_loan(t: *const u32, t_len: usize, e: u32) -> bool;
     pub fn kernel_comes(t: *const u32, t_len: usize, e: usize, q: u32) -> bool;
     pub fn kernel_lent(t: *const u32, t_len: usize, e: usize) -> bool;
+    pub fn kernel_first_chain(
+        t: *const u32,
+        t_len: usize,
+        e: usize,
+        chain: *mut u32,
+        chain_len: usize,
+    ) -> usize;
 
     // rights.rt
     pub fn kernel_rights_empty(a: u32) -> bool;

@@ -81,3 +81,11 @@ pub fn comes(tables: &[u32], slot: usize, request: u32) -> bool {
 pub fn lent(tables: &[u32], slot: usize) -> bool {
     unsafe { raw::kernel_lent(tables.as_ptr(), tables.len(), slot) }
 }
+
+/// Writes the first chain of the row in a slot to the front of the lent words, and says its length;
+/// nothing if they are fewer than twelve.
+#[inline]
+pub fn first_chain(tables: &[u32], slot: usize, chain: &mut [u32]) -> usize {
+    let (t, t_len, length) = (tables.as_ptr(), tables.len(), chain.len());
+    unsafe { raw::kernel_first_chain(t, t_len, slot, chain.as_mut_ptr(), length) }
+}

@@ -4,9 +4,9 @@
 mod common;
 
 use common::entries::Entry;
-use common::performed::Perform;
+use common::performed::{Perform, UNSAID};
 use common::{small, words, Lent};
-use kernel::call_words::{AnswerWords, ANSWER, DONE, REFUSED};
+use kernel::call_words::{said, ANSWER, DONE, REFUSED};
 use kernel::plain::closing_tables::{call, opened};
 use kernel::{entry, performing, plain};
 use model::random::{sound_state, Rng};
@@ -244,17 +244,17 @@ fn the_last_number_in_words() {
     let lent = words(&asked());
     for perform in [performing::perform as Perform, plain::calls::perform] {
         let made = |last: u32| {
-            let (mut after, mut answer): (Lent, AnswerWords) = (lent.clone(), [9; 6]);
+            let (mut after, mut answer) = (lent.clone(), UNSAID);
             let mut call = [0; 11];
             call[..4].copy_from_slice(&[ANSWER, 2, 6, last]);
             perform(&mut after.0, &mut after.1, &call, &mut answer);
             (after, answer)
         };
         let declined = made(0);
-        assert!(declined.0 != lent && declined.1 == [DONE, 0, 0, 0, 0, 0]);
+        assert!(declined.0 != lent && declined.1 == said(DONE, []));
         for last in [2, 3, 256, 257, u32::MAX] {
             assert!(made(last) == declined, "{last}");
         }
-        assert!(made(1) == (lent.clone(), [REFUSED, 11, 0, 0, 0, 0]));
+        assert!(made(1) == (lent.clone(), said(REFUSED, [11])));
     }
 }

@@ -27,9 +27,9 @@ fn cases_on_the_entry_points() {
             Err(said) => panic!("{said}"),
         }
     }
-    assert!(cases.len() >= 930, "{} cases", cases.len());
+    assert!(cases.len() >= 1_090, "{} cases", cases.len());
     assert!(
-        steps >= 20_000 && without == 9,
+        steps >= 25_000 && without == 10,
         "{steps} steps, {without} without words"
     );
 }

@@ -1,11 +1,12 @@
-//! The eleven calls on sound tables: the answer and every word of both runs,
+//! The twelve calls on sound tables: the answer and every word of both runs,
 //! against the model. A longer run, by so many rounds of the one in the gate:
 //!
 //!     ROUNDS=50 cargo test --release --offline --manifest-path tests/Cargo.toml --test performing -- --ignored
 
 mod common;
 
-use common::calls::{calls_of, others_stay, the_last_number, the_last_request, the_last_row};
+use common::calls::{calls_of, codes_without_caller, others_stay};
+use common::calls::{the_last_number, the_last_request, the_last_row};
 use common::performed::Perform;
 use kernel::performing::perform;
 
@@ -46,4 +47,5 @@ fn the_last_number_is_given() {
 #[test]
 fn other_lengths_and_callers() {
     others_stay(perform);
+    codes_without_caller(perform);
 }

@@ -3,7 +3,8 @@
 
 mod common;
 
-use common::calls::{calls_of, others_stay, the_last_number, the_last_request, the_last_row};
+use common::calls::{calls_of, codes_without_caller, others_stay};
+use common::calls::{the_last_number, the_last_request, the_last_row};
 use common::performed::Perform;
 use kernel::plain::calls::perform;
 
@@ -24,4 +25,5 @@ fn limits() {
 #[test]
 fn other_lengths_and_callers() {
     others_stay(perform);
+    codes_without_caller(perform);
 }

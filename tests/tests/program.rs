@@ -65,7 +65,7 @@ fn conformance() -> Vec<(String, Vec<u8>, Vec<u8>)> {
 #[test]
 fn conformance_sessions_are_answered() {
     let sessions = conformance();
-    assert!(sessions.len() >= 133, "{}", sessions.len());
+    assert!(sessions.len() >= 159, "{}", sessions.len());
     for (name, input, answers) in sessions {
         assert!(printed(&input, input.len().max(1)) == answers, "{name}");
     }
@@ -115,6 +115,7 @@ fn a_session_is_driven_line_by_line() {
     assert_eq!(ask(&[&[b'x'; 100_000][..], b"\n"].concat()), "(no 2)\n");
     assert_eq!(ask(b"(1 hold 1)\n"), "(ok 3)\n");
     assert_eq!(ask(b"(comes 3 1)\n"), "(no 7)\n");
+    assert_eq!(ask(b"(chain 3)\n"), "(ok 1 3)\n");
     to.write_all(b"(1 hold 1)").expect("it reads on");
     drop(to);
     let mut rest = String::new();

@@ -30,27 +30,27 @@ fn passes(points: Points, calls: u64, seed: u64) -> Report {
         lively(report);
     }
     let [first, second] = reports;
-    assert_eq!(first.accepted.len(), 12, "{first}");
+    assert_eq!(first.accepted.len(), 13, "{first}");
     assert!(u64::from(first.greatest) >= calls * 2 / 5, "{first}");
     assert_eq!(second.greatest, LAST_NUMBER);
     assert!(second.refused[18] > 0 && first.refused[18] == 0);
     first
 }
 
-/// Four of five calls are accepted, each of the eleven at times, answer with 0 and with 1; near the
+/// Four of five calls are accepted, each of the twelve at times, answer with 0 and with 1; near the
 /// end a register may be none.
 fn lively(report: &Report) {
     let calls: u64 = report.refused.iter().sum();
     assert_eq!(calls, report.calls);
     assert!(5 * report.refused[0] >= 4 * calls, "{report}");
-    assert!(report.accepted.len() >= 11, "{report}");
+    assert!(report.accepted.len() >= 12, "{report}");
     assert!(4 * report.compared >= calls, "{report}");
 }
 
 /// Each refusal but 1 and 18 is answered in the first part; 14 is rare.
 #[test]
 fn proved() {
-    let first = passes(PROVED, CALLS, 1);
+    let first = passes(PROVED, CALLS, 4);
     for k in (2..=17).filter(|k| *k != 14) {
         assert!(first.refused[k] > 0, "{k} was never answered");
     }

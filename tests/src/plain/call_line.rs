@@ -12,6 +12,7 @@ const MOST_ITEMS: usize = 48;
 struct Line {
     call: fn(u32, u32) -> Call,
     first: u32,
+    /// 0 for chain, which has none.
     second: u32,
     kind: Kind,
     /// The last number of answer; 0 for any other call.
@@ -26,6 +27,7 @@ enum Kind {
     Ask,
     Answer,
     Comes,
+    Chain,
     Other,
 }
 
@@ -38,7 +40,7 @@ pub fn read_call(line: &[u8], p: &Records) -> Result<Call, u32> {
     if line.names_twice() {
         return Err(4);
     }
-    if line.kind != Kind::Comes && !listed(p, line.first) {
+    if line.has_caller() && !listed(p, line.first) {
         return Err(5);
     }
     if line.count > ITEMS {
@@ -64,9 +66,13 @@ fn read_line(line: &[u8]) -> Option<Line> {
             (kind, call, caller)
         }
         b"comes" => (Kind::Comes, Call::Comes, reader.next_number()?),
+        b"chain" => (Kind::Chain, |e, _| Call::Chain(e), reader.next_number()?),
         _ => return None,
     };
-    let second = reader.next_number()?;
+    let second = match kind {
+        Kind::Chain => 0,
+        _ => reader.next_number()?,
+    };
     let last = match kind {
         Kind::Answer => reader.next_number()?,
         _ => 0,
@@ -118,15 +124,19 @@ fn read_items(reader: &mut Reader) -> Option<([Item; MOST_ITEMS], usize)> {
 }
 
 impl Line {
+    fn has_caller(&self) -> bool {
+        !matches!(self.kind, Kind::Comes | Kind::Chain)
+    }
+
     fn in_range(&self) -> bool {
         let number = |n: u32| (1..=LAST_NUMBER).contains(&n);
-        let first = match self.kind {
-            Kind::Comes => number(self.first),
-            _ => (1..=64).contains(&self.first),
+        let first = match self.has_caller() {
+            true => (1..=64).contains(&self.first),
+            false => number(self.first),
         };
-        let home = self.kind == Kind::Go && self.second == 0;
+        let zero = matches!(self.kind, Kind::Go | Kind::Chain) && self.second == 0;
         let mut items = self.items[..self.count].iter();
-        let numbers = first && (number(self.second) || home) && self.last <= 1;
+        let numbers = first && (number(self.second) || zero) && self.last <= 1;
         numbers && items.all(|i| number(i.row) && i.rights <= 7)
     }
 

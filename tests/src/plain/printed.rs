@@ -36,6 +36,13 @@ impl<'a> Printed<'a> {
         self.bytes(&digits[at..]);
     }
 
+    /// Those that are not 0.
+    fn numbers(&mut self, numbers: &[u32]) {
+        for number in numbers.iter().filter(|number| **number != 0) {
+            self.number(*number);
+        }
+    }
+
     /// The length of the reply.
     fn end(mut self) -> usize {
         self.bytes(b")\n");
@@ -64,10 +71,9 @@ impl<'a> Printed<'a> {
             Answer::Told(yes) => self.number(u32::from(yes)),
             Answer::Fetched(request, items) => {
                 self.number(request);
-                for item in items.into_iter().filter(|item| *item != 0) {
-                    self.number(item);
-                }
+                self.numbers(&items);
             }
+            Answer::Chained(rows) => self.numbers(&rows),
         }
     }
 

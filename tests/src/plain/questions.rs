@@ -1,8 +1,10 @@
-//! Does a row come from a request, is it lent.
+//! Does a row come from a request, is it lent; its first chain.
 
 use super::view::used;
+use crate::call_words::LONGEST_CHAIN;
 use crate::layout::{
-    CLIENT, KIND, Q_ITEMS, Q_NUMBER, REQUEST, REQUESTS, ROWS, SERVER, SOURCE, TABLES_WORDS, VIA,
+    CLIENT, KIND, NUMBER, Q_ITEMS, Q_NUMBER, REQUEST, REQUESTS, ROWS, SERVER, SOURCE, TABLES_WORDS,
+    VIA,
 };
 
 /// Whether the row in the slot comes from the request; no for other lengths and slots.
@@ -48,4 +50,30 @@ pub fn on_loan(words: &[u32; TABLES_WORDS], number: u32) -> bool {
     let open = used(&words[Q_NUMBER..Q_NUMBER + REQUESTS]);
     let mut items = words[Q_ITEMS..Q_ITEMS + 4 * REQUESTS].chunks_exact(REQUESTS);
     items.any(|column| column[..open].contains(&number))
+}
+
+/// Writes the first chain of the row in the slot, and says its length; 0 for other lengths and slots.
+#[inline(never)]
+pub fn first_chain(tables: &[u32], slot: usize, chain: &mut [u32]) -> usize {
+    match (tables.try_into(), chain.first_chunk_mut()) {
+        (Ok(words), Some(chain)) if slot < ROWS => chain_of(words, slot, chain),
+        _ => 0,
+    }
+}
+
+/// From the row back to one of the text, then turned round; a chain is no longer than twelve rows.
+pub fn chain_of(
+    words: &[u32; TABLES_WORDS],
+    slot: usize,
+    chain: &mut [u32; LONGEST_CHAIN],
+) -> usize {
+    let mut length = 0;
+    let mut at = slot + 1;
+    while (1..=ROWS).contains(&at) && length < LONGEST_CHAIN {
+        chain[length] = words[NUMBER + at - 1];
+        length += 1;
+        at = words[SOURCE + at - 1] as usize;
+    }
+    chain[..length].reverse();
+    length
 }

@@ -87,13 +87,14 @@ pub fn any_bytes(rng: &mut Rng) -> Vec<u8> {
 }
 
 /// A call line that has so many bytes before its line feed, by the digits of
-/// a number, of answer its last or not, or by its items.
+/// a number, of answer its last or not, of chain the only one, or by its items.
 fn long_line(rng: &mut Rng, bytes: usize) -> Vec<u8> {
     let (_, word) = rng.pick(&WORDS).expect("a word");
     let (start, end) = match rng.below(8) {
         0..=2 => (format!("(1 {} ", word.text()), ")\n"),
         3 => ("(1 answer 3 ".to_string(), ")\n"),
         4 => ("(1 answer ".to_string(), " 1)\n"),
+        5 => ("(chain ".to_string(), ")\n"),
         _ => (
             "(1 ask 3 (1 1) (2 1) (3 1) (4 1) (5 1) (6 1) (".to_string(),
             " 7))\n",
@@ -237,7 +238,7 @@ pub fn lent_replies(entry: &Entry) {
 /// All conformance cases: what a session prints, what a call answers and leaves.
 pub fn conformance(entry: &Entry) {
     let sessions = conformance_inputs(usize::MAX).expect("the sessions");
-    assert_eq!(sessions.len(), 133);
+    assert_eq!(sessions.len(), 159);
     for (name, input) in sessions {
         let mut lent = (vec![3; TABLES_WORDS], vec![3; PROCESS_WORDS]);
         let mut printed = entry.open(&mut lent, &input);
@@ -253,7 +254,7 @@ pub fn conformance(entry: &Entry) {
         assert!(printed == case_file(&name, "answers"), "{name}");
     }
     let calls = conformance_calls().expect("the tables");
-    assert_eq!(calls.len(), 364);
+    assert_eq!(calls.len(), 404);
     let mut compared = 0;
     for (name, tables, line) in calls {
         let Some(mut lent) = encode(&tables) else {
@@ -265,7 +266,7 @@ pub fn conformance(entry: &Entry) {
         assert!(after.starts_with(&said), "{name}");
         compared += 1;
     }
-    assert_eq!(compared, 357, "tables that fit into words");
+    assert_eq!(compared, 396, "tables that fit into words");
 }
 
 /// The file beside a case with that ending.

@@ -2,11 +2,11 @@
 //! all calls on altered but sound tables, on sound tables that no session made,
 //! full tables.
 
-use super::performed::{Made, Pair, Perform};
+use super::performed::{Made, Pair, Perform, UNSAID};
 use super::refused::Refused;
 use super::tried::calls;
 use super::words;
-use kernel::call_words::{call_words, AnswerWords, ASK, COMES};
+use kernel::call_words::{call_words, said, ASK, CHAIN, CHAINED, COMES, TOLD};
 use kernel::fuller::{with_deep_rows, with_numbers_left, with_requests, with_rows};
 use model::call::{Call, Word};
 use model::compare::full;
@@ -207,9 +207,9 @@ pub fn others_stay(made: Perform) {
         after.0.resize(t, 0);
         after.1.resize(p, 0);
         let before = after.clone();
-        let mut answer: AnswerWords = [9; 6];
+        let mut answer = UNSAID;
         made(&mut after.0, &mut after.1, &call, &mut answer);
-        (after != before, answer != [9; 6])
+        (after != before, answer != UNSAID)
     };
     let (right_t, right_p) = (TABLES_WORDS, PROCESS_WORDS);
     assert_eq!(asked(right_t, right_p, call), (true, true));
@@ -228,12 +228,27 @@ pub fn others_stay(made: Perform) {
             assert_eq!(asked(right_t, right_p, call), (false, false), "{caller}");
         }
     }
-    // comes has no caller, and every code above it is its own
-    for code in [COMES, COMES + 1, u32::MAX] {
-        let (row, request) = (1, tables.requests[0].number);
-        let mut call = [0; 11];
-        call[..3].copy_from_slice(&[code, row, request]);
-        assert_eq!(asked(right_t, right_p, call), (false, true), "code {code}");
-    }
     assert_eq!(ASK, 6);
+}
+
+/// comes and chain have no caller, and every code above chain is its own. Nothing changes.
+pub fn codes_without_caller(made: Perform) {
+    let tables = full::with_requests(3);
+    let lent = words(&tables);
+    let request = tables.requests[0].number;
+    let chain = said(CHAINED, [1, 2, 3]);
+    for (code, expected) in [
+        (COMES, said(TOLD, [0])),
+        (CHAIN, chain),
+        (CHAIN + 1, chain),
+        (u32::MAX, chain),
+    ] {
+        let mut after = lent.clone();
+        let mut answer = UNSAID;
+        let mut call = [0; 11];
+        call[..3].copy_from_slice(&[code, 3, request]);
+        made(&mut after.0, &mut after.1, &call, &mut answer);
+        assert_eq!(answer, expected, "code {code}");
+        assert!(after == lent, "code {code}");
+    }
 }

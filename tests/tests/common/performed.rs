@@ -27,6 +27,9 @@ pub struct Asked<'a> {
     pub answer: Answer,
 }
 
+/// What stands in the words of an answer before the call.
+pub const UNSAID: AnswerWords = [9; 13];
+
 /// A call in words, in place.
 pub type Perform = fn(&mut [u32], &mut [u32], &CallWords, &mut AnswerWords);
 
@@ -37,7 +40,7 @@ impl Made for Perform {
         let Some(call) = call_words(asked.call).filter(|_| read) else {
             return false;
         };
-        let mut said: AnswerWords = [9; 6];
+        let mut said = UNSAID;
         self(&mut lent.0, &mut lent.1, &call, &mut said);
         let expected = answer_words(asked.before, asked.call, &asked.answer);
         assert_eq!(said, expected, "{}", about(asked));

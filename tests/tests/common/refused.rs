@@ -8,7 +8,7 @@ use std::io::Write;
 /// The refusals 7 to 18 that each call has on sound tables (docs/MANUAL.md,
 /// chapter 4), by the name under which it is counted. A register has no 15:
 /// the row itself is at least as deep (rule register-15).
-const HAS: [(&str, &[usize]); 12] = [
+const HAS: [(&str, &[usize]); 13] = [
     ("go", &[7, 8]),
     ("hold", &[7, 9, 12, 15, 16, 18]),
     ("register", &[7, 8, 9, 12, 16, 18]),
@@ -21,6 +21,7 @@ const HAS: [(&str, &[usize]); 12] = [
     ("answer 0", &[7, 8, 11]),
     ("revoke", &[7]),
     ("comes", &[7]),
+    ("chain", &[7]),
 ];
 
 const FIRST: usize = 7;

@@ -11,7 +11,7 @@ use model::Tables;
 const NUMBERS: usize = 60;
 
 /// Every word with the numbers of rows and requests and some others, by the
-/// process that the call fits or by another; and answers, asks and comes.
+/// process that the call fits or by another; and answers, asks, comes and chains.
 pub fn calls(rng: &mut Rng, tables: &Tables) -> Vec<Call> {
     let mut rows: Vec<&Row> = tables.rows.iter().collect();
     rng.shuffle(&mut rows);
@@ -45,6 +45,7 @@ pub fn calls(rng: &mut Rng, tables: &Tables) -> Vec<Call> {
             row: *number,
             request,
         });
+        calls.push(Call::Chain { row: *number });
         calls.push(ask(rng, tables, *number));
     }
     for process in listed(tables) {

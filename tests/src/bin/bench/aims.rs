@@ -72,7 +72,7 @@ const FULL: fn(usize) -> bool = |rows| rows == 1024;
 const SMALL: fn(usize) -> bool = |rows| (8..=10).contains(&rows);
 const LARGE: fn(usize) -> bool = |rows| rows >= 98;
 
-const AIMS: [Aim; 23] = [
+const AIMS: [Aim; 24] = [
     aim(
         "sound of full tables: at most half of 243,662 instructions",
         Layer::Rows,
@@ -101,6 +101,14 @@ const AIMS: [Aim; 23] = [
         "comes: at most 1.2 of plain Rust",
         Layer::Rows,
         "comes",
+        ANY,
+        Measure::Ratio,
+        1.2,
+    ),
+    aim(
+        "chain: at most 1.2 of plain Rust",
+        Layer::Rows,
+        "chain",
         ANY,
         Measure::Ratio,
         1.2,

@@ -3,7 +3,8 @@
 
 use kernel::fuller::{with_numbers_left, with_requests, with_rows};
 use kernel::plain::closing_tables::{call, opened};
-use model::limits::REQUESTS;
+use model::limits::{LAST_NUMBER, REQUESTS};
+use model::random::shifted::near_limit;
 use model::Tables;
 
 pub struct Case {
@@ -73,10 +74,30 @@ const LENT_ON: Start = Start {
     calls: &[&["(1 hold 1)"], LEND, LEND_ON],
 };
 
-/// The call's name, answer's with its last number, the start, the line, its refusal or 0, and the rows that it adds.
+/// Rows registered each from the one before, the last held: row 23, the twelfth of its first chain;
+/// and an operation held beside them.
+const LINE: Start = Start {
+    opening: ONE_NODE,
+    calls: &[
+        &["(1 hold 1)", "(1 register 3)", "(1 drop 3)"],
+        &["(1 hold 4)", "(1 register 5)", "(1 drop 5)"],
+        &["(1 hold 6)", "(1 register 7)", "(1 drop 7)"],
+        &["(1 hold 8)", "(1 register 9)", "(1 drop 9)"],
+        &["(1 hold 10)", "(1 register 11)", "(1 drop 11)"],
+        &["(1 hold 12)", "(1 register 13)", "(1 drop 13)"],
+        &["(1 hold 14)", "(1 register 15)", "(1 drop 15)"],
+        &["(1 hold 16)", "(1 register 17)", "(1 drop 17)"],
+        &["(1 hold 18)", "(1 register 19)", "(1 drop 19)"],
+        &["(1 hold 20)", "(1 register 21)", "(1 drop 21)"],
+        &["(1 hold 22)", "(1 hold 1)"],
+    ],
+};
+
+/// The call's name, answer's with its last number, chain's with the depth of its row, the start, the
+/// line, its refusal or 0, and the rows that it adds.
 type Measured = (&'static str, &'static Start, &'static str, u32, usize);
 
-const CASES: [Measured; 24] = [
+const CASES: [Measured; 27] = [
     ("go", &DIRECTORIES, "(1 go 5)", 0, 0),
     ("go", &DIRECTORIES, "(1 go 4)", 8, 0),
     ("hold", &IN_NODE, "(1 hold 3)", 0, 1),
@@ -101,13 +122,18 @@ const CASES: [Measured; 24] = [
     ("revoke", &FETCHED, "(2 revoke 9)", 7, 0),
     ("comes", &FETCHED, "(comes 10 9)", 0, 0),
     ("comes", &FETCHED, "(comes 10 8)", 7, 0),
+    ("chain, depth 12", &LINE, "(chain 23)", 0, 0),
+    ("chain, depth 1", &FETCHED, "(chain 1)", 0, 0),
+    ("chain", &FETCHED, "(chain 9)", 7, 0),
 ];
 
-/// All cases at so many rows.
+/// All cases at so many rows, but those that begin with more.
 pub fn cases(rows: usize) -> impl Iterator<Item = Case> {
     let requests = requests_beside(rows);
+    let fits = move |(_, start, _, _, adds): &&Measured| begun(start).rows.len() + adds <= rows;
     CASES
         .iter()
+        .filter(fits)
         .map(move |measured| built(measured, rows, requests))
 }
 
@@ -156,8 +182,20 @@ fn built(&(call, start, line, refusal, adds): &Measured, rows: usize, requests: 
     }
 }
 
-/// A fetch whose answer is the longest: a request and four copies, the last with the last number.
-pub fn longest_answer() -> Case {
+/// The longest answer of fetch, a request and four copies, and that of chain, twelve rows; the last
+/// number is among them.
+pub fn longest_answers() -> [Case; 2] {
+    let chain = Case {
+        name: "chain, its longest answer".to_string(),
+        tables: near_limit(&begun(&LINE), 0),
+        line: format!("(chain {})\n", LAST_NUMBER - 1),
+        refusal: 0,
+    };
+    assert_eq!(refusal(&chain), 0, "{}", chain.line);
+    [longest_fetch(), chain]
+}
+
+fn longest_fetch() -> Case {
     let mut tables = begun(&PORTS);
     for line in ["(1 hold 1)", "(1 hold 1)"] {
         call(&mut tables, line);
@@ -165,7 +203,7 @@ pub fn longest_answer() -> Case {
     tables = with_numbers_left(tables, 5);
     call(&mut tables, "(1 ask 5 (3 7) (4 7) (9 7) (10 7))");
     Case {
-        name: "fetch, the longest answer".to_string(),
+        name: "fetch, its longest answer".to_string(),
         tables,
         line: "(2 fetch 6)\n".to_string(),
         refusal: 0,

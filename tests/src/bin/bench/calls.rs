@@ -5,9 +5,10 @@ use crate::closings::closing_reads;
 use crate::measure::{Layer, Measured};
 use crate::on_runs::{measure, On};
 use crate::tables::SIZES;
-use kernel::call_words::{call_words, AnswerWords};
+use kernel::call_words::{call_words, said, DONE};
 use kernel::{performing, plain};
 use model::call::{read_call, Call};
+use model::relations::first_chain;
 use std::hint::black_box as hidden;
 
 pub fn on_calls(by: &mut dyn Measured) {
@@ -28,7 +29,7 @@ fn called(by: &mut dyn Measured, case: &Case) {
         tables: &case.tables,
         reads: reads(case, &call),
     };
-    let answer: AnswerWords = [0; 6];
+    let answer = said(DONE, []);
     let proved = |t: &mut [u32], p: &mut [u32]| {
         let mut answer = answer;
         performing::perform(t, p, hidden(&words), &mut answer);
@@ -42,17 +43,18 @@ fn called(by: &mut dyn Measured, case: &Case) {
     measure(by, on, proved, plain);
 }
 
-/// At the least: a search by halves for each row named, and its words; for a
-/// drop both sources of each newer row; for one that closes, what closing reads.
+/// At the least: a search by halves for each row named, and its words; for a chain number and first
+/// source of each row in it; for a drop both sources of each newer row; for one that closes, what
+/// closing reads.
 fn reads(case: &Case, call: &Call) -> usize {
     let searches = 1 + call.items().len();
     let steps = usize::BITS - case.tables.rows.len().leading_zeros();
     let searched = 4 * searches * (steps as usize + 5);
     let closes = ["close", "answer 1", "answer 0", "revoke", "drop"].contains(&case.name.as_str());
-    let sources = if case.name.starts_with("drop") {
-        8 * case.tables.rows.len()
-    } else {
-        0
+    let sources = match call {
+        Call::Chain { row } => 8 * first_chain(&case.tables, *row).len(),
+        _ if case.name.starts_with("drop") => 8 * case.tables.rows.len(),
+        _ => 0,
     };
     searched
         + sources

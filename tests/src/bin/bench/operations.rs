@@ -3,6 +3,7 @@
 use crate::measure::{About, Both, Layer, Measured, Operation};
 use crate::removals::{self, Marks};
 use crate::tables::Benched;
+use kernel::call_words::LONGEST_CHAIN;
 use kernel::layout::{DEPTH, KIND, LAST_NUMBER, Q_NUMBER, REQUEST, REQUESTS, ROWS, SOURCE, VIA};
 use kernel::{changing, plain, reading};
 use std::hint::black_box as hidden;
@@ -30,6 +31,9 @@ pub fn on_tables(b: &Benched, by: &mut dyn Measured) {
     look_up_request(b, by);
     for slot in [b.first, b.line, b.loan] {
         comes(b, by, slot);
+    }
+    for slot in [b.first, b.line, b.loan] {
+        chain(b, by, slot);
     }
     for slot in [b.first, b.line, b.end] {
         lent(b, by, slot);
@@ -143,6 +147,34 @@ fn comes(b: &Benched, by: &mut dyn Measured, slot: usize) {
     let proved = || reading::comes(hidden(t), hidden(slot), hidden(none));
     let plain = || plain::questions::comes(hidden(t), hidden(slot), hidden(none));
     by.measure(about, &mut Reads(proved, plain));
+}
+
+fn chain(b: &Benched, by: &mut dyn Measured, slot: usize) {
+    let t = b.words.as_slice();
+    let proved = || chained(reading::first_chain, hidden(t), hidden(slot));
+    let plain = || chained(plain::questions::first_chain, hidden(t), hidden(slot));
+    let (chain, length) = proved();
+    assert_eq!(chain[length - 1], t[slot]);
+    assert_eq!((chain, length), plain());
+    let about = About {
+        layer: Layer::Rows,
+        size: b.size(),
+        name: format!("chain, {}", row(t, slot)),
+        bytes: 8 * length,
+        calls: 300,
+    };
+    by.measure(about, &mut Reads(proved, plain));
+}
+
+/// The first chain of the row in a slot, and its length.
+fn chained(
+    question: impl Fn(&[u32], usize, &mut [u32]) -> usize,
+    t: &[u32],
+    slot: usize,
+) -> ([u32; LONGEST_CHAIN], usize) {
+    let mut chain = [0; LONGEST_CHAIN];
+    let length = question(t, slot, &mut chain);
+    (chain, length)
 }
 
 /// Of a row that is not lent, so that the question goes to the end.

@@ -1,7 +1,7 @@
 //! Whole calls, bytes to bytes: the calls, openings, the parts of a call, and
 //! how a call grows with rows and with requests.
 
-use crate::call_cases::{accepted, cases, longest_answer, requests_beside, Case};
+use crate::call_cases::{accepted, cases, longest_answers, Case};
 use crate::measure::{Layer, Measured};
 use crate::on_runs::{measure, On};
 use crate::tables::SIZES;
@@ -13,6 +13,9 @@ use std::hint::black_box as hidden;
 
 /// The bytes of both runs, each of which decides whether the tables are sound.
 const RUNS: usize = 4 * (TABLES_WORDS + PROCESS_WORDS);
+
+/// The calls whose parts are told.
+const PARTS: [&str; 5] = ["hold", "ask", "answer 1", "comes", "chain, depth 12"];
 
 /// The reply of an entry point, with its length.
 type Reply = ([u8; REPLY_BYTES], usize);
@@ -29,8 +32,9 @@ pub fn on_whole_calls(by: &mut dyn Measured) {
             called(by, Layer::Whole, &case, &case.line);
         }
     }
-    let longest = longest_answer();
-    called(by, Layer::Whole, &longest, &longest.line);
+    for case in longest_answers() {
+        called(by, Layer::Whole, &case, &case.line);
+    }
     let smallest = b"(node 1 (op 1 0 7))\n(process 1 1)\n(open)\n";
     opening(by, "one node and one process", smallest);
     opening(by, "the largest text", &largest_text());
@@ -41,8 +45,9 @@ pub fn on_whole_calls(by: &mut dyn Measured) {
         grown(by, 1024, requests);
     }
     for rows in SIZES {
-        for name in ["hold", "ask", "answer 1", "comes"] {
-            parts(by, &accepted(name, rows, requests_beside(rows)));
+        let named = |case: &Case| PARTS.contains(&case.name.as_str());
+        for case in cases(rows).filter(named) {
+            parts(by, &case);
         }
     }
 }
@@ -116,10 +121,14 @@ fn parts(by: &mut dyn Measured, case: &Case) {
     }
 }
 
-/// The line with process 64 for its caller; comes has none, so its row is one that does not stand.
+/// The line with process 64 for its caller; comes and chain have none, so their row is one that does
+/// not stand.
 fn unlisted(case: &Case) -> String {
-    match case.line.strip_prefix("(comes 10") {
-        Some(rest) => format!("(comes {}{rest}", case.tables.next),
-        None => format!("(64{}", &case.line[2..]),
+    for word in ["(comes ", "(chain "] {
+        if let Some(numbers) = case.line.strip_prefix(word) {
+            let rest = numbers.trim_start_matches(|c: char| c.is_ascii_digit());
+            return format!("{word}{}{rest}", case.tables.next);
+        }
     }
+    format!("(64{}", &case.line[2..])
 }

@@ -1,8 +1,9 @@
-//! The end of a loan: answer, revoke; and comes.
+//! The end of a loan: answer, revoke; and the questions comes and chain.
 
 use super::questions;
 use super::state::State;
 use super::{Answer, Outcome};
+use crate::call_words::LONGEST_CHAIN;
 use crate::layout::{
     C_LIST, ITEMS, KIND, OBJECT, PLACE, Q_ASKER, Q_FETCHED, Q_ITEMS, Q_NUMBER, REQUESTS, SERVER,
 };
@@ -76,5 +77,12 @@ impl State<'_> {
         let slot = self.find(e).ok_or(7u32)?;
         self.find_request(q).ok_or(7u32)?;
         Ok(Answer::Told(questions::comes(&self.t[..], slot, q)))
+    }
+
+    pub fn chain(&self, e: u32) -> Outcome {
+        let slot = self.find(e).ok_or(7u32)?;
+        let mut rows = [0; LONGEST_CHAIN];
+        questions::chain_of(self.t, slot, &mut rows);
+        Ok(Answer::Chained(rows))
     }
 }

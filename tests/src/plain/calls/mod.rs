@@ -1,4 +1,4 @@
-//! The eleven calls in plain Rust, in place over the words of sound tables.
+//! The twelve calls in plain Rust, in place over the words of sound tables.
 
 mod directories;
 mod ends;
@@ -7,7 +7,9 @@ mod ports;
 mod state;
 
 use super::questions;
-use crate::call_words::{AnswerWords, CallWords, COMES, DONE, FETCHED, MADE, REFUSED, TOLD};
+use crate::call_words::{
+    said, AnswerWords, CallWords, CHAINED, COMES, DONE, FETCHED, LONGEST_CHAIN, MADE, REFUSED, TOLD,
+};
 use crate::layout::{ITEMS, PROCESS_WORDS, TABLES_WORDS};
 use state::State;
 
@@ -23,7 +25,7 @@ pub struct Item {
 }
 
 /// A call: the caller, then the number it is about, and of answer whether its last number is 1;
-/// comes has no caller.
+/// comes and chain have no caller.
 #[derive(Clone, Copy)]
 pub enum Call {
     Go(u32, u32),
@@ -37,6 +39,7 @@ pub enum Call {
     Answer(u32, u32, bool),
     Revoke(u32, u32),
     Comes(u32, u32),
+    Chain(u32),
 }
 
 pub enum Answer {
@@ -45,6 +48,8 @@ pub enum Answer {
     /// The request, and its items, 0 for one that is not listed.
     Fetched(u32, [u32; ITEMS]),
     Told(bool),
+    /// The rows of a chain, 0 after them.
+    Chained([u32; LONGEST_CHAIN]),
 }
 
 /// The answer, or the refusal's number.
@@ -78,6 +83,7 @@ pub fn made(t: &mut Words, p: &mut Records, call: &Call) -> Outcome {
         Call::Answer(p, v, served) => state.answer(p, v, served),
         Call::Revoke(p, q) => state.revoke(p, q),
         Call::Comes(e, q) => state.comes(e, q),
+        Call::Chain(e) => state.chain(e),
     }
 }
 
@@ -100,16 +106,18 @@ fn call_of(words: &CallWords) -> Call {
         7 => Call::Fetch(p, e),
         8 => Call::Answer(p, e, last == 1),
         9 => Call::Revoke(p, e),
-        _ => Call::Comes(p, e),
+        COMES => Call::Comes(p, e),
+        _ => Call::Chain(p),
     }
 }
 
 fn answer_words(outcome: &Outcome) -> AnswerWords {
     match *outcome {
-        Ok(Answer::Done) => [DONE, 0, 0, 0, 0, 0],
-        Ok(Answer::Made(number)) => [MADE, number, 0, 0, 0, 0],
-        Ok(Answer::Fetched(request, [a, b, c, d])) => [FETCHED, request, a, b, c, d],
-        Ok(Answer::Told(yes)) => [TOLD, u32::from(yes), 0, 0, 0, 0],
-        Err(refusal) => [REFUSED, refusal, 0, 0, 0, 0],
+        Ok(Answer::Done) => said(DONE, []),
+        Ok(Answer::Made(number)) => said(MADE, [number]),
+        Ok(Answer::Fetched(request, [a, b, c, d])) => said(FETCHED, [request, a, b, c, d]),
+        Ok(Answer::Told(yes)) => said(TOLD, [u32::from(yes)]),
+        Ok(Answer::Chained(rows)) => said(CHAINED, rows),
+        Err(refusal) => said(REFUSED, [refusal]),
     }
 }
