@@ -89,12 +89,12 @@ static void calls(void) {
 }
 
 /* every call, answer with 1 and with 0, so that the stack of each is seen */
-static void eleven(void) {
+static void twelve(void) {
     static const char *const lines[] = {
         "(1 hold 1)\n",      "(1 port 2)\n",  "(1 ask 3 (2 7))\n", "(1 fetch 4)\n",    "(1 port 6)\n",
         "(comes 7 5)\n",     "(1 revoke 5)\n", "(1 port 2)\n",      "(1 ask 9)\n",      "(1 fetch 10)\n",
         "(1 answer 10 1)\n", "(1 ask 9)\n",   "(1 answer 10 0)\n", "(1 close 9)\n",    "(1 go 0)\n",
-        "(1 register 2)\n",  "(1 hold 1)\n",  "(1 drop 14)\n",
+        "(1 register 2)\n",  "(1 hold 1)\n",  "(1 drop 14)\n",     "(chain 13)\n",
     };
     const char *text = "(node 1 (op 1 0 7))\n(process 1 1)\n(open)\n";
     open_text(TABLET_TABLES_WORDS, TABLET_PROCESSES_WORDS, text, 256);
@@ -104,8 +104,8 @@ static void eleven(void) {
     }
 }
 
-/* the longest answer, whose printing takes the most stack: it has the last number */
-static void longest(void) {
+/* a fetch of five numbers of ten digits, the last number among them */
+static void last_number(void) {
     static const char *const lines[] = {
         "(1 hold 1)\n",
         "(1 hold 1)\n",
@@ -119,10 +119,35 @@ static void longest(void) {
     tables[t - 1] = 4294967284; /* the next number */
     for (size_t i = 0; i < sizeof lines / sizeof *lines; i++)
         call(t, p, lines[i], 256);
-    check("the longest answer", answered(call(t, p, "(1 fetch 4294967289)\n", 256),
-                                         "(ok 4294967290 4294967291 4294967292 4294967293 4294967294)\n"));
+    check("the longest fetch", answered(call(t, p, "(1 fetch 4294967289)\n", 256),
+                                        "(ok 4294967290 4294967291 4294967292 4294967293 4294967294)\n"));
     check("no number is left", answered(call(t, p, "(1 hold 1)\n", 256), "(no 18)\n") && unchanged());
     check("a number above the last", answered(call(t, p, "(1 hold 4294967295)\n", 256), "(no 3)\n") && unchanged());
+}
+
+/* the longest answer: a chain of twelve numbers of ten digits, made by registering again and again what was held; the
+ * row of the text gets a number of ten digits too */
+static void longest(void) {
+    const size_t t = TABLET_TABLES_WORDS, p = TABLET_PROCESSES_WORDS;
+    unsigned long row = 4294967272;
+    char line[32], chain[TABLET_REPLY_BYTES];
+    open_text(t, p, "(node 1 (op 1 0 7))\n(process 1 1)\n(open)\n", 256);
+    tables[0] = row;         /* the number of the first row */
+    tables[t - 1] = row + 1; /* the next number */
+    int end = sprintf(chain, "(ok %lu", row);
+    for (int i = 1; i < 12; i++) {
+        sprintf(line, "(1 hold %lu)\n", row);
+        call(t, p, line, 256);
+        sprintf(line, "(1 register %lu)\n", row + 1);
+        call(t, p, line, 256);
+        row += 2;
+        end += sprintf(chain + end, " %lu", row);
+    }
+    sprintf(chain + end, ")\n");
+    sprintf(line, "(chain %lu)\n", row);
+    check("the longest answer", answered(call(t, p, line, 256), chain) && unchanged());
+    check("has 137 bytes", strlen(chain) == 137);
+    check("a chain of no row", answered(call(t, p, "(chain 1)\n", 256), "(no 7)\n") && unchanged());
 }
 
 /* a stack of its own, filled with a pattern, shows how much of it was used */
@@ -132,7 +157,8 @@ static ucontext_t here, there;
 static void on_that_stack(void) {
     openings();
     calls();
-    eleven();
+    twelve();
+    last_number();
     longest();
 }
 

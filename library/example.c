@@ -22,6 +22,7 @@ static const char *const lines[] = {
     "(1 ask 5 (4 3))\n", /* lends row 4 with rights 3: request 7, copy 8 */
     "(2 fetch 6)\n",     /* process 2 takes the request and the copy */
     "(2 port 8)\n",      /* and makes a port of its own with it */
+    "(chain 9)\n",       /* how row 9, the client end of that port, came to be: text, held, lent, made */
     "(1 revoke 7)\n",    /* process 1 takes the loan back, and all that came from it */
     "(2 ask 9)\n",       /* the port of process 2 went with the loan */
 };

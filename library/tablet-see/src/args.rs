@@ -25,7 +25,7 @@ pub enum Form {
 pub struct Focus {
     /// What comes from this request is marked.
     pub request: Option<u32>,
-    /// Only what this row comes from and what comes from it.
+    /// Only what this row comes from and what comes from it; its first chain is marked if no request is.
     pub row: Option<u32>,
 }
 

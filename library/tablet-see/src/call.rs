@@ -56,6 +56,9 @@ pub enum Call {
         row: Number,
         request: Number,
     },
+    Chain {
+        row: Number,
+    },
 }
 
 /// (rules F1, F2, F3) The call on a line, or where and why it is none.
@@ -66,6 +69,10 @@ pub fn read_call(line: &[u8]) -> Result<Call, BadForm> {
             let [row, request] =
                 numbers(rest, line, "comes wants a row and a request: (comes e q)")?;
             Ok(Call::Comes { row, request })
+        }
+        [Part::Word(word, _), rest @ ..] if word == "chain" => {
+            let [row] = numbers(rest, line, "chain wants a row: (chain e)")?;
+            Ok(Call::Chain { row })
         }
         [Part::Number(caller), Part::Word(word, _), rest @ ..] if word == "ask" => {
             ask(*caller, rest, line)
@@ -101,7 +108,7 @@ fn no_front(parts: &[Part], line: &[u8]) -> BadForm {
             span.from,
             span.to,
             "F3",
-            "a call begins with the caller's number, only comes does not",
+            "a call begins with the caller's number, only comes and chain do not",
         ),
         [Part::Form(_, span), ..] | [_, Part::Form(_, span), ..] => bad(
             span.from,
@@ -121,6 +128,7 @@ fn no_front(parts: &[Part], line: &[u8]) -> BadForm {
 fn no_call(word: &str, span: Span) -> BadForm {
     let why = match word {
         "comes" => "comes has no caller: (comes e q)".to_string(),
+        "chain" => "chain has no caller: (chain e)".to_string(),
         _ => format!("'{word}' is no call"),
     };
     bad(span.from, span.to, "F3", why)
@@ -192,13 +200,13 @@ pub fn misfit(part: Option<&Part>, line: &[u8], why: &str) -> BadForm {
 }
 
 impl Call {
-    /// None for `(comes e q)`.
+    /// None for `(comes e q)` and `(chain e)`.
     pub fn caller(&self) -> Option<Number> {
         match self {
             Call::One { caller, .. } | Call::Ask { caller, .. } | Call::Answer { caller, .. } => {
                 Some(*caller)
             }
-            Call::Comes { .. } => None,
+            Call::Comes { .. } | Call::Chain { .. } => None,
         }
     }
 }

@@ -106,6 +106,7 @@ fn out_of_range(call: &Call) -> Option<Ground> {
         Call::Comes { row, request } => {
             number(*row, "a row").or_else(|| number(*request, "a request"))
         }
+        Call::Chain { row } => number(*row, "a row"),
     }
 }
 
@@ -197,5 +198,6 @@ fn in_state(state: &State, call: &Call) -> Option<Ground> {
             grounds_ask::answer(state, caller.value, end.value, last.value == 1)
         }
         Call::Comes { row, request } => grounds_ask::comes(state, row.value, request.value),
+        Call::Chain { row } => grounds_one::chain(state, row.value),
     }
 }

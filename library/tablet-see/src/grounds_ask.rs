@@ -28,7 +28,7 @@ pub fn ask(state: &State, p: u32, c: u32, items: &[(u32, u32)]) -> Option<Ground
         .or_else(|| {
             copied
                 .iter()
-                .find_map(|r| right(r, TRANSFER, "transfer", "ask-9a"))
+                .find_map(|r| right(state, r, TRANSFER, "transfer", "ask-9a"))
         })
         .or_else(|| items.iter().find_map(|(r, lent)| more_rights(r, *lent)))
         .or_else(|| ask_busy(state, c, &items))

@@ -1,8 +1,8 @@
 //! The refusals 7 to 18 of the calls about rows and ports, in the order of chapter 4 of the manual.
 
 use crate::ground::{of_state, Ground};
-use crate::relations::{listing, request_on, Reasons};
-use crate::wording::{at, numbers, rights, short};
+use crate::relations::{first_chain, listing, request_on, Reasons};
+use crate::wording::{at, lent, numbers, rights, short};
 use tablet::layout::{LAST_NUMBER, REQUESTS, ROWS};
 use tablet::{Kind, Place, Row, State};
 
@@ -63,16 +63,41 @@ pub fn kind(row: &Row, wanted: &[Kind], rule: &'static str, wants: &str) -> Opti
 }
 
 /// 9: the row lacks a right.
-pub fn right(row: &Row, wanted: u32, name: &str, rule: &'static str) -> Option<Ground> {
+pub fn right(
+    state: &State,
+    row: &Row,
+    wanted: u32,
+    name: &str,
+    rule: &'static str,
+) -> Option<Ground> {
     if row.rights & wanted != 0 {
         return None;
     }
     let text = format!(
-        "row {} has {}, without {name}",
+        "row {} has {}, without {name}{}",
         row.number,
-        rights(row.rights)
+        rights(row.rights),
+        lost(state, row, wanted)
     );
     of_state(9, rule, row.number, text)
+}
+
+/// (rules P14, P31) Where its first chain lost a right: in the text, or where a row was lent.
+fn lost(state: &State, row: &Row, wanted: u32) -> String {
+    let chain = first_chain(state, row.number);
+    let Some(first) = chain.into_iter().find(|r| r.rights & wanted == 0) else {
+        return String::new();
+    };
+    let which = match first.number == row.number {
+        true => "it".to_string(),
+        false => format!("row {}", first.number),
+    };
+    match (first.bears, first.sources[0]) {
+        (0, 0) => format!(": so {which} stands in the text"),
+        // of tables that no session made
+        (0, _) => String::new(),
+        _ => format!(": so {which} was {}", lent(state, first)),
+    }
 }
 
 /// 15: a row with these sources would have depth 13.
@@ -129,20 +154,23 @@ pub fn numbers_left(state: &State, wanted: usize, rule: &'static str) -> Option<
 fn lent_words(state: &State, row: &Row) -> Option<String> {
     let reasons = Reasons::lent(state);
     let (chain, request) = (reasons.chain(row.number), reasons.request(row.number)?);
-    let last = chain.last().and_then(|n| state.row(*n));
-    let how = match last {
-        Some(end) if end.is_end() => format!("is on loan in request {request}"),
-        _ => format!("is a copy lent by request {request}"),
+    let (last, between) = (state.row(*chain.last()?)?, chain.get(1..)?);
+    let how = match last.is_end() {
+        true => format!("is on loan in request {request}"),
+        false => format!(
+            "is a copy of row {}, {}",
+            last.sources[0],
+            lent(state, last)
+        ),
     };
-    match chain.as_slice() {
-        [_] => Some(format!("row {} {how}", row.number)),
-        [_, between @ ..] => Some(format!(
+    match between {
+        [] => Some(format!("row {} {how}", row.number)),
+        _ => Some(format!(
             "row {} comes from row {}, and row {} {how}",
             row.number,
             numbers(between),
-            chain.last().copied().unwrap_or_default()
+            last.number
         )),
-        [] => None,
     }
 }
 
@@ -173,7 +201,7 @@ pub fn hold(state: &State, p: u32, s: u32) -> Option<Ground> {
         return of_state(7, "hold-7", s, text);
     };
     let through = state.row(record.through);
-    right(row, HOLD, "hold", "hold-9")
+    right(state, row, HOLD, "hold", "hold-9")
         .or_else(|| {
             let through = through.filter(|_| row.kind == Kind::Subdirectory)?;
             let lent = lent_words(state, through)?;
@@ -195,7 +223,7 @@ pub fn register(state: &State, p: u32, e: u32) -> Option<Ground> {
     }
     let row = state.row(e)?;
     not_an_end(row, "register-8")
-        .or_else(|| right(row, REGISTER, "register", "register-9"))
+        .or_else(|| right(state, row, REGISTER, "register", "register-9"))
         .or_else(|| {
             let lent = lent_words(state, row)?;
             of_state(12, "register-12", e, format!("row {e} is lent: {lent}"))
@@ -255,6 +283,14 @@ pub fn close(state: &State, p: u32, c: u32) -> Option<Ground> {
             );
             of_state(12, "close-12", oldest, text)
         })
+}
+
+/// (rule chain-7)
+pub fn chain(state: &State, e: u32) -> Option<Ground> {
+    match state.row(e) {
+        None => of_state(7, "chain-7", e, no_row(state, e)),
+        Some(_) => None,
+    }
 }
 
 /// The request that makes a port busy.

@@ -2,8 +2,7 @@
 
 use crate::json::Json;
 use crate::relations::{listing, request_on, View};
-use crate::told::lent;
-use crate::wording::{asked, at, numbers, thing};
+use crate::wording::{asked, at, lent, numbers, thing};
 use tablet::{Kind, Place, Request, Row};
 
 /// What to list.

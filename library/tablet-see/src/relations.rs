@@ -1,4 +1,4 @@
-//! Comes from, on loan and lent, read from a state.
+//! Comes from, on loan, lent and the first chain of a row, read from a state.
 
 use std::collections::{BTreeMap, BTreeSet};
 use tablet::{Request, Row, State};
@@ -87,6 +87,14 @@ impl std::ops::Deref for View<'_> {
     fn deref(&self) -> &State {
         self.state
     }
+}
+
+/// (rule R15) The rows from one of the text to this one, each the first source of the next.
+pub fn first_chain(state: &State, row: u32) -> Vec<&Row> {
+    let sources = std::iter::successors(state.row(row), |r| state.row(r.sources[0]));
+    let mut chain: Vec<&Row> = sources.collect();
+    chain.reverse();
+    chain
 }
 
 /// A row, the rows that it comes from and the rows that come from it.

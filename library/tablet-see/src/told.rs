@@ -19,6 +19,7 @@ pub fn told(step: &Step, gone: &Gone) -> Vec<String> {
             Ok(Call::Comes { row, request }) => {
                 vec![comes(&step.before, row.value, request.value, numbers)]
             }
+            Ok(Call::Chain { .. }) => chain(&step.before, numbers),
             _ => accepted(step),
         },
     };
@@ -65,6 +66,16 @@ fn comes(state: &State, row: u32, request: u32, numbers: &[u32]) -> String {
         ([1], _) => format!("row {row} comes from request {request}"),
         _ => format!("row {row} does not come from request {request}; nothing is changed"),
     }
+}
+
+/// How each row that was answered came to be.
+fn chain(state: &State, numbers: &[u32]) -> Vec<String> {
+    let rows = numbers.iter().filter_map(|n| state.row(*n));
+    let told = rows.map(|row| {
+        let (at, thing, origin) = (at(row.place), thing(row), origin(state, row));
+        format!("row {}, {at}: {thing}, {origin}", row.number)
+    });
+    told.collect()
 }
 
 /// `row 9, that from row 8`
@@ -176,13 +187,10 @@ fn answered(step: &Step, port: u32) -> Option<String> {
 /// A new row; a server end is told with its client end.
 fn made(state: &State, row: &Row) -> Option<String> {
     let n = row.number;
-    let [first, second] = row.sources;
-    let thing = thing(row);
+    let first = row.sources[0];
+    let (thing, origin) = (thing(row), origin(state, row));
     if row.bears != 0 {
-        return Some(format!(
-            "row {n}: {thing}, {}; a copy of row {first}",
-            lent(state, row)
-        ));
+        return Some(format!("row {n}: {thing}, {origin}"));
     }
     match (row.kind, row.place) {
         (Kind::Server, _) => None,
@@ -198,38 +206,8 @@ fn made(state: &State, row: &Row) -> Option<String> {
         (_, Place::Node(node)) => Some(format!(
             "row {n} is registered in node {node}: {thing}; its source is row {first}"
         )),
-        (_, place) => {
-            let through = if second == 0 {
-                String::new()
-            } else {
-                format!(", through row {second}")
-            };
-            Some(format!(
-                "row {n} {}: {thing}, held from row {first}{through}",
-                at(place)
-            ))
-        }
+        (_, place) => Some(format!("row {n} {}: {thing}, {origin}", at(place))),
     }
-}
-
-/// `lent by 1 to 2 in request 7`
-pub fn lent(state: &State, row: &Row) -> String {
-    let Some(q) = state.request(row.bears) else {
-        return format!("lent in request {}", row.bears);
-    };
-    let to = match row.place {
-        Place::CList(p) => format!("process {p}"),
-        _ => server_of(state, q.port),
-    };
-    let waits = if q.fetched == 0 {
-        ", not fetched yet"
-    } else {
-        ""
-    };
-    format!(
-        "lent by process {} to {to} in request {}{waits}",
-        q.asker, q.number
-    )
 }
 
 /// A row that moved, or came back since a request was closed.

@@ -87,6 +87,40 @@ pub fn server_of(state: &State, port: u32) -> String {
     }
 }
 
+/// `lent by process 1 to process 2 in request 7`
+pub fn lent(state: &State, row: &Row) -> String {
+    let Some(q) = state.request(row.bears) else {
+        return format!("lent in request {}", row.bears);
+    };
+    let to = match row.place {
+        Place::CList(p) => format!("process {p}"),
+        _ => server_of(state, q.port),
+    };
+    let waits = if q.fetched == 0 {
+        ", not fetched yet"
+    } else {
+        ""
+    };
+    format!(
+        "lent by process {} to {to} in request {}{waits}",
+        q.asker, q.number
+    )
+}
+
+/// (rules R6, R7, R8, R9, R10) How a row came to be: `held from row 4, through row 8`.
+pub fn origin(state: &State, row: &Row) -> String {
+    match (row.sources, row.place) {
+        ([0, _], _) => "of the text".to_string(),
+        ([first, _], _) if row.bears != 0 => {
+            format!("{}; a copy of row {first}", lent(state, row))
+        }
+        ([first, _], _) if row.is_end() => format!("made from row {first}"),
+        ([first, _], Place::Node(_)) => format!("registered; its source is row {first}"),
+        ([first, 0], _) => format!("held from row {first}"),
+        ([first, second], _) => format!("held from row {first}, through row {second}"),
+    }
+}
+
 /// `4, 5 and 8`
 pub fn numbers(numbers: &[u32]) -> String {
     let words: Vec<String> = numbers.iter().map(u32::to_string).collect();

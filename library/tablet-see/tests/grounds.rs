@@ -49,6 +49,7 @@ fn candidates(t: &Tables, call: &Call) -> Vec<Candidate> {
         }
         Call::Answer { end, last, .. } => answer(t, *end, *last),
         Call::Comes { row, request } => vec![("comes-7a", *row), ("comes-7b", *request)],
+        Call::Chain { row } => vec![("chain-7", *row)],
     }
 }
 
@@ -152,7 +153,7 @@ fn holds(t: &Tables, call: &Call, (rule, n): Candidate) -> bool {
         Call::One { number, .. } => *number,
         Call::Ask { client, .. } => *client,
         Call::Answer { end, .. } => *end,
-        Call::Comes { row, .. } => *row,
+        Call::Comes { row, .. } | Call::Chain { row } => *row,
     };
     let deep = |r: u32| t.row(r).is_some_and(|r| r.depth >= 12);
     let busy = row
@@ -165,7 +166,7 @@ fn holds(t: &Tables, call: &Call, (rule, n): Candidate) -> bool {
             .is_some_and(|a| row.is_some_and(|r| r.place == Place::Node(a.active))),
         "revoke-7a" | "comes-7b" => t.request(n).is_none(),
         "revoke-7b" => t.request(n).is_some_and(|q| q.asker != p),
-        "comes-7a" => row.is_none(),
+        "comes-7a" | "chain-7" => row.is_none(),
         "go-7" => n != 0 && !with_caller,
         _ if number(rule) == 7 => !with_caller,
         "go-8" => n != 0 && !is(Kind::Subdirectory),
@@ -342,7 +343,7 @@ fn grounds_in_the_manual() {
     let all = model::manual::read().expect("the manual");
     for call in [
         "go", "hold", "register", "drop", "port", "close", "ask", "fetch", "answer", "revoke",
-        "comes",
+        "comes", "chain",
     ] {
         let rules = all
             .lines()

@@ -1,5 +1,7 @@
 //! Tables whose numbers are the last, of ten digits: they are listed, explained and drawn as others are.
 
+mod common;
+
 use model::random::lines::line;
 use model::random::shifted::near_limit;
 use model::random::{tables, Rng, SMALL};
@@ -9,7 +11,6 @@ use model::Tables;
 use std::fs;
 use std::path::PathBuf;
 use tablet::Words;
-use tablet_see::run::run;
 
 /// The example session, and the calls before its revoke.
 const SESSION: &[u8] = include_bytes!("../../../examples/session.in");
@@ -17,10 +18,7 @@ const CALLS: usize = 5;
 
 /// What a command line prints.
 fn printed(args: &[&str], input: &[u8]) -> String {
-    let args: Vec<String> = args.iter().map(|arg| arg.to_string()).collect();
-    let mut out = Vec::new();
-    run(&args, &mut &input[..], &mut out).expect("it runs");
-    String::from_utf8(out).expect("text")
+    common::printed(args, input).expect("it runs")
 }
 
 /// A file with the words of tables.

@@ -1,20 +1,15 @@
 //! The program as it is run: its commands, its messages on bad input, and that no input makes it panic.
 
+mod common;
+
+use common::printed;
 use model::random::{damage::damage, session, Rng, SMALL};
 use std::fs;
 use std::path::PathBuf;
 use tablet::Tables;
-use tablet_see::run::{run, Problem};
+use tablet_see::run::Problem;
 
 const SESSION: &[u8] = include_bytes!("../../../examples/session.in");
-
-/// What a command line prints on an input.
-fn printed(args: &[&str], input: &[u8]) -> Result<String, Problem> {
-    let args: Vec<String> = args.iter().map(|arg| arg.to_string()).collect();
-    let mut out = Vec::new();
-    run(&args, &mut &input[..], &mut out)?;
-    Ok(String::from_utf8(out).expect("text"))
-}
 
 fn shown(args: &[&str]) -> String {
     printed(args, SESSION).expect("it runs")
@@ -111,7 +106,7 @@ fn explain_tells_whether_a_request_was_served() {
 }
 
 /// A line, the part of it that is underlined, and what is said.
-const WRONG_ANSWERS: [(&str, &str, &str); 8] = [
+const WRONG_LINES: [(&str, &str, &str); 15] = [
     ("(2 reply 4)", "reply", "2, rule F3: 'reply' is no call."),
     ("(2 refuse 4)", "refuse", "2, rule F3: 'refuse' is no call."),
     (
@@ -136,11 +131,34 @@ const WRONG_ANSWERS: [(&str, &str, &str); 8] = [
         "0",
         "3, rule F4: the range of a row is 1 to 4294967294.",
     ),
+    (
+        "(go 0)",
+        "go",
+        "2, rule F3: a call begins with the caller's number, only comes and chain do not.",
+    ),
+    (
+        "(2 chain 4)",
+        "chain",
+        "2, rule F3: chain has no caller: (chain e).",
+    ),
+    ("(chain)", ")", "2, rule T5: chain wants a row: (chain e)."),
+    ("(chain 4 6)", "6", "2, rule T5: chain wants"),
+    ("(chain (4))", "(4)", "2, rule T5: chain wants"),
+    (
+        "(chain 04)",
+        "04",
+        "2, rule T3: a number has no 0 in front.",
+    ),
+    (
+        "(chain 0)",
+        "0",
+        "3, rule F4: the range of a row is 1 to 4294967294.",
+    ),
 ];
 
 #[test]
-fn explain_underlines_what_is_wrong_in_an_answer() {
-    for (line, part, said) in WRONG_ANSWERS {
+fn explain_underlines_what_is_wrong_in_a_call() {
+    for (line, part, said) in WRONG_LINES {
         let text = printed(&["explain"], &answering(&format!("{line}\n"))).expect("it runs");
         let front = " ".repeat("5: ".len() + line.rfind(part).expect("a part"));
         let marks = "^".repeat(part.len());
@@ -341,9 +359,10 @@ fn well_formed(json: &str) -> bool {
 
 #[test]
 fn no_input_makes_it_panic() {
-    let commands: [&[&str]; 8] = [
+    let commands: [&[&str]; 9] = [
         &["explain"],
         &["what-if", "(1 revoke 9)"],
+        &["what-if", "(chain 9)"],
         &["draw"],
         &["draw", "--dot", "--row", "3"],
         &["draw", "--request", "12"],

@@ -6,7 +6,8 @@ use std::fmt;
 /// What a call or an opening is answered.
 #[derive(Clone, PartialEq, Eq, Debug)]
 pub enum Answer {
-    /// (rule K4) Accepted: the new number, or 0 if none is made; for `fetch` the request's number, then its items.
+    /// (rule K4) Accepted: the new number, or 0 if none is made; for `fetch` the request's number, then its items; for
+    /// `comes` 1 or 0; for `chain` the rows from one of the text to the row asked about.
     Ok(Vec<u32>),
     /// (rule K5) Refused: nothing was changed.
     No(Refusal),

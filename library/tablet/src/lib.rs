@@ -14,6 +14,9 @@
 //! assert_eq!(tables.call("(1 ask 3 (2 3))\n").to_string(), "(ok 5)");
 //! assert_eq!(tables.call("(2 fetch 4)\n").to_string(), "(ok 5 6)");
 //!
+//! // how row 6, the copy that was lent, came to be: held from row 1 of the text, then lent
+//! assert_eq!(tables.call("(chain 6)\n"), Answer::Ok(vec![1, 2, 6]));
+//!
 //! // a refusal has its number and its meaning
 //! let answer = tables.call("(2 ask 3)\n");
 //! let refusal = answer.refusal().unwrap();

@@ -46,7 +46,7 @@ const MEANINGS: [(&str, &str); 18] = [
     ),
     (
         "What is named is not the caller's: not in its c-list, not in its active node (hold), not its own open request \
-         (revoke), not there (comes).",
+         (revoke), not there (comes, chain).",
         "Hold it first, go to its node, wait for a loan to come back, or it has been taken back.",
     ),
     (

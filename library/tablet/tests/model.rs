@@ -1,10 +1,12 @@
 //! The wrapper beside the independent model: answers, words, states, saved bytes, unsound words.
 
 use model::random::{alter, session, Rng, SMALL};
+use model::relations::first_chain;
 use model::session::Session;
 use model::tables::Kind as ModelKind;
 use model::words::{decode, encode};
-use tablet::{Kind, LoadError, Place, State, Tables, Words};
+use tablet::layout::NEXT_AT;
+use tablet::{Answer, Kind, LoadError, Place, State, Tables, Words};
 
 /// The opening text at the front of a session, through the line `(open)`.
 fn opening(input: &[u8]) -> &[u8] {
@@ -87,6 +89,52 @@ fn sessions_are_answered_as_by_the_model() {
         let again = Tables::load(&tables.save()).expect("sound tables are loaded");
         assert_eq!(again.words(), tables.words());
     }
+}
+
+/// (rules chain-7, chain-ok) Of every row, and of a request's number.
+#[test]
+fn chains_are_those_of_the_model() {
+    let mut longest = 0;
+    for seed in 0..20 {
+        let tables = model::random::tables(seed, SMALL[seed as usize % SMALL.len()], 80);
+        let words = words_of(&tables);
+        let mut kernel = Tables::from_words(words.clone()).expect("tables of a session");
+        for row in &tables.rows {
+            let chain = first_chain(&tables, row.number);
+            longest = longest.max(chain.len());
+            let answer = kernel.call(format!("(chain {})\n", row.number));
+            assert_eq!(answer, Answer::Ok(chain), "seed {seed}, row {}", row.number);
+        }
+        for request in &tables.requests {
+            let answer = kernel.call(format!("(chain {})\n", request.number));
+            assert_eq!(answer.to_string(), "(no 7)", "seed {seed}");
+        }
+        assert_eq!(kernel.words(), words, "seed {seed}");
+    }
+    assert!(longest >= 6, "{longest}");
+}
+
+/// (rule K4) Twelve numbers of ten digits: what was held is registered again and again.
+#[test]
+fn the_longest_answer_is_a_chain() {
+    let opened = Tables::open("(node 1 (op 1 0 7))\n(process 1 1)\n(open)\n").expect("opened");
+    let mut words = opened.words();
+    let first: u32 = 4_294_967_272;
+    words.tables[0] = first;
+    words.tables[NEXT_AT] = first + 1;
+    let mut tables = Tables::from_words(words).expect("sound words");
+    let chain: Vec<u32> = (first..).step_by(2).take(12).collect();
+    for row in &chain[..11] {
+        assert_eq!(
+            tables.call(format!("(1 hold {row})\n")).number(),
+            Some(row + 1)
+        );
+        let registered = tables.call(format!("(1 register {})\n", row + 1));
+        assert_eq!(registered.number(), Some(row + 2));
+    }
+    let answer = tables.call("(chain 4294967294)\n");
+    assert_eq!(answer, Answer::Ok(chain));
+    assert_eq!(format!("{answer}\n").len(), 137);
 }
 
 #[test]

@@ -44,7 +44,7 @@ fn node(picture: &Picture, card: &Card) -> String {
     let marked = picture
         .marked
         .as_ref()
-        .is_some_and(|(_, marked)| marked.contains(&card.row.number));
+        .is_some_and(|marked| marked.has(card.row.number));
     let mark = if marked {
         ", color=\"#c4161c\", penwidth=4"
     } else {

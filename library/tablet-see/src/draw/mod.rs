@@ -6,7 +6,7 @@ pub mod svg;
 
 use crate::args::Focus;
 use crate::list;
-use crate::relations::{above, around, listing, Reasons, View};
+use crate::relations::{above, around, first_chain, listing, Reasons, View};
 use crate::wording::right_names;
 use std::collections::BTreeSet;
 use tablet::{Kind, Place, Request, Row};
@@ -15,8 +15,23 @@ use tablet::{Kind, Place, Request, Row};
 pub struct Picture {
     pub lanes: Vec<Lane>,
     pub requests: Vec<RequestCard>,
-    /// The request looked at and the rows that come from it; none if none is.
-    pub marked: Option<(u32, BTreeSet<u32>)>,
+    pub marked: Option<Marked>,
+}
+
+/// What is looked at.
+pub enum Marked {
+    /// A request and the rows that come from it.
+    Request(u32, BTreeSet<u32>),
+    /// The first chain of a row.
+    Chain(BTreeSet<u32>),
+}
+
+impl Marked {
+    pub fn has(&self, row: u32) -> bool {
+        match self {
+            Marked::Request(_, rows) | Marked::Chain(rows) => rows.contains(&row),
+        }
+    }
 }
 
 /// A holder: a node, a c-list or the system.
@@ -59,8 +74,15 @@ pub fn picture(state: &View, focus: Focus) -> Result<Picture, String> {
     Ok(Picture {
         lanes: lanes(state, &drawn, part.is_some()),
         requests: requests(state, &drawn),
-        marked: focus.request.map(|q| (q, Reasons::comes(state, q).rows())),
+        marked: marked(state, focus),
     })
+}
+
+/// What comes from the request, else the first chain of the row.
+fn marked(state: &View, focus: Focus) -> Option<Marked> {
+    let coming = |q| Marked::Request(q, Reasons::comes(state, q).rows());
+    let chain = |e| Marked::Chain(first_chain(state, e).iter().map(|r| r.number).collect());
+    focus.request.map(coming).or(focus.row.map(chain))
 }
 
 /// The picture of a whole state.

@@ -1,6 +1,6 @@
 //! A picture as SVG.
 
-use super::{Card, Lane, Picture, RequestCard};
+use super::{Card, Lane, Marked, Picture, RequestCard};
 use std::collections::BTreeMap;
 use std::fmt::Write;
 use tablet::{Kind, Place};
@@ -172,12 +172,20 @@ impl Plan<'_> {
         spots
     }
 
-    /// The classes of what belongs to a row: marked or not, if a request is looked at.
+    /// The class of what belongs to a row: marked or not, if something is looked at.
     fn mark(&self, row: u32) -> &'static str {
         match &self.picture.marked {
             None => "",
-            Some((_, marked)) if marked.contains(&row) => " marked",
+            Some(marked) if marked.has(row) => " marked",
             Some(_) => " dim",
+        }
+    }
+
+    /// The class of the arrow to a row's second source, which is on no first chain.
+    fn mark_second(&self, row: u32) -> &'static str {
+        match &self.picture.marked {
+            Some(Marked::Chain(_)) => " dim",
+            _ => self.mark(row),
         }
     }
 }
@@ -223,7 +231,10 @@ fn sources(plan: &Plan, card: &Card) -> String {
         let Some(to) = plan.rows.get(&source) else {
             continue;
         };
-        let shift = if class == "first" { 0 } else { 10 };
+        let (shift, mark) = match class {
+            "first" => (0, plan.mark(card.row.number)),
+            _ => (10, plan.mark_second(card.row.number)),
+        };
         let (x1, y1) = (at.x, at.y + CARD_HEIGHT / 2 + shift);
         let (x2, y2) = (to.x + plan.card_width, to.y + CARD_HEIGHT / 2);
         let apart = x1.saturating_sub(x2);
@@ -232,7 +243,6 @@ fn sources(plan: &Plan, card: &Card) -> String {
             true => (apart / 4, 40),
             false => (apart / 2, 0),
         };
-        let mark = plan.mark(card.row.number);
         out += &format!(
             "<path class=\"source {class}{mark}\" marker-end=\"url(#tip)\" d=\"M{x1} {y1}C{} {} {} {} {x2} {y2}\"/>\n",
             x1 - bend,
@@ -318,10 +328,9 @@ fn request_box(plan: &Plan, q: &RequestCard) -> String {
         return String::new();
     };
     let words = (q.request.number, q.title.as_str(), q.subtitle.as_str());
-    let looked_at = plan.picture.marked.as_ref().map(|(request, _)| *request);
-    let class = match looked_at == Some(q.request.number) {
-        true => "card request marked",
-        false => "card request",
+    let class = match plan.picture.marked {
+        Some(Marked::Request(request, _)) if request == q.request.number => "card request marked",
+        _ => "card request",
     };
     boxed(
         plan,
