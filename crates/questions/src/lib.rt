@@ -1,4 +1,5 @@
-// What goes back along the sources of a row: does it come from a request, is it lent; its first chain. Is an end on loan.
+// What goes back along the sources of a row: does it come from a request, is it lent; its first chain.
+// And whether an end is on loan.
 
 // ---- functions
 pub mod chain;

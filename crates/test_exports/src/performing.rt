@@ -11,8 +11,8 @@ ghost use mathlib.Core.Path.{_≡_};
 ghost use Rattle.test_exports.specs.contracts.Calls.{itemsOfWords, callOfWords, callFits, wordsOfAnswer};
 ghost use Rattle.test_exports.specs.contracts.Calls.{PerformsWords, AllStay};
 
-// a call: its code, its two numbers (of chain its row, and one that is not looked at), row and rights of each item of an
-// ask, or 1 for a request served; an answer: its code and its numbers
+// a call: its code, its two numbers (of chain its row, and one that is not looked at), row and rights of each item of
+// an ask, or 1 for a request served; an answer: its code and its numbers
 pub const CALL_WORDS: usize = 11;
 
 pub const ANSWER_WORDS: usize = 13;

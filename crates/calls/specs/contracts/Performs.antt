@@ -186,4 +186,5 @@ RefusesDrop t n i through e r =
 -- r is the answer for the row in slot i
 abbrev pub ChainedAt : List ℕ → ℕ → Answer → Type 0
 ChainedAt t i r =
-    (st : State) (e : ℕ) → sound st ≡ true → Represents t st → StandsAt st e i → r ≡ chainedAnswer (firstChain (st .rows) e)
+    (st : State) (e : ℕ) → sound st ≡ true → Represents t st → StandsAt st e i
+    → r ≡ chainedAnswer (firstChain (st .rows) e)
