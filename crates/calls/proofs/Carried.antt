@@ -13,7 +13,7 @@ use Rattle.rows.specs.contracts.Sizes.{IsTables, IsRecords}
 use Rattle.calls.specs.declared.Answer.the-variants.{Refused}
 use Rattle.calls.specs.declared.Answer.{Answer}
 use Rattle.calls.specs.declared.Call.{Call}
-use Rattle.calls.specs.declared.Call.the-variants.{Go, Hold, Register, Drop, Port, Close, Ask, Fetch, Revoke, Comes, Chain}
+use Rattle.calls.specs.declared.Call.the-variants.{Go, Hold, Register, Drop, Port, Close, Ask, Fetch, Revoke, Comes, Chain, ComesAll}
 use Rattle.calls.specs.Rules.{Out, lowest, refused, judge}
 use Rattle.calls.specs.Calls.{refusals, done, made, fetchedAnswer, chainedAnswer, effect, perform}
 use Rattle.calls.specs.contracts.Performs.{Agrees, RunsAfter, Performs, StaysIfRefused}
@@ -33,6 +33,7 @@ effect-accepts st (Call.Answer p e served) k h = let z : _≡_ {A = ℕ} 0 1 = c
 effect-accepts st (Revoke p q) k h = let z : _≡_ {A = ℕ} 0 1 = cc in omega arith
 effect-accepts st (Comes e q) k h = let z : _≡_ {A = ℕ} 0 1 = cc in omega arith
 effect-accepts st (Chain e) k h = let z : _≡_ {A = ℕ} 0 1 = cc in omega arith
+effect-accepts st (ComesAll es qs) k h = let z : _≡_ {A = ℕ} 0 1 = cc in omega arith
 
 refused-after : (st : State) (c : Call) (k : ℕ) → perform st c .answer ≡ Refused k → perform st c .after ≡ st
 unfolding perform judge refused

@@ -17,14 +17,16 @@ use Rattle.tables.proofs.Sound.{sound-open}
 use Rattle.tables.proofs.SoundFacts.{row-object, manager-listed, listed-range}
 use Rattle.rows.specs.contracts.Represents.{laidWell, Represents}
 use Rattle.calls.specs.declared.Items.{Items}
+use Rattle.calls.specs.declared.Sixteen.{Sixteen}
 use Rattle.calls.specs.declared.Answer.{Answer}
-use Rattle.calls.specs.declared.Answer.the-variants.{Done, Made, Fetched, Told}
+use Rattle.calls.specs.declared.Answer.the-variants.{Done, Made, Fetched, Told, ToldAll}
 use Rattle.calls.specs.declared.Call.{Call}
-use Rattle.calls.specs.declared.Call.the-variants.{Go, Hold, Register, Drop, Port, Close, Ask, Fetch, Revoke, Comes, Chain}
+use Rattle.calls.specs.declared.Call.the-variants.{Go, Hold, Register, Drop, Port, Close, Ask, Fetch, Revoke, Comes, Chain, ComesAll}
 use Rattle.closing.specs.Closing.{closeRequest, closePort, dropRow}
+use Rattle.calls.specs.Answers.{allOf}
 use Rattle.calls.specs.Loans.{itemsOf, withRequest, handedOver}
 use Rattle.calls.specs.Rules.{askedOf, withRecord, withNewRows}
-use Rattle.calls.specs.Calls.{goHome, goThrough, withHeld, withRegistered, withPort, done, made, fetchedAnswer, chainedAnswer, effect}
+use Rattle.calls.specs.Calls.{goHome, goThrough, withHeld, withRegistered, withPort, done, made, fetchedAnswer, chainedAnswer, toldEach, sixteenFrom, effect}
 use Rattle.calls.specs.contracts.Performs.{Answers, Agrees}
 
 -- the words say nothing of the records
@@ -106,7 +108,7 @@ module _ {after : List ℕ} (st : State) (p e : ℕ) (r : List Process) where
       let h′ = subst (λ (n : ℕ). Represents after (closeRequest n st) × (r ≡ closeRequest n st .processes)) same h in
       record { answer = refl; words = h′ .0; records = h′ .1 }
 
--- ---- fetch, comes and chain
+-- ---- fetch, comes, chain and comesall
 pub fetched-request : {after : List ℕ} (st : State) (p e : ℕ) (v : Request) → v ≡ askedOf st e → Represents after (handedOver p (askedOf st e) st)
     → Answers after (Fetched (v .number) (getD (v .items) 0 0) (getD (v .items) 1 0) (getD (v .items) 2 0) (getD (v .items) 3 0)) (effect st (Fetch p e))
 unfolding effect fetchedAnswer
@@ -125,3 +127,8 @@ pub told-chain : {t : List ℕ} (st : State) (e : ℕ) (r : Answer) {ps : List P
     → Agrees t ps r (effect st (Chain e))
 unfolding effect
 told-chain st e r rep same h = record { answer = h; words = rep; records = sym same }
+
+pub told-pairs : {t : List ℕ} (st : State) (es qs : Sixteen) (s : Sixteen) {ps : List Process} → Represents t st → st .processes ≡ ps
+    → s ≡ sixteenFrom (toldEach st (allOf es) (allOf qs)) → Agrees t ps (ToldAll s) (effect st (ComesAll es qs))
+unfolding effect
+told-pairs st es qs s rep same h = record { answer = ap ToldAll h; words = rep; records = sym same }

@@ -15,6 +15,8 @@ pub mod Refusing
 pub mod Effected
 -- the answer of chain, read off the words written
 pub mod Chained
+-- what is told of pairs
+pub mod PairsTold
 -- whether a row is a source of another: the loop over all rows
 pub mod Used
 -- tests of several items joined

@@ -1,4 +1,4 @@
--- The twelve calls on a state (docs/MANUAL.md, chapter 4). Of each the refusals 7 to 18, the lowest first; then, in one table, what each does where nothing refuses it.
+-- The thirteen calls on a state (docs/MANUAL.md, chapter 4). Of each the refusals 7 to 18, the lowest first; then, in one table, what each does where nothing refuses it.
 use Prim.Native.Nat.{ℕ, suc, _+_}
 use mathlib.Core.Bool.{Bool, not, _&&_, _||_}
 use mathlib.Core.List.{List, [], _∷_}
@@ -14,11 +14,13 @@ use Rattle.rows.specs.Sound.{isFetched}
 use Rattle.closing.specs.Closing.{closeRequest, closePort, dropRow}
 use Rattle.calls.specs.declared.Item.{Item}
 use Rattle.calls.specs.declared.Four.{Four}
+use Rattle.calls.specs.declared.Sixteen.{Sixteen}
 use Rattle.calls.specs.declared.Call.{Call}
-use Rattle.calls.specs.declared.Call.the-variants.{Go, Hold, Register, Drop, Port, Close, Ask, Fetch, Revoke, Comes, Chain}
+use Rattle.calls.specs.declared.Call.the-variants.{Go, Hold, Register, Drop, Port, Close, Ask, Fetch, Revoke, Comes, Chain, ComesAll}
 use Rattle.calls.specs.declared.Answer.{Answer}
-use Rattle.calls.specs.declared.Answer.the-variants.{Done, Made, Fetched, Told, Chained}
-use Rattle.calls.specs.Rules.{Out, Test, _when_, judge, notHeld, hasOpen, askedOf, tooDeep, rowsFull, requestsFull, numbersSpent, withNewRows, copyOf, withRecord}
+use Rattle.calls.specs.declared.Answer.the-variants.{Done, Made, Fetched, Told, Chained, ToldAll}
+use Rattle.calls.specs.Answers.{allOf, toldNo, toldYes, notTold}
+use Rattle.calls.specs.Rules.{Out, Test, _when_, lowest, judge, notHeld, hasOpen, askedOf, tooDeep, rowsFull, requestsFull, numbersSpent, withNewRows, copyOf, withRecord}
 use Rattle.calls.specs.Loans.{itemsOf, itemRow, moves, copies, copyDepth, withRequest, handedOver}
 
 -- ---- go: `go 0` has no refusal
@@ -252,7 +254,21 @@ refusalsChain st e =
     7 when eqb (rowOf (st .rows) e .number) 0
     ∷ []
 
--- ---- all twelve
+-- ---- comesall: no test of the state refuses it
+-- (rules comesall-ok-1, comesall-ok-2) what is told of row e and request q: what comes answers of them, as a code; 0 where there is no pair
+unfoldable pub told : State → ℕ → ℕ → ℕ
+told st e q =
+    if eqb e 0 then 0
+    else if eqb (lowest (refusalsComes st e q)) 0 then (if comesFrom (st .rows) q e then toldYes else toldNo)
+    else notTold
+
+-- (rule comesall-ok-1) of each pair, in the order of the pairs
+unfoldable pub toldEach : State → List ℕ → List ℕ → List ℕ
+toldEach st [] qs = []
+toldEach st (e ∷ es) [] = []
+toldEach st (e ∷ es) (q ∷ qs) = told st e q ∷ toldEach st es qs
+
+-- ---- all thirteen
 -- (rule F8) the tests of a call, lowest number first
 unfoldable pub refusals : State → Call → List Test
 refusals st (Go p e) = refusalsGo st p e
@@ -267,8 +283,9 @@ refusals st (Call.Answer p e served) = refusalsAnswer st p e served
 refusals st (Revoke p q) = refusalsRevoke st p q
 refusals st (Comes e q) = refusalsComes st e q
 refusals st (Chain e) = refusalsChain st e
+refusals st (ComesAll es qs) = []
 
--- (rule K4) no new number; a new number; what was fetched; the rows of a chain
+-- (rule K4) no new number; a new number; what was fetched; the rows of a chain; what is told of pairs
 unfoldable pub done : State → Out
 done st = record { answer = Done; after = st }
 
@@ -284,7 +301,10 @@ fourFrom ns i = record { first = getD ns i 0; second = getD ns (i + 1) 0; third 
 unfoldable pub chainedAnswer : List ℕ → Answer
 chainedAnswer ns = Chained (fourFrom ns 0) (fourFrom ns 4) (fourFrom ns 8)
 
--- (rules go-ok, hold-ok, register-ok, drop-ok, port-ok, close-ok, ask-ok-4, fetch-ok, answer-ok, revoke-ok, comes-ok, chain-ok)
+unfoldable pub sixteenFrom : List ℕ → Sixteen
+sixteenFrom ns = record { first = fourFrom ns 0; second = fourFrom ns 4; third = fourFrom ns 8; fourth = fourFrom ns 12 }
+
+-- (rules go-ok, hold-ok, register-ok, drop-ok, port-ok, close-ok, ask-ok-4, fetch-ok, answer-ok, revoke-ok, comes-ok, chain-ok, comesall-ok-3)
 -- what each answers and does where no test holds
 unfoldable pub effect : State → Call → Out
 effect st (Go p e) = done (if eqb e 0 then goHome st p else goThrough st p e)
@@ -299,12 +319,13 @@ effect st (Call.Answer p e served) = done (closeRequest (askedOf st e .number) s
 effect st (Revoke p q) = done (closeRequest q st)
 effect st (Comes e q) = record { answer = Told (comesFrom (st .rows) q e); after = st }
 effect st (Chain e) = record { answer = chainedAnswer (firstChain (st .rows) e); after = st }
+effect st (ComesAll es qs) = record { answer = ToldAll (sixteenFrom (toldEach st (allOf es) (allOf qs))); after = st }
 
 -- (rules K5, F8) refused by the lowest number that applies, else carried out
 unfoldable pub perform : State → Call → Out
 perform st c = judge st (refusals st c) (effect st c)
 
--- (rule F2) the caller's number; comes and chain have none
+-- (rule F2) the caller's number; comes, chain and comesall have none
 unfoldable pub callerOf : Call → ℕ
 callerOf (Go p e) = p
 callerOf (Hold p s) = p
@@ -318,3 +339,4 @@ callerOf (Call.Answer p e served) = p
 callerOf (Revoke p q) = p
 callerOf (Comes e q) = 0
 callerOf (Chain e) = 0
+callerOf (ComesAll es qs) = 0

@@ -3,5 +3,6 @@ pub mod Lookups
 pub mod Effects
 pub mod Loans
 pub mod Performs
+pub mod Pairs
 pub mod Answering
 pub mod Asks

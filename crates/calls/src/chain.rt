@@ -1,33 +1,17 @@
 // chain: the rows from a row of the text to a row, each the first source of the next.
 use crate::Answer;
-use crate::Four;
+use crate::numbers::four_from;
 use questions::chain;
 use rows::Found;
 use rows::codes::GREATEST_DEPTH;
 use rows::find;
-ghost use mathlib.Core.Path.{_≡_};
-ghost use Prim.Native.Nat.{_+_, _≤_, _<_};
-ghost use lib.ListN.{length};
+ghost use Prim.Native.Nat.{_<_};
 ghost use Rattle.rows.specs.contracts.Sizes.{ROWS, IsTables};
 ghost use Rattle.calls.specs.declared.Call.{Call};
-ghost use Rattle.calls.specs.Calls.{fourFrom};
 ghost use Rattle.calls.specs.contracts.Performs.{PerformsApart, ChainedAt};
 
 // the rows of a chain at most: one of each depth
 const LONGEST_CHAIN: usize = 12;
-
-// Four of the numbers, from a position on.
-fn four_from(rows: &[u32], at: usize) -> Four
-    requires { ⌜ at + 4 ≤ length (now rows) ⌝ }
-    ensures { λ r. ⌜ r ≡ fourFrom (now (rows .entry)) at ⌝ }
-{
-    Four {
-        first: rows[at],
-        second: rows[at + 1],
-        third: rows[at + 2],
-        fourth: rows[at + 3],
-    }
-}
 
 // The answer for the row in slot i.
 fn chain_at(t: &[u32], i: usize) -> Answer

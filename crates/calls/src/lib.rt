@@ -13,8 +13,24 @@ pub struct Items {
     pub fourth: Item,
 }
 
-// A call: the caller's number, then the call's; comes and chain have no caller. Of an answer: whether the request was
-// served.
+// Four numbers, 0 for none.
+pub struct Four {
+    pub first: u32,
+    pub second: u32,
+    pub third: u32,
+    pub fourth: u32,
+}
+
+// Sixteen numbers, 0 for none.
+pub struct Sixteen {
+    pub first: Four,
+    pub second: Four,
+    pub third: Four,
+    pub fourth: Four,
+}
+
+// A call: the caller's number, then the call's; comes, chain and comesall have no caller. Of an answer: whether the
+// request was served. Of a comesall: the rows of its pairs, 0 after the last, and their requests.
 pub enum Call {
     Go(u32, u32),
     Hold(u32, u32),
@@ -28,14 +44,7 @@ pub enum Call {
     Revoke(u32, u32),
     Comes(u32, u32),
     Chain(u32),
-}
-
-// Four numbers, 0 for none.
-pub struct Four {
-    pub first: u32,
-    pub second: u32,
-    pub third: u32,
-    pub fourth: u32,
+    ComesAll(Sixteen, Sixteen),
 }
 
 // What a call answers. The numbers and values of each case: specs/Answers.antt.
@@ -47,6 +56,8 @@ pub enum Answer {
     Told(bool),
     // the rows of a chain, twelve at most, 0 after the last
     Chained(Four, Four, Four),
+    // of each pair what is told, as a code, 0 after the last
+    ToldAll(Sixteen),
     Refused(u32),
 }
 
@@ -113,11 +124,13 @@ pub mod answering;
 pub mod ask;
 pub mod chain;
 pub mod comes;
+pub mod comes_all;
 pub mod directories;
 pub mod fetch;
 pub mod lend;
 pub mod lookups;
 pub mod new_rows;
+pub mod numbers;
 pub mod perform;
 pub mod ports;
 pub mod revoke;

@@ -1,10 +1,11 @@
-// A call on the lent words: each of the twelve by its own function.
+// A call on the lent words: each of the thirteen by its own function.
 use crate::Answer;
 use crate::Call;
 use crate::answering;
 use crate::ask;
 use crate::chain;
 use crate::comes;
+use crate::comes_all;
 use crate::directories;
 use crate::fetch;
 use crate::ports;
@@ -33,5 +34,6 @@ pub fn perform(t: &mut [u32], ps: &mut [u32], c: Call) -> Answer
         Call::Revoke(p, q) => revoke::revoke(t, ps, p, q),
         Call::Comes(e, q) => comes::comes(t, e, q),
         Call::Chain(e) => chain::chain(t, e),
+        Call::ComesAll(es, qs) => comes_all::comes_all(t, es, qs),
     }
 }

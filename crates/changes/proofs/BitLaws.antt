@@ -1,13 +1,13 @@
 -- Bits of words of any width: the one at a place, one more set, all turned round, counted, the lowest that is set; and the marks that words hold.
 use Prim.Native.Nat.{ℕ, zero, suc, _+_, _-_, _*_, _/_, _%_, _^_, _≤_, _<_, max}
-use mathlib.Core.Bool.{Bool, true, false, not, cond}
+use mathlib.Core.Bool.{Bool, true, false, not, cond, _||_}
 use mathlib.Core.List.{List, [], _∷_, _++_}
 use mathlib.Core.Path.{_≡_, refl, ap, ap₂, sym, subst, _∙_}
 use native.Mathlib.Nat.{not-suc-le-zero, le-of-suc-le-suc, le-of-lt, zero-div, div-one, pow-suc, mul-div-cancel, mul-mod-left, max-zero, mod-one, div-add-mod', mod-lt, add-zero, zero-lt-suc, le-refl, mod-eq-of-lt, div-eq-of-lt, lt-of-lt-of-le, mul-le-mul-right, div-mul-le-self}
 use mathlib.Core.Logic.{_≢_}
 use native.Mathlib.Decide.{decLt}
 use native.Mathlib.Omega.{arith}
-use lib.Dec.{eqb, lit<}
+use lib.Dec.{eqb, eqb·zero-suc, eqb·suc-zero, eqb·suc-suc, lit<}
 use lib.Arith.{digits-div, digits-mod}
 use lib.Pow.{pow-pos, pow-mono, shr-shr, shl-exact, mod-pow-add}
 use lib.Bits.{bitOr, or-step, or-zero-r}
@@ -75,10 +75,14 @@ or-first : (w : ℕ) → bitOr w 1 ≡ w / 2 * 2 + 1
 or-first w =
     or-step w 1 ∙ ap₂ (λ (x y : ℕ). x * 2 + y) (or-zero-r (w / 2)) (digit (λ (d : ℕ). max d 1 ≡ 1) refl refl (w % 2) (mod-lt w two))
 
+-- half of a power of 2
+half-power : (k : ℕ) → (2 ^ suc k / 2 ≡ 2 ^ k) × (2 ^ suc k % 2 ≡ 0)
+half-power k =
+    (ap (λ (x : ℕ). x / 2) (pow-suc 2 k) ∙ mul-div-cancel (2 ^ k) two, ap (λ (x : ℕ). x % 2) (pow-suc 2 k) ∙ mul-mod-left (2 ^ k) 2)
+
 or-next : (w r : ℕ) → bitOr w (2 ^ suc r) ≡ bitOr (w / 2) (2 ^ r) * 2 + w % 2
 or-next w r =
-    let half : 2 ^ suc r / 2 ≡ 2 ^ r = ap (λ (x : ℕ). x / 2) (pow-suc 2 r) ∙ mul-div-cancel (2 ^ r) two in
-    let even : 2 ^ suc r % 2 ≡ 0 = ap (λ (x : ℕ). x % 2) (pow-suc 2 r) ∙ mul-mod-left (2 ^ r) 2 in
+    let (half, even) = half-power r in
     or-step w (2 ^ suc r) ∙ ap₂ (λ (x y : ℕ). bitOr (w / 2) x * 2 + max (w % 2) y) half even ∙ ap (λ (x : ℕ). bitOr (w / 2) (2 ^ r) * 2 + x) (max-zero (w % 2))
 
 pub bits-set : (k w r : ℕ) → r < k → bitsOf k (bitOr w (2 ^ r)) ≡ set (bitsOf k w) r true
@@ -91,6 +95,32 @@ bits-set (suc k) w (suc r) h =
     ap (λ (x : ℕ). eqb (x % 2) 1 ∷ bitsOf k (x / 2)) (or-next w r)
     ∙ ap₂ (λ (x y : ℕ). eqb x 1 ∷ bitsOf k y) (digits-mod (bitOr (w / 2) (2 ^ r)) (mod-lt w two)) (digits-div (bitOr (w / 2) (2 ^ r)) (mod-lt w two))
     ∙ ap (λ (l : List Bool). eqb (w % 2) 1 ∷ l) (bits-set k (w / 2) r (le-of-suc-le-suc h))
+
+-- ---- the bits of two words together
+two-digits : (P : ℕ → ℕ → Type 0) → P 0 0 → P 0 1 → P 1 0 → P 1 1 → (a b : ℕ) → P (a % 2) (b % 2)
+two-digits P zz zo oz oo a b =
+    digit (λ (x : ℕ). P x (b % 2)) (digit (P 0) zz zo (b % 2) (mod-lt b two)) (digit (P 1) oz oo (b % 2) (mod-lt b two)) (a % 2) (mod-lt a two)
+
+pub bit-or : (a b k : ℕ) → bit (bitOr a b) k ≡ bit a k || bit b k
+bit-or a b zero =
+    bit-first (bitOr a b)
+    ∙ ap (λ (x : ℕ). eqb (x % 2) 1) (or-step a b)
+    ∙ ap (λ (x : ℕ). eqb x 1) (digits-mod (bitOr (a / 2) (b / 2)) (two-digits (λ x y. max x y < 2) (lit< tt) (lit< tt) (lit< tt) (lit< tt) a b))
+    ∙ two-digits (λ x y. eqb (max x y) 1 ≡ eqb x 1 || eqb y 1) refl refl refl refl a b
+    ∙ sym (ap₂ (λ x y. x || y) (bit-first a) (bit-first b))
+bit-or a b (suc k) =
+    bit-next (bitOr a b) k
+    ∙ ap (λ (x : ℕ). bit (x / 2) k) (or-step a b)
+    ∙ ap (λ (x : ℕ). bit x k) (digits-div (bitOr (a / 2) (b / 2)) (two-digits (λ x y. max x y < 2) (lit< tt) (lit< tt) (lit< tt) (lit< tt) a b))
+    ∙ bit-or (a / 2) (b / 2) k
+    ∙ sym (ap₂ (λ x y. x || y) (bit-next a k) (bit-next b k))
+
+-- the one bit of a power of 2
+pub bit-power : (k j : ℕ) → bit (2 ^ k) j ≡ eqb j k
+bit-power zero zero = bit-first 1
+bit-power zero (suc j) = bit-next 1 j ∙ bit-none j ∙ sym (eqb·suc-zero j)
+bit-power (suc k) zero = bit-first (2 ^ suc k) ∙ ap (λ (x : ℕ). eqb x 1) (half-power k .1) ∙ sym (eqb·zero-suc k)
+bit-power (suc k) (suc j) = bit-next (2 ^ suc k) j ∙ ap (λ (x : ℕ). bit x j) (half-power k .0) ∙ bit-power k j ∙ sym (eqb·suc-suc j k)
 
 -- ---- all bits turned round
 turned : (p w : ℕ) → w < 2 * p → ((2 * p - 1) - w) / 2 ≡ (p - 1) - w / 2

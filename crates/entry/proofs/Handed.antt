@@ -9,7 +9,7 @@ use Rattle.text.specs.declared.Reply.{Reply}
 use Rattle.text.specs.Entry.{Replied}
 use Rattle.text.specs.contracts.Replies.{inReply}
 use Rattle.text.specs.contracts.Sizes.{REPLY}
-use Rattle.text.proofs.AskLaws.{take-pad}
+use Rattle.text.proofs.GroupLaws.{take-pad}
 use Rattle.entry.specs.contracts.Entries.{HandsOut, Given}
 use lib.Seq.{drop-cons, set-at, append-snoc, take-suc, length-take-le, length-front}
 

@@ -8,7 +8,7 @@ use Rattle.text.specs.declared.Reply.{Reply}
 use Rattle.text.specs.Entry.{Replied, openEntry, callEntry}
 use Rattle.text.specs.contracts.Replies.{inReply}
 use Rattle.text.specs.contracts.Sizes.{REPLY}
-use Rattle.text.proofs.AskLaws.{take-pad}
+use Rattle.text.proofs.GroupLaws.{take-pad}
 use lib.ListN.{length}
 use Prim.Native.Nat.{_≤_}
 use Rattle.history.specs.History.{History}

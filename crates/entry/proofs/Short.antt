@@ -2,16 +2,16 @@
 use Prim.Native.Nat.{ℕ, zero, suc, _+_, _*_, _/_, _%_, _≤_}
 use native.Mathlib.Omega.{arith}
 use mathlib.Core.Bool.{Bool, true, false, cond}
-use mathlib.Core.List.{List, [], _∷_, _++_}
+use mathlib.Core.List.{List, [], _∷_, _++_, map}
 use mathlib.Core.Path.{_≡_, refl}
 use lib.Dec.{ltb, eqb}
-use lib.ListN.{length, length-append}
+use lib.ListN.{length, length-append, length-map}
 use Rattle.rows.specs.Lists.{bytes}
-use Rattle.rows.specs.Limits.{greatestDepth}
+use Rattle.rows.specs.Limits.{mostPairs}
 use Rattle.rows.specs.Layout.{stateOf, rightLengths, soundWords, clearedTables, clearedProcesses}
 use Rattle.calls.specs.declared.Answer.{Answer}
-use Rattle.calls.specs.Answers.{refusalOf, valuesOf}
-use Rattle.text.specs.Answers.{decimal, digitsOf, spaced, okText, noText, printed}
+use Rattle.calls.specs.Answers.{Value, num, dash, refusalOf, valuesOf}
+use Rattle.text.specs.Answers.{decimal, digitsOf, valueText, spaced, okText, noText, printed}
 use Rattle.text.specs.Opening.{Opening, opens, refusedAt, linesOf, openingOf}
 use Rattle.text.specs.Entry.{callOn, callEntry, openEntry, openedBy, replyOf, replyWith}
 use Rattle.text.specs.contracts.Sizes.{REPLY}
@@ -27,28 +27,34 @@ decimal-short (suc d) n = pick (decimal-short d (n / 10)) (ltb n 10)
     pick h true = omega arith
     pick h false = omega (arith, h, length-append (decimal d (n / 10)) ((48 + n % 10) ∷ []))
 
-spaced-short : (ns : List ℕ) → length (spaced ns) ≤ 11 * length ns
-unfolding spaced digitsOf
+value-short : (v : Value) → length (valueText v) ≤ 10
+unfolding valueText digitsOf bytes
+value-short (num n) = decimal-short 10 n
+value-short dash = omega arith
+
+spaced-short : (vs : List Value) → length (spaced vs) ≤ 11 * length vs
+unfolding spaced
 spaced-short [] = omega arith
-spaced-short (n ∷ ns) = omega (arith, decimal-short 10 n, spaced-short ns, length-append (digitsOf n) (spaced ns))
+spaced-short (v ∷ vs) = omega (arith, value-short v, spaced-short vs, length-append (valueText v) (spaced vs))
 
 -- ---- texts
 -- what stands around the values: `(ok` or `(no`, and the bracket and line feed after them
-framed-short : (w e ns : List ℕ) → length w ≡ 3 → length e ≡ 2 → length ns ≤ 12 → length (w ++ (spaced ns ++ e)) ≤ REPLY
-framed-short w e ns hw he h =
-    omega (arith, hw, he, h, spaced-short ns, length-append w (spaced ns ++ e), length-append (spaced ns) e)
+framed-short : (w e : List ℕ) (vs : List Value) → length w ≡ 3 → length e ≡ 2 → length vs ≤ mostPairs → length (w ++ (spaced vs ++ e)) ≤ REPLY
+unfolding mostPairs
+framed-short w e vs hw he h =
+    omega (arith, hw, he, h, spaced-short vs, length-append w (spaced vs ++ e), length-append (spaced vs) e)
 
-ok-short : (ns : List ℕ) → length ns ≤ 12 → length (okText ns) ≤ REPLY
+ok-short : (vs : List Value) → length vs ≤ mostPairs → length (okText vs) ≤ REPLY
 unfolding okText bytes
-ok-short ns h = framed-short (bytes "(ok") (bytes ")\n") ns refl refl h
+ok-short vs h = framed-short (bytes "(ok") (bytes ")\n") vs refl refl h
 
-no-short : (ns : List ℕ) → length ns ≤ 12 → length (noText ns) ≤ REPLY
-unfolding noText bytes
-no-short ns h = framed-short (bytes "(no") (bytes ")\n") ns refl refl h
+no-short : (ns : List ℕ) → length ns ≤ 2 → length (noText ns) ≤ REPLY
+unfolding noText bytes mostPairs
+no-short ns h = framed-short (bytes "(no") (bytes ")\n") (map num ns) refl refl (omega (arith, length-map ns num))
 
 -- ---- answers
 printed-short : (a : Answer) → length (printed a) ≤ REPLY
-unfolding printed greatestDepth
+unfolding printed
 printed-short a = pick (eqb (refusalOf a) 0)
   where
     pick : (b : Bool) → length (cond b (okText (valuesOf a)) (noText (refusalOf a ∷ []))) ≤ REPLY
@@ -65,8 +71,8 @@ call-short t p line = pick (soundWords t p)
     pick false = no-short (1 ∷ []) (omega arith)
 
 opening-short : (o : Opening) → length (openedBy o .reply) ≤ REPLY
-unfolding openedBy replyWith
-opening-short (opens fs rest) = ok-short (0 ∷ []) (omega arith)
+unfolding openedBy replyWith mostPairs
+opening-short (opens fs rest) = ok-short (num 0 ∷ []) (omega arith)
 opening-short (refusedAt k n) = no-short (k ∷ n ∷ []) (omega arith)
 
 pub open-short : (t p text : List ℕ) → length (openEntry t p text .reply) ≤ REPLY

@@ -18,7 +18,7 @@ ghost use Rattle.entry.specs.contracts.Entries.{TellsUnlisted, AnswersOn
 ghost use Rattle.entry.specs.contracts.Entries.{AnswersCrowded, ReadInRange, Replies};
 
 // ---- the caller
-// The caller of a call; 0 for comes and chain, which have none.
+// The caller of a call; 0 for comes, chain and comesall, which have none.
 fn caller_of(c: Call) -> u32
     ensures { λ r. ⌜ r ≡ callerOf c ⌝ }
 {
@@ -35,6 +35,7 @@ fn caller_of(c: Call) -> u32
         Call::Revoke(p, q) => p,
         Call::Comes(e, q) => 0,
         Call::Chain(e) => 0,
+        Call::ComesAll(es, qs) => 0,
     }
 }
 

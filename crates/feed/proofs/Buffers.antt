@@ -14,6 +14,7 @@ use Rattle.rows.specs.Layout.{rightLengths, clearedTables, clearedProcesses}
 use Rattle.rows.proofs.LayoutColumns.{list-same}
 use Rattle.text.specs.declared.Passed.{Passed}
 use Rattle.text.specs.Opening.{FirstPass, readTo, stoppedBy, Opening, opens, refusedAt, linesOf, openingOf}
+use Rattle.calls.specs.Answers.{num}
 use Rattle.text.specs.Answers.{okText, noText}
 use Rattle.text.specs.Entry.{Replied, replyWith, openedBy, openEntry}
 use Rattle.text.specs.contracts.Openings.{firstLine, Ends}
@@ -104,13 +105,13 @@ unfoldable pub toldBy : List ℕ → List ℕ → Type 0
 toldBy reply rest =
     (getD (reply ++ rest) 1 0 ≡ 111 → Calls ≡ stageAfter reply) × ((getD (reply ++ rest) 1 0 ≡ 111 → ⊥) → Over ≡ stageAfter reply)
 
-second-ok : (rest : List ℕ) → getD (okText (0 ∷ []) ++ rest) 1 0 ≡ 111
+second-ok : (rest : List ℕ) → getD (okText (num 0 ∷ []) ++ rest) 1 0 ≡ 111
 unfolding okText bytes
 second-ok rest = refl
 
-told-ok : (rest : List ℕ) → toldBy (okText (0 ∷ [])) rest
+told-ok : (rest : List ℕ) → toldBy (okText (num 0 ∷ [])) rest
 unfolding toldBy stageAfter
-told-ok rest = (λ e. rw (list-same (okText (0 ∷ []))), λ other. absurd (other (second-ok rest)))
+told-ok rest = (λ e. rw (list-same (okText (num 0 ∷ []))), λ other. absurd (other (second-ok rest)))
 
 told-no : (ns rest : List ℕ) → toldBy (noText ns) rest
 unfolding toldBy stageAfter noText okText bytes sameList

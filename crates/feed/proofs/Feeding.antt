@@ -11,6 +11,7 @@ use Rattle.rows.specs.Lists.{all, sameList, bytes}
 use Rattle.rows.specs.Layout.{rightLengths}
 use Rattle.rows.proofs.LayoutColumns.{list-same}
 use Rattle.text.specs.Opening.{Form, Line, lastLine, formLine, badLine, Opening as Verdict, opens, refusedAt, linesOf, lineOf, formRefusal, openingOf}
+use Rattle.calls.specs.Answers.{num}
 use Rattle.text.specs.Answers.{okText, noText}
 use Rattle.text.specs.Entry.{replyWith, callEntry, openedBy, openEntry}
 use Rattle.feed.specs.declared.Stage.{Stage}
@@ -118,7 +119,7 @@ module _ (s : Session) (u : Under s) where
     unfolding opened openedBy replyWith stageAfter left withRest repliesOn AtStage plain all noText okText bytes sameList
     verdict-does (opens fs rest) e more =
         rw e
-        (rw (list-same (okText (0 ∷ [])))
+        (rw (list-same (okText (num 0 ∷ [])))
         (record {
           under = record { plain-line = refl; short-line = omega arith; at-stage = refl };
           prints = λ y. sym (ap (λ ls. repliesOn (openingOf ls)) (lines-all y) ∙ ap repliesOn (more (map cut (linesOf y))));
@@ -170,7 +171,7 @@ byte-does s b u = pick (eqb b 10) refl
 -- lines that no line follows
 rest-none : (v : Verdict) → v ≡ withRest [] v → openedBy v .reply ≡ repliesOn v
 unfolding withRest repliesOn openedBy replyWith answersTo
-rest-none (opens fs rest) e = sym (ap repliesOn e ∙ append-nil (okText (0 ∷ [])))
+rest-none (opens fs rest) e = sym (ap repliesOn e ∙ append-nil (okText (num 0 ∷ [])))
 rest-none (refusedAt k n) e = refl
 
 module _ (s : Session) (u : Under s) where

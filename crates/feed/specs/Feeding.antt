@@ -7,6 +7,7 @@ use lib.ListN.{length, take}
 use Rattle.rows.specs.Lists.{if_then_else_, sameList}
 use Rattle.rows.specs.Limits.{mostBytes}
 use Rattle.text.specs.Opening.{FirstPass, readTo, stoppedBy, linesOf, firstPass}
+use Rattle.calls.specs.Answers.{num}
 use Rattle.text.specs.Answers.{okText}
 use Rattle.text.specs.Entry.{openEntry, callEntry}
 use Rattle.feed.specs.declared.Stage.{Stage}
@@ -67,7 +68,7 @@ undecided text = let ls = linesOf text in goesOn (firstPass [] 1 ls) (length ls)
 
 -- (rules K6, K7, K9) calls follow an opening that is accepted; nothing follows one that is refused
 unfoldable pub stageAfter : List ℕ → Stage
-stageAfter reply = if sameList reply (okText (0 ∷ [])) then Calls else Over
+stageAfter reply = if sameList reply (okText (num 0 ∷ [])) then Calls else Over
 
 -- (rules K6, K7, K11) an opening that is decided is answered
 unfoldable pub opened : Session → List ℕ → Step

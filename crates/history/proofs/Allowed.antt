@@ -11,7 +11,7 @@ use Rattle.rows.proofs.Bools.{not-f, pos-some, all-mono}
 use Rattle.rows.proofs.Places.{between-range}
 use Rattle.tables.proofs.Sound.{Sound}
 use Rattle.calls.specs.declared.Call.{Call}
-use Rattle.calls.specs.declared.Call.the-variants.{Go, Hold, Register, Drop, Port, Close, Ask, Fetch, Revoke, Comes, Chain}
+use Rattle.calls.specs.declared.Call.the-variants.{Go, Hold, Register, Drop, Port, Close, Ask, Fetch, Revoke, Comes, Chain, ComesAll}
 use Rattle.calls.specs.Rules.{Out, Test, _when_, isRefusal, refused}
 use Rattle.calls.specs.Loans.{itemsOf}
 use Rattle.calls.specs.Calls.{refusalsGo, refusalsHold, refusalsRegister, refusalsDrop, refusalsPort, refusalsClose, refusalsAsk, refusalsFetch, refusalsAnswer, refusalsRevoke, refusalsComes, refusalsChain, refusals, effect, perform, callerOf}
@@ -37,6 +37,7 @@ Allowed st (Call.Answer p e served) = ServerAllowed st p e
 Allowed st (Revoke p q) = RevokeAllowed st p q
 Allowed st (Comes e q) = ComesAllowed st e q
 Allowed st (Chain e) = ChainAllowed st e
+Allowed st (ComesAll es qs) = some (es .first .first) ≡ true
 
 -- the caller, a process's number, is listed
 caller-listed : (st : State) (p : ℕ) → isProcess p ≡ true → some p && not (isListed (st .processes) p) ≡ false → isListed (st .processes) p ≡ true
@@ -59,6 +60,7 @@ allowed st s (Call.Answer p e served) g l w = answer-allowed st p e (caller-list
 allowed st s (Revoke p q) g l w = revoke-allowed st p q (caller-listed st p (g .caller) l) (number-some q (g .number)) w
 allowed st s (Comes e q) g l w = comes-allowed st e q w
 allowed st s (Chain e) g l w = chain-allowed st e w
+allowed st s (ComesAll es qs) g l w = g .there
 
 -- the tests have the numbers of refusals
 go-numbered : (st : State) (p e : ℕ) → numbered (refusalsGo st p e) ≡ true
@@ -83,6 +85,7 @@ all-numbered st (Call.Answer p e served) = refl
 all-numbered st (Revoke p q) = refl
 all-numbered st (Comes e q) = refl
 all-numbered st (Chain e) = refl
+all-numbered st (ComesAll es qs) = refl
 
 -- ---- the law
 module _ (P : Out → Type 0) (st : State) (s : Sound st) (refusal : (k : ℕ) → isRefusal k ≡ true → P (refused st k)) where

@@ -1,14 +1,14 @@
 -- What `chain` answers is the first chain by the history, and rights never grow along it (rule P31).
 use Prim.Native.Nat.{ℕ, _/_, _%_}
 use native.Mathlib.Omega.{arith}
-use mathlib.Core.Bool.{true, false, not, _&&_}
+use mathlib.Core.Bool.{true, false, _&&_}
 use mathlib.Core.List.{List, [], _∷_, _++_}
 use mathlib.Core.Path.{_≡_, refl, sym, ap, subst, _∙_}
 use mathlib.Core.Logic.{_⊎_, inl, inr, ⊎-elim, _↔_}
 use lib.Dec.{leb, eqb}
 use borrow.Author.Tests.{eqb-true, ne-eqb, leb-true, le-leb}
 use Rattle.rows.specs.declared.Row.{Row}
-use Rattle.rows.specs.Lists.{filter, all, member, some, nonzero, between}
+use Rattle.rows.specs.Lists.{filter, member, some, nonzero, between}
 use Rattle.rows.specs.Limits.{greatestDepth}
 use Rattle.rows.specs.Codes.{isEnd, isNode, isCopied, isOperation, isSubdirectory, operation, subdirectory, within}
 use Rattle.rows.specs.Tables.{State, noRow, rowOf, numbers, sources, firstChain}
@@ -27,7 +27,7 @@ use Rattle.calls.specs.Calls.{refusals, refusalsChain, chainedAnswer, effect, p
 use Rattle.text.specs.declared.Reading.the-variants.{Asks}
 use Rattle.text.specs.CallLines.{readingOf}
 use Rattle.text.specs.Answers.{printed}
-use Rattle.text.specs.ReadBack.{Answered, answeredBy, saying}
+use Rattle.text.specs.ReadBack.{Answered, answeredBy, numbersIn, saying}
 use Rattle.text.specs.Entry.{Replied, callerUnlisted, answered, openEntry, callEntry}
 use Rattle.text.proofs.AnswersBack.{answer-read}
 use Rattle.history.specs.History.{Noted, History}
@@ -41,7 +41,7 @@ use Rattle.history.proofs.Fit.{rooted, isEmpty}
 use Rattle.history.proofs.Inv.{Inv, view}
 use Rattle.history.proofs.Find.{in-tables, row-stands, row-noted}
 use Rattle.history.proofs.Gone.{stands-noted}
-use Rattle.history.proofs.FirstChains.{chain-valued, chain-in-range, chain-some, chain-first, row-found-there}
+use Rattle.history.proofs.FirstChains.{chain-valued, chain-in-range, chain-some, chain-first, numbers-back, row-found-there}
 use Rattle.history.proofs.Standing.{stands-chains}
 use Rattle.history.proofs.Allowed.{Allowed}
 use Rattle.history.proofs.Answered.{read-accepted}
@@ -213,19 +213,19 @@ module _ (h : History) (w : Replied) (a : Along h w) (line : List ℕ) (e : ℕ)
     replied = answered-as h w a line (Call.Chain e) r ∙ ap printed chained
 
     pub reply-accepts : accepts reply ≡ true
-    unfolding accepts
     reply-accepts =
         ap accepts replied
         ∙ read-accepted (chainedAnswer chain) (unfold refusalOf chainedAnswer in refl) (chain-some (a .st) (a .sound) e t) (chain-first (a .st) (a .sound) e t) .good
 
-    reply-values : answeredBy reply .values ≡ chain
+    reply-values : numbersIn (answeredBy reply .values) ≡ chain
     unfolding saying
     reply-values =
-        ap (λ (x : List ℕ). answeredBy x .values) replied
-        ∙ ap (λ (x : Answered). x .values) (answer-read (chainedAnswer chain) (chain-in-range (a .st) (a .sound) e t))
-        ∙ chain-valued (a .st) (a .sound) e t
+        ap (λ (x : List ℕ). numbersIn (answeredBy x .values)) replied
+        ∙ ap (λ (x : Answered). numbersIn (x .values)) (answer-read (chainedAnswer chain) (chain-in-range (a .st) (a .sound) e t))
+        ∙ ap numbersIn (chain-valued (a .st) (a .sound) e t)
+        ∙ numbers-back chain
 
-    pub reply-chain : FirstChain h (stateIn w .rows) e (answeredBy reply .values)
+    pub reply-chain : FirstChain h (stateIn w .rows) e (numbersIn (answeredBy reply .values))
     reply-chain = rw (reply-values, state-in w (a .reply) (a .st) (a .sound) (a .is)) (first-chain h (a .st) (a .inv) (a .sound) e t)
 
   pub accepted-there : accepts reply ≡ true → member e (numbers (a .st .rows)) ≡ true
@@ -239,7 +239,7 @@ module _ (t p text : List ℕ) (ok : Accepted t p text) (lines : List (List ℕ)
   along : Along (toldBy t p text lines) w
   along = along-lines (begun text) (openEntry t p text) (along-opening t p text ok) lines
 
-  pub chain-told : accepts (afterLine w line .reply) ≡ true → FirstChain (toldBy t p text lines) (rowsLent w) e (answeredBy (afterLine w line .reply) .values)
+  pub chain-told : accepts (afterLine w line .reply) ≡ true → FirstChain (toldBy t p text lines) (rowsLent w) e (numbersIn (answeredBy (afterLine w line .reply) .values))
   chain-told acc = reply-chain _ w along line e r (accepted-there _ w along line e r acc)
 
   pub chain-accepted : (accepts (afterLine w line .reply) ≡ true) ↔ Stands (toldBy t p text lines) e

@@ -1,61 +1,48 @@
 -- The first chain of a row on sound tables: its rows, and the answer that holds them.
-use Prim.Native.Nat.{ℕ, zero, suc, _<_, _≤_, zero-le}
+use Prim.Native.Nat.{ℕ, suc, _<_, _≤_, zero-le}
 use native.Mathlib.Omega.{arith}
-use mathlib.Core.Bool.{true, false}
-use mathlib.Core.List.{List, [], _∷_}
-use mathlib.Core.Path.{_≡_, refl, ap}
+use mathlib.Core.Bool.{Bool, true, false, _&&_}
+use mathlib.Core.List.{List, [], _∷_, map}
+use mathlib.Core.Path.{_≡_, refl, ap, _∙_}
 use lib.Dec.{leb, eqb}
-use lib.ListN.{length, getD, length-append}
+use lib.ListN.{length, length-append, length-map}
 use borrow.Author.Tests.{le-leb, leb-true, eqb-false}
-use Rattle.rows.specs.Lists.{filter, all, member, some, nonzero}
+use Rattle.rows.specs.Lists.{all, member, some}
 use Rattle.rows.specs.Limits.{greatestNumber}
 use Rattle.rows.specs.Tables.{State, noRow, rowOf, numbers, firstChain}
 use Rattle.rows.specs.Sound.{nextInRange}
-use Rattle.rows.proofs.Bools.{and-l, and-r, and-i, pos-some}
+use Rattle.rows.proofs.Bools.{and-l, and-i, pos-some}
 use Rattle.rows.proofs.Places.{between-range}
 use Rattle.rows.proofs.RowSources.{row-there}
 use Rattle.tables.proofs.Sound.{Sound}
 use Rattle.tables.proofs.SoundFacts.{row-below}
 use Rattle.tables.proofs.Standing.{depth-falls}
 use Rattle.tables.proofs.FirstChain.{chain-step, chain-length, chain-all}
-use Rattle.calls.specs.Answers.{refusalOf, numbersOf, valuesOf}
+use Rattle.calls.specs.Answers.{num, refusalOf, numbersOf, valuesOf}
 use Rattle.calls.specs.Calls.{fourFrom, chainedAnswer}
-use Rattle.text.specs.ReadBack.{answerInRange}
+use Rattle.text.proofs.Firsts.{firsts, firsts-all}
+use Rattle.text.specs.ReadBack.{numberOf, numbersIn, valueInRange, answerInRange}
 use Rattle.history.proofs.Inv.{firstValue}
 
 -- ---- the numbers that the answer holds
--- k numbers of a list from a position on, 0 for none
-firsts : ℕ → ℕ → List ℕ → List ℕ
-firsts zero i ns = []
-firsts (suc k) i ns = getD ns i 0 ∷ firsts k (suc i) ns
-
-firsts-none : (k i : ℕ) → nonzero (firsts k i []) ≡ []
-unfolding firsts nonzero filter some
-firsts-none zero i = refl
-firsts-none (suc k) i = firsts-none k (suc i)
-
-firsts-rest : (k i n : ℕ) (ns : List ℕ) → firsts k (suc i) (n ∷ ns) ≡ firsts k i ns
-unfolding firsts
-firsts-rest zero i n ns = refl
-firsts-rest (suc k) i n ns = ap (λ (l : List ℕ). getD ns i 0 ∷ l) (firsts-rest k (suc i) n ns)
-
-firsts-all : (k : ℕ) (ns : List ℕ) → length ns ≤ k → all some ns ≡ true → nonzero (firsts k 0 ns) ≡ ns
-unfolding firsts nonzero filter all
-firsts-all zero [] h a = refl
-firsts-all zero (n ∷ ns) h a = absurd (omega arith)
-firsts-all (suc k) [] h a = firsts-none (suc k) 0
-firsts-all (suc k) (n ∷ ns) h a =
-    rw (and-l (some n) (all some ns) a, firsts-rest k 0 n ns)
-    (ap (λ (l : List ℕ). n ∷ l) (firsts-all k ns (omega arith) (and-r (some n) (all some ns) a)))
-
-pub chain-values : (ns : List ℕ) → length ns ≤ 12 → all some ns ≡ true → valuesOf (chainedAnswer ns) ≡ ns
+pub chain-values : (ns : List ℕ) → length ns ≤ 12 → all some ns ≡ true → valuesOf (chainedAnswer ns) ≡ map num ns
 unfolding valuesOf chainedAnswer numbersOf fourFrom firsts
-chain-values ns h a = firsts-all 12 ns h a
+chain-values ns h a = ap (map num) (firsts-all 12 ns h a)
 
-first-ranged : (ns : List ℕ) → all (λ n. leb n greatestNumber) ns ≡ true → firstValue ns ≤ greatestNumber
+first-ranged : (ns : List ℕ) → all (λ n. leb n greatestNumber) ns ≡ true → firstValue (map num ns) ≤ greatestNumber
 unfolding all firstValue
 first-ranged [] a = zero-le
 first-ranged (n ∷ ns) a = leb-true n greatestNumber (and-l (leb n greatestNumber) _ a)
+
+values-ranged : (ns : List ℕ) → all valueInRange (map num ns) ≡ all (λ n. leb n greatestNumber) ns
+unfolding all valueInRange
+values-ranged [] = refl
+values-ranged (n ∷ ns) = ap (λ (b : Bool). leb n greatestNumber && b) (values-ranged ns)
+
+pub numbers-back : (ns : List ℕ) → numbersIn (map num ns) ≡ ns
+unfolding numbersIn numberOf
+numbers-back [] = refl
+numbers-back (n ∷ ns) = ap (λ (l : List ℕ). n ∷ l) (numbers-back ns)
 
 -- ---- its rows
 module _ (st : State) (s : Sound st) where
@@ -66,7 +53,7 @@ module _ (st : State) (s : Sound st) where
     chain-short : member e (numbers (st .rows)) ≡ true → length ns ≤ 12
     chain-short t = let h = chain-length st s e in let (a, b, deep) = depth-falls st (s .numbers) (s .rows) e t in omega arith
 
-    pub chain-valued : member e (numbers (st .rows)) ≡ true → valuesOf (chainedAnswer ns) ≡ ns
+    pub chain-valued : member e (numbers (st .rows)) ≡ true → valuesOf (chainedAnswer ns) ≡ map num ns
     chain-valued t = chain-values ns (chain-short t) (chain-all st s some (λ n u. pos-some n (row-below st (s .numbers) n u .0)) e)
 
     ranged : all (λ n. leb n greatestNumber) ns ≡ true
@@ -77,13 +64,13 @@ module _ (st : State) (s : Sound st) where
 
     pub chain-in-range : member e (numbers (st .rows)) ≡ true → answerInRange (chainedAnswer ns) ≡ true
     unfolding answerInRange greatestNumber
-    chain-in-range t = rw (chain-valued t) (unfold refusalOf chainedAnswer in (and-i (leb 0 greatestNumber) _ refl ranged))
+    chain-in-range t = rw (chain-valued t) (unfold refusalOf chainedAnswer in (and-i (leb 0 greatestNumber) _ refl (values-ranged ns ∙ ranged)))
 
     -- the answer has a value, and that is in range
     pub chain-some : member e (numbers (st .rows)) ≡ true → 0 < length (valuesOf (chainedAnswer ns))
     chain-some t =
         let long = length-append (firstChain (st .rows) (rowOf (st .rows) e .source)) (e ∷ []) in
-        rw (chain-valued t, chain-step st s e t) (omega arith)
+        rw (chain-valued t, length-map ns num, chain-step st s e t) (omega arith)
 
     pub chain-first : member e (numbers (st .rows)) ≡ true → firstValue (valuesOf (chainedAnswer ns)) ≤ greatestNumber
     chain-first t = rw (chain-valued t) (first-ranged ns ranged)

@@ -11,7 +11,7 @@ use Rattle.rows.specs.Codes.{isEnd}
 use Rattle.rows.specs.Tables.{State, rowOf, processAt, isListed, sources, goesBack}
 use Rattle.calls.specs.declared.Call.{Call}
 use Rattle.calls.specs.declared.Answer.{Answer}
-use Rattle.calls.specs.Answers.{refusalOf, valuesOf}
+use Rattle.calls.specs.Answers.{Value, num, dash, refusalOf, valuesOf}
 use Rattle.history.specs.History.{Noted, Loan, OnLoan, History}
 use Rattle.history.specs.Notes.{standing, stands, openLoans, lastGo, loansSettled}
 use Rattle.history.specs.Reading.{noteCall}
@@ -69,10 +69,11 @@ loansIn rs (v ∷ vs) = map (λ e. record { request = v .number; lent = e }) (en
 pub record Lends (h : History) (st : State) : Type 0 where
   pub lends : loansIn (st .rows) (st .requests) ≡ h .loans
 
--- the first value of an answer
-unfoldable pub firstValue : List ℕ → ℕ
+-- the first value of an answer, 0 for none and for `-`
+unfoldable pub firstValue : List Value → ℕ
 firstValue [] = 0
-firstValue (n ∷ ns) = n
+firstValue (num n ∷ vs) = n
+firstValue (dash ∷ vs) = 0
 
 -- what the history is after a call and its answer
 unfoldable pub noteAnswer : History → Call → Answer → History

@@ -14,10 +14,10 @@ use Rattle.rows.proofs.Bools.{clash, and-l, and-r, not-t, all-at}
 use Rattle.tables.proofs.Sound.{Sound, sound-open}
 use Rattle.rows.proofs.LayoutColumns.{list-same}
 use Rattle.tables.proofs.Words.{state-words, words-state, sound-words}
-use Rattle.calls.specs.Answers.{refusalOf, valuesOf}
+use Rattle.calls.specs.Answers.{num, refusalOf, valuesOf}
 use Rattle.calls.specs.Rules.{Out, isRefusal}
 use Rattle.text.specs.Opening.{Form, Opening, opens, refusedAt, linesOf, openingOf}
-use Rattle.text.specs.Answers.{decimal, digitsOf, spaced, okText, noText, printed}
+use Rattle.text.specs.Answers.{decimal, digitsOf, valueText, spaced, okText, noText, printed}
 use Rattle.text.specs.Entry.{Replied, callOn, replyWith, replyOf, callEntry, stateOpened, openedBy, openEntry}
 use Rattle.text.specs.Session.{answers, sessionOf, session}
 use Rattle.text.proofs.Opening.{opened-sound}
@@ -43,7 +43,7 @@ misfit : (t p text : List ℕ) → rightLengths t p ≡ false → openEntry t p 
 unfolding openEntry
 misfit t p text l = rw l refl
 
-call-fits : (t p line : List ℕ) → soundWords t p ≡ true → callEntry t p line ≡ replyOf (callOn (stateOf t p) line)
+pub call-fits : (t p line : List ℕ) → soundWords t p ≡ true → callEntry t p line ≡ replyOf (callOn (stateOf t p) line)
 unfolding callEntry
 call-fits t p line e = rw e refl
 
@@ -57,7 +57,7 @@ pub record Opened (t p text : List ℕ) : Type 0 where
   pub forms : List Form
   pub rest : List (List ℕ)
   pub reads : openingOf (linesOf text) ≡ opens forms rest
-  pub is : openEntry t p text ≡ replyWith (okText (0 ∷ [])) (stateOpened forms)
+  pub is : openEntry t p text ≡ replyWith (okText (num 0 ∷ [])) (stateOpened forms)
 
 pub opened-as : (t p text : List ℕ) → accepts (openEntry t p text .reply) ≡ true → Opened t p text
 unfolding openedBy replyWith
@@ -76,7 +76,7 @@ reply-sound text st s = sound-words st s
 opened-kept : (t p text : List ℕ) → accepts (openEntry t p text .reply) ≡ true → soundWords (openEntry t p text .tables) (openEntry t p text .processes) ≡ true
 opened-kept t p text a =
     let o = opened-as t p text a in
-    ap (λ w. soundWords (w .tables) (w .processes)) (o .is) ∙ reply-sound (okText (0 ∷ [])) (stateOpened (o .forms)) (opened-sound (linesOf text) (o .rest) (o .forms) (o .reads))
+    ap (λ w. soundWords (w .tables) (w .processes)) (o .is) ∙ reply-sound (okText (num 0 ∷ [])) (stateOpened (o .forms)) (opened-sound (linesOf text) (o .rest) (o .forms) (o .reads))
 
 refused-empty : (t p text : List ℕ) → rightLengths t p ≡ true → accepts (openEntry t p text .reply) ≡ false
     → (openEntry t p text .tables ≡ wordsOf empty) × (openEntry t p text .processes ≡ recordsOf (empty .processes))
@@ -95,7 +95,6 @@ called-kept t p line e =
 
 -- an answer without a refusal is read as accepted
 accepted-read : (st : State) → Sound st → (line : List ℕ) → refusalOf (callOn st line .answer) ≡ 0 → accepts (printed (callOn st line .answer)) ≡ true
-unfolding accepts
 accepted-read st s line z = let k = call-spoken st s line in read-accepted (callOn st line .answer) z (k .has-value z) (k .in-range z) .good
 
 refused-kept : (t p line : List ℕ) → accepts (callEntry t p line .reply) ≡ false → (callEntry t p line .tables ≡ t) × (callEntry t p line .processes ≡ p)
@@ -135,7 +134,7 @@ member-down (suc m) k h l = pick (member-down m k h) (eqb k (suc m)) refl
 
 -- of the refusals to 18, 1 alone is printed as `(no 1)`
 not-printed-one : all (λ k. eqb k 1 || not (sameList (noText (k ∷ [])) (noText (1 ∷ [])))) (downFrom 18) ≡ true
-unfolding all downFrom sameList noText spaced digitsOf decimal bytes
+unfolding all downFrom sameList noText spaced valueText digitsOf decimal bytes
 not-printed-one = refl
 
 printed-one : (k : ℕ) → isRefusal k ≡ true → noText (k ∷ []) ≡ noText (1 ∷ []) → ⊥
@@ -199,8 +198,8 @@ session-is : (t p input : List ℕ) → rightLengths t p ≡ true → (fs : List
     → session input ≡ openEntry t p input .reply ++ joined (repliesTo (openEntry t p input) ls)
 unfolding session sessionOf openedBy
 session-is t p input l fs ls e =
-    ap sessionOf e ∙ ap (λ a. okText (0 ∷ []) ++ a) (answers-replied (okText (0 ∷ [])) (stateOpened fs) (opened-sound (linesOf input) ls fs e) ls)
-    ∙ sym (ap (λ r. r ++ joined (repliesTo (replyWith (okText (0 ∷ [])) (stateOpened fs)) ls)) (reply-text (okText (0 ∷ [])) (stateOpened fs)))
+    ap sessionOf e ∙ ap (λ a. okText (num 0 ∷ []) ++ a) (answers-replied (okText (num 0 ∷ [])) (stateOpened fs) (opened-sound (linesOf input) ls fs e) ls)
+    ∙ sym (ap (λ r. r ++ joined (repliesTo (replyWith (okText (num 0 ∷ [])) (stateOpened fs)) ls)) (reply-text (okText (num 0 ∷ [])) (stateOpened fs)))
     ∙ sym (ap (λ w. w .reply ++ joined (repliesTo w ls)) (opening-fits t p input l ∙ ap openedBy e))
 
 pub kept : Kept

@@ -4,7 +4,7 @@ use mathlib.Core.List.{List}
 use Rattle.rows.specs.Tables.{State}
 use Rattle.tables.proofs.Sound.{Sound}
 use Rattle.calls.specs.declared.Call.{Call}
-use Rattle.calls.specs.declared.Call.the-variants.{Go, Hold, Register, Drop, Port, Close, Ask, Fetch, Revoke, Comes, Chain}
+use Rattle.calls.specs.declared.Call.the-variants.{Go, Hold, Register, Drop, Port, Close, Ask, Fetch, Revoke, Comes, Chain, ComesAll}
 use Rattle.calls.specs.Loans.{itemsOf}
 use Rattle.calls.specs.Rules.{askedOf, refused}
 use Rattle.calls.specs.Calls.{done, made, effect}
@@ -31,6 +31,7 @@ effect-kept st s (Call.Answer p e served) a = close-request-kept st s (askedOf s
 effect-kept st s (Revoke p q) a = close-request-kept st s q (a .number)
 effect-kept st s (Comes e q) a = s
 effect-kept st s (Chain e) a = s
+effect-kept st s (ComesAll es qs) a = s
 
 pub call-kept : (st : State) → Sound st → (line : List ℕ) → Sound (callOn st line .after)
 unfolding refused

@@ -24,7 +24,7 @@ use Rattle.closing.specs.Closing.{closing, closeRequest, closePort, dropRow, is
 use Rattle.closing.proofs.Lookups.{left-keys}
 use Rattle.calls.specs.declared.Item.{Item}
 use Rattle.calls.specs.declared.Call.{Call}
-use Rattle.calls.specs.declared.Call.the-variants.{Go, Hold, Register, Drop, Port, Close, Ask, Fetch, Revoke, Comes, Chain}
+use Rattle.calls.specs.declared.Call.the-variants.{Go, Hold, Register, Drop, Port, Close, Ask, Fetch, Revoke, Comes, Chain, ComesAll}
 use Rattle.calls.specs.Rules.{Out, refused, askedOf, withNewRows, withRecord}
 use Rattle.calls.specs.Loans.{Lending, itemsOf, moves, toSystem, lendEnd, lendCopy, lendItem, lendItems, lent, withRequest, handedTo, handedOver}
 use Rattle.calls.specs.Calls.{done, made, goHome, goThrough, withHeld, withRegistered, withPort, effect}
@@ -134,6 +134,7 @@ module _ (st : State) (s : Sound st) (n : ℕ) (e : isNode (rowOf (st .rows) n .
   effect-stays (Revoke p q) a = request-stays q (a .number)
   effect-stays (Comes d q) a = t
   effect-stays (Chain d) a = t
+  effect-stays (ComesAll es qs) a = t
 
 -- (rule P8) a row in a node of sound tables is there after every call line
 pub nodes-never-vanish : (st : State) → Sound st → (n : ℕ) → isNode (rowOf (st .rows) n .place) ≡ true → (line : List ℕ) → member n (numbers (callOn st line .after .rows)) ≡ true

@@ -9,6 +9,10 @@ pub mod Demand3
 pub mod Kept
 -- what `chain` answers, by the history
 pub mod ChainTold
+-- what `comes` answers, by the history
+pub mod ComesTold
+-- what `comesall` answers, by the single question
+pub mod PairsTold
 -- rows of nodes never vanish; the rights of a copy are within those of its row
 pub mod Laws
 -- ---- the history by itself
@@ -29,6 +33,8 @@ pub mod Inv
 pub mod View
 -- the first chain of a row: its rows, and the answer that holds them
 pub mod FirstChains
+-- the values of what comesall answers
+pub mod PairValues
 -- every property of every answer: refusals have it, and the effects of calls that are allowed
 pub mod Allowed
 -- what a refusal and an accepted answer leave of the invariant

@@ -3,7 +3,7 @@ use mathlib.Core.Path.{refl, _∙_}
 use Rattle.rows.specs.Tables.{State}
 use Rattle.tables.proofs.Sound.{Sound}
 use Rattle.calls.specs.declared.Call.{Call}
-use Rattle.calls.specs.declared.Call.the-variants.{Go, Hold, Register, Drop, Port, Close, Ask, Fetch, Revoke, Comes, Chain}
+use Rattle.calls.specs.declared.Call.the-variants.{Go, Hold, Register, Drop, Port, Close, Ask, Fetch, Revoke, Comes, Chain, ComesAll}
 use Rattle.calls.specs.Answers.{refusalOf, valuesOf}
 use Rattle.calls.specs.Rules.{askedOf}
 use Rattle.calls.specs.Loans.{itemsOf}
@@ -38,6 +38,7 @@ module _ (h : History) (st : State) (i : Inv h st) (l : Lends h st) (s : Sound s
   effect-lends (Revoke p q) a k = taken-done _ k (request-settles h st i l s q q)
   effect-lends (Comes e q) a k = taken _ _ refl refl k (λ i. calm _ _ i (l .lends))
   effect-lends (Chain e) a k = taken _ _ refl refl k (λ i. calm _ _ i (l .lends))
+  effect-lends (ComesAll es qs) a k = taken _ _ refl refl k (λ i. calm _ _ i (l .lends))
 
 pub call-lends : (h : History) (st : State) → Inv h st → Lends h st → Sound st → (c : Call) → Good c → LendsAfter h c (answered st (Asks c))
 call-lends h st i l s c g =

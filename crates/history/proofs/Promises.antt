@@ -26,6 +26,8 @@ use Rattle.history.specs.Promises.{Promises, Accepted, afterLines, toldB
 use Rattle.history.proofs.Demand3.{demand3}
 use Rattle.history.proofs.Kept.{kept}
 use Rattle.history.proofs.ChainTold.{chain-told, chain-accepted}
+use Rattle.history.proofs.ComesTold.{comes-told, comes-accepted}
+use Rattle.history.proofs.PairsTold.{comes-all-told}
 use Rattle.history.proofs.Laws.{nodes-never-vanish, rights-never-grow}
 
 -- ---- demand 3, taken apart
@@ -89,6 +91,9 @@ promises =
       rights-never-grow = rights-never-grow;
       chain-told = chain-told;
       chain-accepted = chain-accepted;
+      comes-all-told = λ t p line es qs so. comes-all-told t p so line es qs;
+      comes-accepted = comes-accepted;
+      comes-told = comes-told;
       never-wrapped = never-wrapped;
       call-read = call-read;
       answer-read = answer-read;

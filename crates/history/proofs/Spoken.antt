@@ -8,7 +8,7 @@ use lib.ListN.{length}
 use lib.Dec.{leb, ltb, eqb}
 use borrow.Author.Tests.{ltb-true, leb-true, le-leb}
 use Rattle.rows.specs.declared.Request.{Request}
-use Rattle.rows.specs.Lists.{all, member, firstWith}
+use Rattle.rows.specs.Lists.{all, member, some, firstWith}
 use Rattle.rows.specs.Limits.{greatestNumber}
 use Rattle.rows.specs.Tables.{State, noRequest, rowOf, numbers, openOn}
 use Rattle.rows.specs.Sound.{nextInRange}
@@ -17,8 +17,9 @@ use Rattle.tables.proofs.Sound.{Sound}
 use Rattle.rows.proofs.Places.{between-range}
 use Rattle.tables.proofs.SoundFacts.{requests-below}
 use Rattle.calls.specs.declared.Answer.the-variants.{Fetched, Told}
+use Rattle.calls.specs.declared.Sixteen.{Sixteen}
 use Rattle.calls.specs.declared.Call.{Call}
-use Rattle.calls.specs.declared.Call.the-variants.{Go, Hold, Register, Drop, Port, Close, Ask, Fetch, Revoke, Comes, Chain}
+use Rattle.calls.specs.declared.Call.the-variants.{Go, Hold, Register, Drop, Port, Close, Ask, Fetch, Revoke, Comes, Chain, ComesAll}
 use Rattle.calls.specs.Answers.{refusalOf, valuesOf}
 use Rattle.calls.specs.Rules.{Out, isRefusal, refused, askedOf}
 use Rattle.calls.specs.Loans.{itemsOf, copies}
@@ -28,6 +29,7 @@ use Rattle.text.specs.Entry.{callOn}
 use Rattle.history.proofs.Inv.{firstValue}
 use Rattle.history.proofs.Allowed.{Allowed, line-has}
 use Rattle.history.proofs.FirstChains.{chain-some, chain-first, row-found-there}
+use Rattle.history.proofs.PairValues.{pairs-some, pairs-first}
 
 pub record Spoken (st : State) (o : Out) : Type 0 where
   pub has-value : refusalOf (o .answer) ≡ 0 → 0 < length (valuesOf (o .answer))
@@ -72,6 +74,11 @@ chained-spoken : (st : State) → Sound st → (e : ℕ) → member e (numbers (
 unfolding effect
 chained-spoken st s e t = accepted-spoken st _ (unfold refusalOf chainedAnswer in refl) (chain-some st s e t) (chain-first st s e t)
 
+-- what is told of the first pair is there, a number or `-`
+pairs-spoken : (st : State) (es qs : Sixteen) → some (es .first .first) ≡ true → Spoken st (effect st (ComesAll es qs))
+unfolding effect
+pairs-spoken st es qs t = accepted-spoken st _ (unfold refusalOf in refl) (pairs-some st es qs t) (pairs-first _)
+
 -- ---- the calls
 -- a number is left, so the next one is in range
 next-spoken : (st : State) (k : ℕ) (after : State) → 0 < k → st .next + k ≤ suc greatestNumber → Spoken st (made (st .next) after)
@@ -115,6 +122,7 @@ effect-spoken st s (Call.Answer p e served) a = done-spoken st _
 effect-spoken st s (Revoke p q) a = done-spoken st _
 effect-spoken st s (Comes e q) a = told-spoken st _ _
 effect-spoken st s (Chain e) a = chained-spoken st s e (row-found-there st e (a .row))
+effect-spoken st s (ComesAll es qs) a = pairs-spoken st es qs a
 
 -- ---- a line
 pub call-spoken : (st : State) → Sound st → (line : List ℕ) → Spoken st (callOn st line)

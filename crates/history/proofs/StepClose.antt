@@ -68,7 +68,7 @@ close-spoils c lo h r =
 
 -- ---- numbers of open requests
 module _ (st : State) (s : Sound st) where
-  found-there : (key : Request → ℕ) (n : ℕ) → eqb (firstWith key noRequest (st .requests) n .number) 0 ≡ false → member n (map key (st .requests)) ≡ true
+  pub found-there : (key : Request → ℕ) (n : ℕ) → eqb (firstWith key noRequest (st .requests) n .number) 0 ≡ false → member n (map key (st .requests)) ≡ true
   unfolding noRequest
   found-there key n e = first-there key noRequest (λ v. not (eqb (v .number) 0)) refl (st .requests) n (ap not e)
 
@@ -118,7 +118,7 @@ member-one v q ks = pick (eqb v q)
 
 module _ (h : History) (st : State) (i : Inv h st) (s : Sound st) where
   -- ---- revoke, answer
-  revoked-inv : (q : ℕ) → 0 < q → q < st .next → Inv (noteRevoke q h) (closeRequest q st)
+  pub revoked-inv : (q : ℕ) → 0 < q → q < st .next → Inv (noteRevoke q h) (closeRequest q st)
   unfolding closeRequest noteRevoke
   revoked-inv q lo hi =
       closed-keeps h (noteRevoke q h) st (λ r. eqb (r .request) q) (bears q) (q ∷ []) i (s .numbers .rows-rise) refl refl refl

@@ -3,7 +3,7 @@ use mathlib.Core.Path.{refl}
 use Rattle.rows.specs.Tables.{State}
 use Rattle.tables.proofs.Sound.{Sound}
 use Rattle.calls.specs.declared.Call.{Call}
-use Rattle.calls.specs.declared.Call.the-variants.{Go, Hold, Register, Drop, Port, Close, Ask, Fetch, Revoke, Comes, Chain}
+use Rattle.calls.specs.declared.Call.the-variants.{Go, Hold, Register, Drop, Port, Close, Ask, Fetch, Revoke, Comes, Chain, ComesAll}
 use Rattle.calls.specs.Answers.{refusalOf, valuesOf}
 use Rattle.calls.specs.Rules.{askedOf}
 use Rattle.calls.specs.Loans.{itemsOf}
@@ -35,6 +35,7 @@ effect-keeps h st i s (Call.Answer p e served) a = taken-done _ (served-inv h st
 effect-keeps h st i s (Revoke p q) a = taken-done _ (revoke-inv h st i s p q a)
 effect-keeps h st i s (Comes e q) a = taken _ _ refl refl i
 effect-keeps h st i s (Chain e) a = taken _ _ refl refl i
+effect-keeps h st i s (ComesAll es qs) a = taken _ _ refl refl i
 
 pub call-inv : (h : History) (st : State) → Inv h st → Sound st → (c : Call) → Good c → Keeps h c (answered st (Asks c))
 call-inv h st i s c g = call-has (Keeps h c) st s (refused-keeps h c st i) c g (effect-keeps h st i s c)

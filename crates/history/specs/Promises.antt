@@ -14,17 +14,18 @@ use Rattle.rows.specs.Codes.{isServer, isEnd, inClist, isClist, isSystem, isNod
 use Rattle.rows.specs.Tables.{State, empty, rowOf, numbers, sources, reaches, marked}
 use Rattle.rows.specs.Sound.{sound}
 use Rattle.rows.specs.Layout.{wordsOf, recordsOf, stateOf, rightLengths, soundWords, clearedTables, clearedProcesses}
+use Rattle.calls.specs.declared.Sixteen.{Sixteen}
 use Rattle.calls.specs.declared.Call.{Call}
-use Rattle.calls.specs.declared.Call.the-variants.{Revoke, Chain}
+use Rattle.calls.specs.declared.Call.the-variants.{Revoke, Comes, Chain, ComesAll}
 use Rattle.calls.specs.declared.Answer.{Answer}
 use Rattle.closing.specs.Closing.{closeRequest, closePort}
 use Rattle.closing.specs.Steps.{closeRequestBySteps, closePortBySteps}
 use Rattle.text.specs.declared.Reading.the-variants.{Asks}
 use Rattle.text.specs.Patterns.{isDigit, run, digits}
 use Rattle.text.specs.CallLines.{readingOf}
-use Rattle.text.specs.Answers.{noText, printed}
+use Rattle.text.specs.Answers.{okText, noText, printed}
 use Rattle.text.specs.Opening.{Form, opens, linesOf, openingOf}
-use Rattle.text.specs.ReadBack.{callText, InRange, answeredBy, saying, answerInRange}
+use Rattle.text.specs.ReadBack.{pairsOf, callText, InRange, answeredBy, numbersIn, saying, answerInRange}
 use Rattle.text.specs.Entry.{Replied, openEntry, callEntry, callOn}
 use Rattle.text.specs.Session.{session}
 use Rattle.history.specs.History.{History}
@@ -33,6 +34,7 @@ use Rattle.history.specs.Chains.{aRequest, aPort, IsPort, AskedOver, Gon
 use Rattle.history.specs.Reading.{begun, accepts, noteLine, historyAfter}
 use Rattle.history.specs.Demand3.{Demand3, lentAfter, repliesTo, stateIn}
 use Rattle.history.specs.FirstChains.{FirstChain}
+use Rattle.history.specs.ComesTold.{comesTold, IsOpen, RightOf}
 use Rattle.history.specs.Kept.{Kept, joined}
 
 -- ---- a session
@@ -141,11 +143,23 @@ pub record Promises : Type 0 where
   pub chain-told : (t p text : List ℕ) → Accepted t p text → (lines : List (List ℕ)) (line : List ℕ) (e : ℕ) →
       let w = afterLines t p text lines in
       readingOf line ≡ Asks (Chain e) → accepts (afterLine w line .reply) ≡ true
-      → FirstChain (toldBy t p text lines) (rowsLent w) e (answeredBy (afterLine w line .reply) .values)
+      → FirstChain (toldBy t p text lines) (rowsLent w) e (numbersIn (answeredBy (afterLine w line .reply) .values))
   -- (rules P31, chain-7) and it is accepted for exactly the rows that stand
   pub chain-accepted : (t p text : List ℕ) → Accepted t p text → (lines : List (List ℕ)) (line : List ℕ) (e : ℕ) →
       let w = afterLines t p text lines in
       readingOf line ≡ Asks (Chain e) → (accepts (afterLine w line .reply) ≡ true) ↔ Stands (toldBy t p text lines) e
+  -- (rule P32) of each pair a comesall answers, in its place, what the line `(comes e q)` is answered; no word changes
+  pub comes-all-told : (t p line : List ℕ) (es qs : Sixteen) → soundWords t p ≡ true → readingOf line ≡ Asks (ComesAll es qs)
+      → callEntry t p line ≡ record { reply = okText (map (comesTold t p) (pairsOf es qs)); tables = t; processes = p }
+  -- (rule P33) comes is accepted for exactly the rows that stand and the requests that are open, and answers 1 exactly if the row comes from the request
+  pub comes-accepted : (t p text : List ℕ) → Accepted t p text → (lines : List (List ℕ)) (line : List ℕ) (e q : ℕ) →
+      let w = afterLines t p text lines in
+      let h = toldBy t p text lines in
+      readingOf line ≡ Asks (Comes e q) → (accepts (afterLine w line .reply) ≡ true) ↔ (Stands h e × IsOpen h q)
+  pub comes-told : (t p text : List ℕ) → Accepted t p text → (lines : List (List ℕ)) (line : List ℕ) (e q : ℕ) →
+      let w = afterLines t p text lines in
+      readingOf line ≡ Asks (Comes e q) → accepts (afterLine w line .reply) ≡ true
+      → RightOf (toldBy t p text lines) q e (answeredBy (afterLine w line .reply) .values)
   -- (rule P10) digits are worth their value, with no bound on it, up to 4,294,967,295, which stands for all above it
   pub never-wrapped : (s : List ℕ) (i : ℕ) →
       let n = run isDigit (λ v b. v * 10 + (b - 48)) 0 i (drop i s) .value in

@@ -7,8 +7,7 @@ use Rattle.rows.specs.Lists.{if_then_else_, filter, some}
 use Rattle.calls.specs.declared.Item.{Item}
 use Rattle.calls.specs.declared.Items.{Items}
 use Rattle.calls.specs.declared.Call.{Call}
-use Rattle.calls.specs.declared.Call.the-variants.{Go, Hold, Register, Drop, Port, Close, Ask, Fetch, Revoke, Comes, Chain}
-use Rattle.text.specs.declared.Read.{Read}
+use Rattle.calls.specs.declared.Call.the-variants.{Go, Hold, Register, Drop, Port, Close, Ask, Fetch, Revoke, Comes, Chain, ComesAll}
 use Rattle.text.specs.declared.Reading.{Reading}
 use Rattle.text.specs.declared.Reading.the-variants.{Asks, Crowded, Refused}
 use Rattle.text.specs.Patterns.{form}
@@ -44,18 +43,18 @@ unfoldable pub begun : List ℕ → History
 begun text = begunBy (openingOf (linesOf text))
 
 -- ---- an answer
--- (rules H1, K4) `(ok n ..)` accepts, and n is what is noted
-unfoldable pub answerRead : List ℕ → Read
-answerRead reply = form reply 0 "(ok #"
-
+-- (rules H1, K4) `(ok ..)` accepts; the first number is what is noted
 unfoldable pub accepts : List ℕ → Bool
-accepts reply = answerRead reply .good
+accepts reply = form reply 0 "(ok " .good
+
+unfoldable pub numberAnswered : List ℕ → ℕ
+numberAnswered reply = form reply 0 "(ok #" .c
 
 -- (rule H2) the items of an ask
 unfoldable pub itemsNamed : Items → List Item
 itemsNamed is = filter (λ i. some (i .row)) (is .first ∷ is .second ∷ is .third ∷ is .fourth ∷ [])
 
--- (rules H1, H2) what an accepted call adds; refused lines, `fetch`, `comes` and `chain` add nothing
+-- (rules H1, H2) what an accepted call adds; refused lines, `fetch`, `comes`, `chain` and `comesall` add nothing
 unfoldable pub noteCall : Call → ℕ → History → History
 noteCall (Go p e) n h = noteGo p e h
 noteCall (Hold p s) n h = noteHold p s n h
@@ -69,6 +68,7 @@ noteCall (Call.Answer p v served) n h = noteEnd v h
 noteCall (Revoke p q) n h = noteRevoke q h
 noteCall (Comes e q) n h = h
 noteCall (Chain e) n h = h
+noteCall (ComesAll es qs) n h = h
 
 unfoldable pub noteReading : Reading → ℕ → History → History
 noteReading (Asks c) n h = loansSettled (noteCall c n h)
@@ -77,7 +77,7 @@ noteReading (Refused k) n h = h
 
 -- (rule H1) the history after a line and its answer
 unfoldable pub noteLine : History → List ℕ → List ℕ → History
-noteLine h line reply = let r = answerRead reply in if r .good then noteReading (readingOf line) (r .c) h else h
+noteLine h line reply = if accepts reply then noteReading (readingOf line) (numberAnswered reply) h else h
 
 -- (rule H1) the history after lines and their answers
 unfoldable pub historyAfter : History → List (List ℕ) → List (List ℕ) → History

@@ -5,3 +5,5 @@ pub mod Listed
 pub mod Questions
 -- the first chain, written from the oldest row on
 pub mod Chains
+-- one pass for many pairs
+pub mod PairMarks

@@ -34,6 +34,10 @@ greatestDepth = 12
 unfoldable pub mostItems : ℕ
 mostItems = 4
 
+-- (rules F7, X15) a comesall asks of at most 16 pairs
+unfoldable pub mostPairs : ℕ
+mostPairs = 16
+
 -- (rules O2, X4) a node form has at most 16 entries
 unfoldable pub mostEntries : ℕ
 mostEntries = 16

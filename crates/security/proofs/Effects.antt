@@ -22,8 +22,9 @@ use Rattle.tables.proofs.Sound.{Sound}
 use Rattle.closing.proofs.Lookups.{oldest-none}
 use Rattle.closing.specs.Closing.{listedIn, settled, closing, closeRequest, closePort, dropRow}
 use Rattle.calls.specs.declared.Items.{Items}
+use Rattle.calls.specs.declared.Sixteen.{Sixteen}
 use Rattle.calls.specs.declared.Call.{Call}
-use Rattle.calls.specs.declared.Call.the-variants.{Go, Hold, Register, Drop, Port, Close, Ask, Fetch, Revoke, Comes, Chain}
+use Rattle.calls.specs.declared.Call.the-variants.{Go, Hold, Register, Drop, Port, Close, Ask, Fetch, Revoke, Comes, Chain, ComesAll}
 use Rattle.calls.specs.Rules.{askedOf, withNewRows, copyOf, withRecord}
 use Rattle.calls.specs.Loans.{itemsOf, handedOver}
 use Rattle.calls.specs.Calls.{heldDepth, registeredDepth, portDepth, portEnd, inUse, done, made, goHome, goThrough, withHeld, withRegistered, withPort, effect}
@@ -72,10 +73,15 @@ pub record Plain (st : State) (c : Call) : Type 0 where
   -- it discards no row of a node
   pub spares : (n : ℕ) → isNode (rowOf (st .rows) n .place) ≡ true → discards c (rowOf (st .rows) n) ≡ false
 
+-- ---- a call that asks and changes nothing
+pub data Question : Call → Type 0 where
+  comes : (e q : ℕ) → Question (Comes e q)
+  chain : (e : ℕ) → Question (Chain e)
+  comes-all : (es qs : Sixteen) → Question (ComesAll es qs)
+
 -- ---- the six kinds
 pub data Effect (st : State) : Call → State → Type 0 where
-  tells : (e q : ℕ) → Effect st (Comes e q) st
-  shows : (e : ℕ) → Effect st (Chain e) st
+  tells : (c : Call) → Question c → Effect st c st
   moves-to : (p e : ℕ) → GoAllowed st p e → Effect st (Go p e) (withRecord p (wentTo st p e) st)
   adds : (c : Call) (rs : List Row) (n : ℕ) → Adds st c rs → n ≡ st .next + length rs → Effect st c (withNewRows (rs ++ st .rows) n st)
   asks : (p c : ℕ) (is : Items) → AskAllowed st p c (itemsOf is) → Effect st (Ask p c is) (askedState st p c (itemsOf is))
@@ -184,5 +190,6 @@ effect-of st s (Ask p c is) a = subst (Effect st (Ask p c is)) (sym (closed-form
 effect-of st s (Fetch p e) a = fetches p e a
 effect-of st s (Call.Answer p e served) a = shuts-off (Call.Answer p e served) _ _ (request-closes st s (Call.Answer p e served) (askedOf st e .number) (a .asked) refl (λ r. refl)) (answer-plain st p e served)
 effect-of st s (Revoke p q) a = revoke-effect st s p q (a .number)
-effect-of st s (Comes e q) a = tells e q
-effect-of st s (Chain e) a = shows e
+effect-of st s (Comes e q) a = tells (Comes e q) (comes e q)
+effect-of st s (Chain e) a = tells (Chain e) (chain e)
+effect-of st s (ComesAll es qs) a = tells (ComesAll es qs) (comes-all es qs)

@@ -8,8 +8,8 @@ use Rattle.rows.specs.Layout.{rightLengths, stateOf}
 use Rattle.tables.proofs.Sound.{Sound}
 use Rattle.tables.proofs.Words.{state-words}
 use Rattle.calls.specs.declared.Call.{Call}
-use Rattle.calls.specs.declared.Call.the-variants.{Go, Hold, Register, Drop, Port, Close, Ask, Fetch, Revoke, Comes, Chain}
-use Rattle.calls.specs.Answers.{valuesOf}
+use Rattle.calls.specs.declared.Call.the-variants.{Go, Hold, Register, Drop, Port, Close, Ask, Fetch, Revoke, Comes, Chain, ComesAll}
+use Rattle.calls.specs.Answers.{num, valuesOf}
 use Rattle.calls.specs.Rules.{Out}
 use Rattle.calls.specs.Calls.{fetchedAnswer, effect}
 use Rattle.text.specs.Opening.{Form}
@@ -40,6 +40,7 @@ answer-logged st log (Call.Answer p v served) = refl
 answer-logged st log (Revoke p q) = refl
 answer-logged st log (Comes e q) = refl
 answer-logged st log (Chain e) = refl
+answer-logged st log (ComesAll es qs) = refl
 
 module _ (st : State) (s : Sound st) (log : Log) (line : List ℕ) where
   abbrev o : Out
@@ -94,7 +95,7 @@ lines-reach : (t p text : List ℕ) → accepts (openEntry t p text .reply) ≡ 
 lines-reach t p text a lines =
     let o = opened-as t p text a in
     let log = fetchesAfter [] lines (repliesTo (openEntry t p text) lines) in
-    let begin : Along (o .forms) [] (openEntry t p text) = record { reply = okText (0 ∷ []); st = stateOpened (o .forms); is = o .is; session = opened text (o .rest) (o .reads) } in
+    let begin : Along (o .forms) [] (openEntry t p text) = record { reply = okText (num 0 ∷ []); st = stateOpened (o .forms); is = o .is; session = opened text (o .rest) (o .reads) } in
     let w = along-lines (o .forms) [] (openEntry t p text) begin lines in
     let s = session-sound (o .forms) log (w .st) (w .session) in
     record {
@@ -122,8 +123,8 @@ module _ (t p : List ℕ) (fits : rightLengths t p ≡ true) where
   left : (fs : List Form) (log : Log) (st : State) → Session fs log st → Left t p st
   unfolding openedBy replyWith lentAfter
   left fs log st (opened text rest e) =
-      let q : openEntry t p text ≡ replyWith (okText (0 ∷ [])) st = opening-fits t p text fits ∙ ap openedBy e in
-      record { text = text; lines = []; reply = okText (0 ∷ []); accepted = ap (λ w. accepts (w .reply)) q ∙ read-ok0; is = q }
+      let q : openEntry t p text ≡ replyWith (okText (num 0 ∷ [])) st = opening-fits t p text fits ∙ ap openedBy e in
+      record { text = text; lines = []; reply = okText (num 0 ∷ []); accepted = ap (λ w. accepts (w .reply)) q ∙ read-ok0; is = q }
   left fs log st (called log′ st′ st″ c x k) =
       let w = left fs log′ st′ x in
       record {

@@ -16,6 +16,7 @@ use Rattle.tables.proofs.Sound.{Sound}
 use Rattle.tables.proofs.SoundFacts.{same-eq, eq-same}
 use Rattle.closing.proofs.Facts.{copy-listed, lists-open, request-number}
 use Rattle.text.specs.Opening.{Form}
+use Rattle.calls.specs.Answers.{num}
 use Rattle.text.specs.Answers.{printed, okText}
 use Rattle.text.specs.Entry.{Replied, callOn, replyWith, callEntry, openEntry, stateOpened}
 use Rattle.calls.specs.Calls.{effect}
@@ -204,7 +205,7 @@ along-opening t p text acc =
     let o = opened-as t p text acc in
     subst (λ fs. Along fs (begun text) [] (formHomes fs) (openEntry t p text)) (sym (ap formsIn (o .reads)))
     (record {
-      reply = okText (0 ∷ []);
+      reply = okText (num 0 ∷ []);
       st = stateOpened (o .forms);
       is = o .is;
       session = opened text (o .rest) (o .reads);

@@ -23,7 +23,7 @@ use Rattle.tables.proofs.SoundFacts.{row-below, next-some}
 use Rattle.calls.specs.declared.Item.{Item}
 use Rattle.calls.specs.declared.Items.{Items}
 use Rattle.calls.specs.declared.Call.{Call}
-use Rattle.calls.specs.declared.Call.the-variants.{Go, Hold, Register, Drop, Port, Close, Ask, Fetch, Revoke, Comes, Chain}
+use Rattle.calls.specs.declared.Call.the-variants.{Go, Hold, Register, Drop, Port, Close, Ask, Fetch, Revoke, Comes, Chain, ComesAll}
 use Rattle.calls.specs.Answers.{valuesOf}
 use Rattle.calls.specs.Rules.{notHeld, withNewRows, withRecord, copyOf}
 use Rattle.calls.specs.Loans.{itemsOf, itemRow, moves, copies, copyLent}
@@ -52,8 +52,8 @@ use Rattle.security.specs.Holders.{Homed, Homes, nowhere, homedOf, withH
 use Rattle.security.proofs.Rows.{Sort, text-row, registered-row, held-row, end-row, copy, sort-of, through-at, clist-no-system, in-prime-node}
 use Rattle.security.proofs.Opened.{opened-text}
 use Rattle.security.proofs.Sessions.{session-has}
-use Rattle.security.proofs.Effects.{Adds, holds, registers, makes, Effect, tells, shows, moves-to, adds, asks, fetches, shuts-off, effect-of}
-use Rattle.security.proofs.Touches.{set-at}
+use Rattle.security.proofs.Effects.{Adds, holds, registers, makes, Effect, tells, moves-to, adds, asks, fetches, shuts-off, effect-of}
+use Rattle.security.proofs.Touches.{question-takes, set-at}
 use Rattle.security.proofs.NewRows.{Newly, held, registered, client, server, copied as lent-copied, first-row, adds-new, asks-new, fetched-rows, lent-number}
 use Rattle.security.proofs.Frames.{same-but-place, same-row}
 use Rattle.security.proofs.PlacesKept.{Held, held-kept, new-unlisted, home-kept}
@@ -244,6 +244,7 @@ unnoted fs h st (Call.Answer p e served) n hs z = refl
 unnoted fs h st (Revoke p e) n hs z = refl
 unnoted fs h st (Comes e q) n hs z = refl
 unnoted fs h st (Chain e) n hs z = refl
+unnoted fs h st (ComesAll es qs) n hs z = refl
 
 -- ---- ask: the copies
 -- what is noted of the rows rs, all of numbers below n
@@ -364,8 +365,7 @@ module _ (fs : List Form) (h : History) (st : State) (i : Inv h st) (s : Sound s
 
     pub right-kept : (st′ : State) → Sound st′ → (c : Call) → Effect st c st′ → Right (hs′ c) st′
     unfolding noteHomes withRecord withNewRows
-    right-kept st′ s′ c (tells e q) = with-notes st′ s′ c (tells e q) (λ n lt. refl) (λ n t u. absurd (u t))
-    right-kept st′ s′ c (shows e) = with-notes st′ s′ c (shows e) (λ n lt. refl) (λ n t u. absurd (u t))
+    right-kept st′ s′ c (tells c′ x) = with-notes st′ s′ c (tells c x) (λ n lt. ap (λ k. homedOf k n) (unnoted fs h st c _ hs (question-takes st c x))) (λ n t u. absurd (u t))
     right-kept st′ s′ c (moves-to p e a) = with-notes st′ s′ c (moves-to p e a) (λ n lt. refl) (λ n t u. absurd (u t))
     right-kept st′ s′ c (adds c′ rs m a z) =
         with-notes st′ s′ c (adds c rs m a z) (adds-old c rs a)

@@ -26,7 +26,7 @@ use Rattle.closing.proofs.Facts.{request-number}
 use Rattle.calls.specs.declared.Item.{Item}
 use Rattle.calls.specs.declared.Items.{Items}
 use Rattle.calls.specs.declared.Call.{Call}
-use Rattle.calls.specs.declared.Call.the-variants.{Go, Hold, Register, Drop, Port, Close, Ask, Fetch, Revoke, Comes, Chain}
+use Rattle.calls.specs.declared.Call.the-variants.{Go, Hold, Register, Drop, Port, Close, Ask, Fetch, Revoke, Comes, Chain, ComesAll}
 use Rattle.calls.specs.declared.Answer.the-variants.{Fetched}
 use Rattle.calls.specs.Answers.{refusalOf}
 use Rattle.calls.specs.Rules.{_when_, lowest, refused, judge, notHeld, hasOpen, askedOf, tooDeep}
@@ -394,6 +394,7 @@ module _ (st st′ : State) (s : Sound st) (s′ : Sound st′) (p : ℕ) (same 
   by-call l lo (Revoke q e) z = subst (λ k. Alikes (Revoke k e)) (sym z) (revoke-alike e)
   by-call l lo (Comes e q) z = absurd (omega arith)
   by-call l lo (Chain e) z = absurd (omega arith)
+  by-call l lo (ComesAll es qs) z = absurd (omega arith)
 
   -- 5 comes first: who is not listed in one is not in the other
   answers-alike : 0 < p → (c : Call) → callerOf c ≡ p → Alike st st′ (answered st (Asks c) .answer) (answered st′ (Asks c) .answer)

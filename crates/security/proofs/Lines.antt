@@ -19,19 +19,18 @@ use Rattle.text.specs.declared.Reading.the-variants.{Asks, Crowded, Refused as 
 use Rattle.text.specs.CallLines.{readingOf}
 use Rattle.text.specs.Answers.{printed}
 use Rattle.text.specs.Entry.{answered, callOn}
-use Rattle.text.proofs.Answers.{Gives}
 use Rattle.text.proofs.Readings.{reading-refused}
-use Rattle.history.specs.Reading.{answerRead, accepts}
+use Rattle.history.specs.Reading.{accepts}
 use Rattle.history.proofs.Inv.{firstValue}
 use Rattle.history.proofs.Spoken.{call-spoken}
-use Rattle.history.proofs.Answered.{read-accepted, read-refused}
+use Rattle.history.proofs.Answered.{Gives, read-accepted, read-refused}
 use Rattle.history.proofs.Allowed.{Allowed}
 use Rattle.security.proofs.Sessions.{refusal-not-zero, Taken, line-taken}
 
 pub data Heard (st : State) (line : List ℕ) : Type 0 where
   refuses : accepts (printed (callOn st line .answer)) ≡ false → callOn st line .after ≡ st → Heard st line
   allows : (c : Call) → readingOf line ≡ Asks c → refusalOf (callOn st line .answer) ≡ 0 → Allowed st c → callOn st line ≡ effect st c
-      → Gives (answerRead (printed (callOn st line .answer))) (firstValue (valuesOf (effect st c .answer))) → Heard st line
+      → Gives (printed (callOn st line .answer)) (firstValue (valuesOf (effect st c .answer))) → Heard st line
 
 crowded-refused : (st : State) (p : ℕ) → refusalOf (answered st (Crowded p) .answer) ≡ 0 → ⊥
 unfolding answered refused refusalOf numbered all
@@ -51,7 +50,7 @@ heard st s line = pick (eqb (refusalOf (o .answer)) 0) refl
         let k = call-spoken st s line in
         let t : Taken st c (callOn st line) = line-taken st s line c e z in
         let g = read-accepted (o .answer) z (k .has-value z) (k .in-range z) in
-        allows c e z (t .allowed) (t .is) (subst (λ x. Gives (answerRead (printed (o .answer))) (firstValue (valuesOf (x .answer)))) (t .is) g)
+        allows c e z (t .allowed) (t .is) (subst (λ x. Gives (printed (o .answer)) (firstValue (valuesOf (x .answer)))) (t .is) g)
     accepted z (Crowded p) e = absurd (crowded-refused st p (sym (ap (λ r. refusalOf (answered st r .answer)) e) ∙ z))
     accepted z (BadLine k) e = absurd (refusal-not-zero k (reading-refused line k e) (sym (ap (λ r. refusalOf (answered st r .answer)) e) ∙ z))
 

@@ -34,8 +34,8 @@ use Rattle.history.proofs.KeptCalls.{effect-kept}
 use Rattle.security.specs.Sessions.{IsOpen, Log, logged, nobody, fetcherOf, Session}
 use Rattle.security.specs.Changes.{shuts, fetchedBy, requestAfter, Touches}
 use Rattle.security.proofs.Sessions.{session-has}
-use Rattle.security.proofs.Effects.{Effect, tells, shows, moves-to, adds, asks, fetches, shuts-off, effect-of}
-use Rattle.security.proofs.Touches.{adds-still, touches}
+use Rattle.security.proofs.Effects.{Effect, tells, moves-to, adds, asks, fetches, shuts-off, effect-of}
+use Rattle.security.proofs.Touches.{question-still, adds-still, touches}
 use Rattle.security.proofs.Listers.{fetched-by, fetched-else}
 use Rattle.security.proofs.Numbers.{request-below}
 
@@ -119,8 +119,7 @@ module _ (st st′ : State) (p e : ℕ) (s : Sound st) (s′ : Sound st′) (x :
 
 logged-kept : (st st′ : State) (c : Call) → Sound st → Sound st′ → Effect st c st′ → (log : Log) → Logged log st → Logged (logged st c log) st′
 unfolding fetchedBy logged withRecord withNewRows handedOver settled
-logged-kept st st′ c s s′ (tells e q) log h = unfetching st st′ c s s′ (tells e q) log h (λ v. refl) refl (λ q t u. absurd (u t))
-logged-kept st st′ c s s′ (shows e) log h = unfetching st st′ c s s′ (shows e) log h (λ v. refl) refl (λ q t u. absurd (u t))
+logged-kept st st′ c s s′ (tells c′ x) log h = let k = question-still st c x in unfetching st st′ c s s′ (tells c x) log h (k .unfetched) (k .unlogged log) (λ q t u. absurd (u t))
 logged-kept st st′ c s s′ (moves-to p e a) log h = unfetching st st′ c s s′ (moves-to p e a) log h (λ v. refl) refl (λ q t u. absurd (u t))
 logged-kept st st′ c s s′ (adds c′ rs n a z) log h = unfetching st st′ c s s′ (adds c rs n a z) log h (adds-still st c rs a .unfetched) (adds-still st c rs a .unlogged log) (λ q t u. absurd (u t))
 logged-kept st st′ c s s′ (asks p d is a) log h = unfetching st st′ c s s′ (asks p d is a) log h (λ v. refl) refl (ask-fresh st p d (itemsOf is))

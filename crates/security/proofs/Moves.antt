@@ -37,8 +37,8 @@ use Rattle.security.specs.Changes.{goes, shuts, placeBack, placeAfter, T
 use Rattle.security.specs.Authority.{ByClosing, Arrives, held, registered, client, server, copied, lent, fetched, returned, Moves}
 use Rattle.security.proofs.Rows.{item-moves, asked-lists}
 use Rattle.security.proofs.Closings.{Closes}
-use Rattle.security.proofs.Effects.{Effect, tells, shows, moves-to, adds, asks, fetches, shuts-off, Plain}
-use Rattle.security.proofs.Touches.{place-own, any-agree, adds-still, touches}
+use Rattle.security.proofs.Effects.{Effect, tells, moves-to, adds, asks, fetches, shuts-off, Plain}
+use Rattle.security.proofs.Touches.{place-own, any-agree, question-still, adds-still, touches}
 use Rattle.security.proofs.NewRows.{Newly, held as newly-held, registered as newly-registered, client as newly-client, server as newly-server, copied as newly-copied, new-row}
 
 pub within-self : (r : ℕ) → within r r ≡ true
@@ -199,8 +199,7 @@ module _ (st : State) (s : Sound st) where
   stays-or : (c : Call) (st′ : State) → Effect st c st′ → (n : ℕ) → IsRow st n → IsRow st′ n → (r : Row) → r .place ≡ placeAfter st c (rowOf (st .rows) n)
       → (placeAfter st c (rowOf (st .rows) n) ≡ rowOf (st .rows) n .place) ⊎ Arrives st n r c
   unfolding placeAfter
-  stays-or c st′ (tells e q) n t t′ r z = inl refl
-  stays-or c st′ (shows e) n t t′ r z = inl refl
+  stays-or c st′ (tells c′ x) n t t′ r z = inl (question-still st c x .placed (rowOf (st .rows) n))
   stays-or c st′ (moves-to p e a) n t t′ r z = inl refl
   stays-or c st′ (adds c′ rs k a y) n t t′ r z = inl (adds-still st c rs a .placed (rowOf (st .rows) n))
   stays-or c st′ (asks p k is a) n t t′ r z = pick (isEnd (x .kind) && any (λ i. eqb (i .row) (x .number)) (itemsOf is)) refl z

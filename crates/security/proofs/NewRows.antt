@@ -30,7 +30,7 @@ use Rattle.kept.proofs.AskCopy.{lendable}
 use Rattle.kept.proofs.AskStack.{row-stacked}
 use Rattle.kept.proofs.AskFacts.{lentRows, askedRows}
 use Rattle.security.specs.Sessions.{IsRow}
-use Rattle.security.proofs.Effects.{heldRow, registeredRow, clientRow, serverRow, Adds, holds, registers, makes, Effect, tells, shows, moves-to, adds, asks, fetches, shuts-off}
+use Rattle.security.proofs.Effects.{heldRow, registeredRow, clientRow, serverRow, Adds, holds, registers, makes, Effect, tells, moves-to, adds, asks, fetches, shuts-off}
 
 -- an item of the ask, as it is named there
 abbrev pub Names : List Item → Item → Type 0
@@ -152,8 +152,7 @@ fetched-rows st p e n t =
 -- ---- a row that was not there before the call
 pub new-row : (st : State) → Sound st → (c : Call) (st′ : State) → Effect st c st′ → (n : ℕ) → IsRow st′ n → (IsRow st n → ⊥) → Newly st c n (rowOf (st′ .rows) n)
 unfolding withNewRows
-new-row st s c st′ (tells e q) n t u = absurd (u t)
-new-row st s c st′ (shows e) n t u = absurd (u t)
+new-row st s c st′ (tells c′ x) n t u = absurd (u t)
 new-row st s c st′ (moves-to p e a) n t u = absurd (u (unfold withRecord in t))
 new-row st s c st′ (adds c′ rs k a z) n t u = adds-new st c rs a n t u
 new-row st s c st′ (asks p d is a) n t u = asks-new st s p d is a n t u

@@ -21,7 +21,7 @@ use Rattle.tables.proofs.Standing.{standing-shape}
 use Rattle.closing.proofs.Facts.{copy-listed, lists-open}
 use Rattle.calls.specs.declared.Answer.the-variants.{Made}
 use Rattle.calls.specs.declared.Call.{Call}
-use Rattle.calls.specs.declared.Call.the-variants.{Go, Hold, Register, Drop, Port, Close, Ask, Fetch, Revoke, Comes, Chain}
+use Rattle.calls.specs.declared.Call.the-variants.{Go, Hold, Register, Drop, Port, Close, Ask, Fetch, Revoke, Comes, Chain, ComesAll}
 use Rattle.calls.specs.Rules.{Out, refused, withNewRows, copyOf}
 use Rattle.calls.specs.Loans.{itemsOf, copies, newRequest}
 use Rattle.calls.specs.Calls.{portEnd, done, made, fetchedAnswer, chainedAnswer, effect}
@@ -34,7 +34,7 @@ use Rattle.security.specs.Changes.{takes, Touches}
 use Rattle.security.specs.Numbers.{Named, is-row, is-request, is-source, is-borne, is-item, is-port, is-gone-through, Spent, Lasting, Gives, Answered}
 use Rattle.security.proofs.Sessions.{session-sound, later-sound, later-has}
 use Rattle.security.proofs.Rows.{sources-cases, item-row, port-client, through-at}
-use Rattle.security.proofs.Effects.{Adds, holds, registers, makes, Effect, tells, shows, moves-to, adds, asks, fetches, shuts-off, effect-of}
+use Rattle.security.proofs.Effects.{Adds, holds, registers, makes, Effect, tells, moves-to, adds, asks, fetches, shuts-off, effect-of}
 use Rattle.security.proofs.Touches.{touches}
 use Rattle.security.proofs.Steps.{step-effect, step-sound, step-touches}
 
@@ -121,8 +121,7 @@ module _ (st : State) (s : Sound st) where
 
   given : (c : Call) (st′ : State) → Effect st c st′ → (n : ℕ) → st .next ≤ n → n < st′ .next → (IsRow st′ n) ⊎ (IsOpen st′ n)
   unfolding withNewRows
-  given c st′ (tells e q) n lo hi = absurd (omega arith)
-  given c st′ (shows e) n lo hi = absurd (omega arith)
+  given c st′ (tells c′ k) n lo hi = absurd (omega arith)
   given c st′ (moves-to p e a) n lo hi = let k = touches st s c st′ (moves-to p e a) .next in absurd (unfold takes in omega arith)
   given c st′ (adds c′ rs k a z) n lo hi = inl (adds-given c rs a n lo (omega arith))
   given c st′ (asks p d is a) n lo hi = asks-given p d is a n lo hi
@@ -182,6 +181,7 @@ module _ (st : State) (s : Sound st) where
   effect-answers (Revoke p q) a n k = done-made _ n k
   effect-answers (Comes e q) a n k = absurd (let z : _≡_ {A = ℕ} 0 1 = cc in omega arith)
   effect-answers (Chain e) a n k = absurd (let z : _≡_ {A = ℕ} 0 1 = cc in omega arith)
+  effect-answers (ComesAll es qs) a n k = absurd (let z : _≡_ {A = ℕ} 0 1 = cc in omega arith)
 
 pub answered : Answered
 unfolding Answered refused

@@ -22,7 +22,7 @@ use Rattle.closing.proofs.TrimmedLists.{trim, member-trim, any-first}
 use Rattle.closing.proofs.Facts.{request-number}
 use Rattle.calls.specs.declared.Items.{Items}
 use Rattle.calls.specs.declared.Call.{Call}
-use Rattle.calls.specs.declared.Call.the-variants.{Go, Hold, Register, Drop, Port, Close, Ask, Fetch, Revoke, Comes, Chain}
+use Rattle.calls.specs.declared.Call.the-variants.{Go, Hold, Register, Drop, Port, Close, Ask, Fetch, Revoke, Comes, Chain, ComesAll}
 use Rattle.calls.specs.Answers.{valuesOf}
 use Rattle.calls.specs.Rules.{Out}
 use Rattle.calls.specs.Loans.{itemsOf}
@@ -50,7 +50,7 @@ use Rattle.security.specs.Changes.{goes, shuts, leavesList, requestAfter
 use Rattle.security.specs.OnLoan.{Loans, noneSaid, AskedNow, StillOnLoan, saidNow, saidAfter, OnLoanAsSaid}
 use Rattle.security.proofs.Lines.{Heard, refuses, allows, heard}
 use Rattle.security.proofs.Rows.{request-low, item-row}
-use Rattle.security.proofs.Effects.{tells, effect-of}
+use Rattle.security.proofs.Effects.{comes, tells, effect-of}
 use Rattle.security.proofs.Touches.{touches}
 use Rattle.security.proofs.Moves.{any-found}
 
@@ -317,6 +317,7 @@ notes-request h n (Call.Answer p v served) = no-request (Call.Answer p v served)
 notes-request h n (Revoke p q) = no-request (Revoke p q) refl
 notes-request h n (Comes e q) = no-request (Comes e q) refl
 notes-request h n (Chain e) = no-request (Chain e) refl
+notes-request h n (ComesAll es qs) = no-request (ComesAll es qs) refl
 
 module _ (h : History) (st : State) (i : Inv h st) (l : Lends h st) (s : Sound st) (line : List ℕ) where
   abbrev o : Out
@@ -352,7 +353,7 @@ module _ (h : History) (st : State) (i : Inv h st) (l : Lends h st) (s : Sound s
           (ask-loans p d is a z)
 
       pick : Heard st line → (q e : ℕ) → HasOnLoan h′ q e ↔ saidNow h h′ (HasOnLoan h) q e
-      pick (refuses r u) = told (Comes 0 0) (subst (Touches st (Comes 0 0)) (sym u) (touches st s (Comes 0 0) st (tells 0 0))) (as-before (rw r refl))
+      pick (refuses r u) = told (Comes 0 0) (subst (Touches st (Comes 0 0)) (sym u) (touches st s (Comes 0 0) st (tells (Comes 0 0) (comes 0 0)))) (as-before (rw r refl))
       pick (allows c e z a x g) =
           let n : h′ ≡ loansSettled (noteCall c (firstValue (valuesOf (effect st c .answer))) h) = rw (g .good, g .value, e) refl in
           told c (subst (λ y. Touches st c (y .after)) (sym x) (touches st s c (effect st c .after) (effect-of st s c a))) (asks c a x n (notes-request h _ c))

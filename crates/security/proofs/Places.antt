@@ -34,9 +34,9 @@ use Rattle.kept.proofs.Fetch.{asked-found, asked-there}
 use Rattle.security.specs.Sessions.{IsRow, IsOpen, Log, logged}
 use Rattle.security.specs.Changes.{placeAfter}
 use Rattle.security.specs.Places.{listers, whereabouts, Lenders}
-use Rattle.security.proofs.Effects.{Effect, tells, shows, moves-to, adds, asks, fetches, shuts-off}
+use Rattle.security.proofs.Effects.{Effect, tells, moves-to, adds, asks, fetches, shuts-off}
 use Rattle.security.proofs.Closings.{Closes}
-use Rattle.security.proofs.Touches.{adds-still, item-is}
+use Rattle.security.proofs.Touches.{question-still, adds-still, item-is}
 use Rattle.security.proofs.Moves.{held-by}
 use Rattle.security.proofs.Frames.{place-after, same-but-place}
 use Rattle.security.proofs.Listers.{else-line, fetch-line, unlisted-line, closing-line}
@@ -161,8 +161,7 @@ kind-kept st st′ c s x n t t′ = same-but-place st st′ c s x n t t′ (λ r
 pub old-line : (st st′ : State) (c : Call) (s : Sound st) → Effect st c st′ → (log : Log) (home n : ℕ) → IsRow st n → IsRow st′ n
     → Line log home (rowOf (st .rows) n) (listers n (st .requests)) → Line (logged st c log) home (rowOf (st′ .rows) n) (listers n (st′ .requests))
 unfolding logged withRecord withNewRows handedOver
-old-line st st′ c s (tells e q) log home n t t′ l = same-line st s log home n t l log _ _ refl refl refl refl
-old-line st st′ c s (shows e) log home n t t′ l = same-line st s log home n t l log _ _ refl refl refl refl
+old-line st st′ c s (tells c′ x) log home n t t′ l = rw (question-still st c x .unlogged log) l
 old-line st st′ c s (moves-to p e a) log home n t t′ l = same-line st s log home n t l log _ _ refl refl refl refl
 old-line st st′ c s (adds c′ rs m a z) log home n t t′ l =
     let x = adds c rs m a z in

@@ -40,7 +40,7 @@ use Rattle.security.specs.Sessions.{IsRow, IsOpen, Log, logged, fetcherO
 use Rattle.security.specs.Places.{homeOf, listers, whereabouts, Lenders, Places, WhereEverythingIs}
 use Rattle.security.proofs.Rows.{filter-none, source-listed, node-no-end, source-no-end, Sort, text-row, registered-row, held-row, end-row, copy, sort-of, borne-by, clist-no-system}
 use Rattle.security.proofs.Numbers.{source-row}
-use Rattle.security.proofs.Effects.{Adds, holds, registers, makes, Effect, tells, shows, moves-to, adds, asks, fetches, shuts-off, effect-of}
+use Rattle.security.proofs.Effects.{Adds, holds, registers, makes, Effect, tells, moves-to, adds, asks, fetches, shuts-off, effect-of}
 use Rattle.security.proofs.Opened.{opened-text}
 use Rattle.security.proofs.Sessions.{session-sound, session-has}
 use Rattle.security.proofs.NewRows.{Newly, held, registered, client, server, copied, adds-new, asks-new, fetched-rows, new-row}
@@ -87,8 +87,7 @@ module _ (st : State) (s : Sound st) where
 
   pub new-unlisted : (c : Call) (st′ : State) → Effect st c st′ → (n : ℕ) → IsRow st′ n → (IsRow st n → ⊥) → isEnd (rowOf (st′ .rows) n .kind) ≡ true → listers n (st′ .requests) ≡ []
   unfolding withNewRows withRecord
-  new-unlisted c st′ (tells e q) n t u k = absurd (u t)
-  new-unlisted c st′ (shows e) n t u k = absurd (u t)
+  new-unlisted c st′ (tells c′ x) n t u k = absurd (u t)
   new-unlisted c st′ (moves-to p e a) n t u k = absurd (u t)
   new-unlisted c st′ (adds c′ rs m a z) n t u k = none-listers n u
   new-unlisted c st′ (asks p d is a) n t u k = clash k (copy-no-end p d is n _ (asks-new st s p d is a n t u))
@@ -106,8 +105,7 @@ module _ (st : State) (s : Sound st) where
   new-copy : (c : Call) (st′ : State) → Sound st′ → Effect st c st′ → (log : Log) (n : ℕ) → IsRow st′ n → (IsRow st n → ⊥) → some (rowOf (st′ .rows) n .request) ≡ true
       → rowOf (st′ .rows) n .place ≡ whereabouts log 0 (listers n (st′ .requests))
   unfolding withNewRows withRecord
-  new-copy c st′ s′ (tells e q) log n t u k = absurd (u t)
-  new-copy c st′ s′ (shows e) log n t u k = absurd (u t)
+  new-copy c st′ s′ (tells c′ x) log n t u k = absurd (u t)
   new-copy c st′ s′ (moves-to p e a) log n t u k = absurd (u t)
   new-copy c st′ s′ (adds c′ rs m a z) log n t u k = clash k (no-request c rs a n _ (adds-new st c rs a n t u))
   new-copy c st′ s′ (asks p d is a) log n t u k =

@@ -22,15 +22,15 @@ use Rattle.tables.proofs.Standing.{nodes-stay, via-listed}
 use Rattle.tables.proofs.Marking.{marked-reaches}
 use Rattle.closing.proofs.Facts.{copy-at}
 use Rattle.calls.specs.declared.Call.{Call}
-use Rattle.calls.specs.declared.Call.the-variants.{Go, Hold, Register, Drop, Port, Close, Ask, Fetch, Revoke, Comes, Chain}
+use Rattle.calls.specs.declared.Call.the-variants.{Go, Hold, Register, Drop, Port, Close, Ask, Fetch, Revoke, Comes, Chain, ComesAll}
 use Rattle.security.specs.Sessions.{IsRow}
 use Rattle.security.specs.Changes.{discards, falls, goes, closedBy, recordHomed, recordAfter}
 use Rattle.security.specs.Reach.{Reaches, here, down, Behind, taken, copied, FirstLender, has-it, of-copy, of-way}
 use Rattle.security.proofs.Rows.{source-no-end}
 use Rattle.security.proofs.Numbers.{source-row}
 use Rattle.security.proofs.Nodes.{node-unborne}
-use Rattle.security.proofs.Effects.{Effect, tells, shows, moves-to, adds, asks, fetches, shuts-off}
-use Rattle.security.proofs.Touches.{quiet-goes, adds-still, comes-still, chain-still, touches}
+use Rattle.security.proofs.Effects.{Effect, tells, moves-to, adds, asks, fetches, shuts-off}
+use Rattle.security.proofs.Touches.{quiet-goes, adds-still, question-still, touches}
 use Rattle.security.proofs.Moves.{old-moves, moves-of}
 use Rattle.security.proofs.Frames.{same-but-place, source-kept}
 use Rattle.security.proofs.Derived.{node-row-same, copy-sourced}
@@ -54,8 +54,7 @@ node-spared st s c h n e = rw (h n e) (pick (some (closedBy st c)) refl)
 
 spared : (st : State) → Sound st → (c : Call) (st′ : State) → Effect st c st′ → (n : ℕ) → isNode (rowOf (st .rows) n .place) ≡ true → goes st c n ≡ false
 unfolding closedBy discards
-spared st s c st′ (tells e q) n k = quiet-goes st c (comes-still st e q .quiet) n
-spared st s c st′ (shows e) n k = quiet-goes st c (chain-still st e .quiet) n
+spared st s c st′ (tells c′ x) n k = quiet-goes st c (question-still st c x .quiet) n
 spared st s c st′ (moves-to p e a) n k = quiet-goes st c (record { closes-none = refl; discards-none = λ r. refl }) n
 spared st s c st′ (adds c′ rs m a z) n k = quiet-goes st c (adds-still st c rs a .quiet) n
 spared st s c st′ (asks p d is a) n k = quiet-goes st c (record { closes-none = refl; discards-none = λ r. refl }) n
@@ -89,6 +88,7 @@ prime-after st (Call.Answer q e served) p = homed-prime st (Call.Answer q e serv
 prime-after st (Revoke q v) p = homed-prime st (Revoke q v) p
 prime-after st (Comes e q) p = refl
 prime-after st (Chain e) p = refl
+prime-after st (ComesAll es qs) p = refl
 
 pub no-row-zero : (st : State) → Sound st → rowOf (st .rows) 0 ≡ noRow
 unfolding rowOf numbers

@@ -37,8 +37,8 @@ use Rattle.security.specs.Revocation.{Frees, afterCalls, revokeEach, All
 use Rattle.security.proofs.Sessions.{session-sound}
 use Rattle.security.proofs.Rows.{request-low}
 use Rattle.security.proofs.Closings.{Closes}
-use Rattle.security.proofs.Effects.{Adds, holds, registers, makes, Effect, tells, shows, moves-to, adds, asks, fetches, shuts-off, revoke-effect}
-use Rattle.security.proofs.Touches.{Quiet, quiet-goes, quiet-shuts, comes-still, chain-still, touches}
+use Rattle.security.proofs.Effects.{Adds, holds, registers, makes, Effect, tells, moves-to, adds, asks, fetches, shuts-off, revoke-effect}
+use Rattle.security.proofs.Touches.{Quiet, quiet-goes, quiet-shuts, question-still, touches}
 use Rattle.security.proofs.Numbers.{request-below}
 use Rattle.security.proofs.Steps.{step-effect}
 use Rattle.security.proofs.PlacesKept.{Held, held-kept, session-held}
@@ -83,8 +83,7 @@ module _ (st : State) (s : Sound st) where
 
   effect-frees : (c : Call) (st′ : State) → Effect st c st′ → Frees st c st′
   unfolding withRecord handedOver takes
-  effect-frees c st′ (tells e q) = quiet-frees c st (comes-still st e q .quiet) refl refl
-  effect-frees c st′ (shows e) = quiet-frees c st (chain-still st e .quiet) refl refl
+  effect-frees c st′ (tells c′ x) = quiet-frees c st (question-still st c x .quiet) refl refl
   effect-frees c st′ (moves-to p e a) = quiet-frees c _ (unfold closedBy discards in (record { closes-none = refl; discards-none = λ r. refl })) refl refl
   effect-frees c st′ (adds c′ rs k a z) = record { rows = λ e. absurd (takes-some c rs a e); requests = λ e. absurd (takes-some c rs a e) }
     where

@@ -30,7 +30,7 @@ use Rattle.closing.proofs.Processes.{homed-at}
 use Rattle.calls.specs.declared.Item.{Item}
 use Rattle.calls.specs.declared.Items.{Items}
 use Rattle.calls.specs.declared.Call.{Call}
-use Rattle.calls.specs.declared.Call.the-variants.{Go, Ask, Fetch, Comes, Chain}
+use Rattle.calls.specs.declared.Call.the-variants.{Go, Ask, Fetch}
 use Rattle.calls.specs.Rules.{askedOf, withNewRows, copyOf, withRecord}
 use Rattle.calls.specs.Loans.{itemsOf, itemRow, moves, newRequest, handedTo, nowFetched, handedOver}
 use Rattle.calls.specs.Calls.{portEnd}
@@ -45,7 +45,7 @@ use Rattle.security.specs.Sessions.{IsRow, IsOpen, Log, logged}
 use Rattle.security.specs.Changes.{closedBy, discards, falls, goes, shuts, placeBack, placeAfter, leavesList, fetchedBy, requestAfter, recordHomed, recordAfter, takes, Touches}
 use Rattle.security.proofs.Rows.{through-at, item-row}
 use Rattle.security.proofs.Closings.{Closes}
-use Rattle.security.proofs.Effects.{Adds, holds, registers, makes, wentTo, Effect, tells, shows, moves-to, adds, asks, fetches, shuts-off, Plain}
+use Rattle.security.proofs.Effects.{Adds, holds, registers, makes, wentTo, Question, comes, chain, comes-all, Effect, tells, moves-to, adds, asks, fetches, shuts-off, Plain}
 
 pub place-own : (r : Row) → withPlace (r .place) r ≡ r
 unfolding withPlace
@@ -91,13 +91,17 @@ still-request : (st : State) (c : Call) → Quiet st c → ((v : Request) → fe
 still-request st c x h v = quiet-request st c x v ∙ ap (withItems (v .items)) (h v)
 
 -- ---- nothing
-pub comes-still : (st : State) (e q : ℕ) → Still st (Comes e q)
+pub question-still : (st : State) (c : Call) → Question c → Still st c
 unfolding closedBy discards fetchedBy placeAfter recordAfter logged
-comes-still st e q = record { quiet = record { closes-none = refl; discards-none = λ r. refl }; unfetched = λ v. refl; placed = λ r. refl; recorded = λ p. refl; unlogged = λ log. refl }
+question-still st c (comes e q) = record { quiet = record { closes-none = refl; discards-none = λ r. refl }; unfetched = λ v. refl; placed = λ r. refl; recorded = λ p. refl; unlogged = λ log. refl }
+question-still st c (chain e) = record { quiet = record { closes-none = refl; discards-none = λ r. refl }; unfetched = λ v. refl; placed = λ r. refl; recorded = λ p. refl; unlogged = λ log. refl }
+question-still st c (comes-all es qs) = record { quiet = record { closes-none = refl; discards-none = λ r. refl }; unfetched = λ v. refl; placed = λ r. refl; recorded = λ p. refl; unlogged = λ log. refl }
 
-pub chain-still : (st : State) (e : ℕ) → Still st (Chain e)
-unfolding closedBy discards fetchedBy placeAfter recordAfter logged
-chain-still st e = record { quiet = record { closes-none = refl; discards-none = λ r. refl }; unfetched = λ v. refl; placed = λ r. refl; recorded = λ p. refl; unlogged = λ log. refl }
+pub question-takes : (st : State) (c : Call) → Question c → takes st c ≡ 0
+unfolding takes
+question-takes st c (comes e q) = refl
+question-takes st c (chain e) = refl
+question-takes st c (comes-all es qs) = refl
 
 -- ---- new rows
 pub adds-still : (st : State) (c : Call) (rs : List Row) → Adds st c rs → Still st c
@@ -444,8 +448,7 @@ module _ (st : State) (s : Sound st) where
             (ap (member q) (remaining-keys f g (λ v. v .number) (λ is v. refl) (st .requests)) ∙ keys-kept (λ v. v .number) noRequest (λ v. not (f v)) (st .requests) (s .numbers .requests-rise) q)
 
   pub touches : (c : Call) (st′ : State) → Effect st c st′ → Touches st c st′
-  touches c st′ (tells e q) = still-touches (Comes e q) (comes-still st e q) (unfold takes in refl)
-  touches c st′ (shows e) = still-touches (Chain e) (chain-still st e) (unfold takes in refl)
+  touches c st′ (tells c′ x) = still-touches c (question-still st c x) (question-takes st c x)
   touches c st′ (moves-to p e a) = go-touches p e a
   touches c st′ (adds c′ rs n a z) = adds-touches c rs n a z
   touches c st′ (asks p k is a) = ask-touches p k is a

@@ -14,7 +14,7 @@ use Rattle.rows.specs.Tables.{State, rowOf, requestOf, openOn, processAt, numbe
 use Rattle.rows.specs.Setters.{withPlace, withItems, withFetched, inPrimeNode, wentThrough}
 use Rattle.closing.specs.Closing.{oldestListing}
 use Rattle.calls.specs.declared.Call.{Call}
-use Rattle.calls.specs.declared.Call.the-variants.{Go, Hold, Register, Drop, Port, Close, Ask, Fetch, Revoke, Comes, Chain}
+use Rattle.calls.specs.declared.Call.the-variants.{Go, Hold, Register, Drop, Port, Close, Ask, Fetch, Revoke, Comes, Chain, ComesAll}
 use Rattle.calls.specs.Rules.{askedOf}
 use Rattle.calls.specs.Loans.{itemsOf, copies}
 use Rattle.security.specs.Sessions.{IsRow, IsOpen}
@@ -34,6 +34,7 @@ closedBy st (Call.Answer p v served) = askedOf st v .number
 closedBy st (Revoke p q) = q
 closedBy st (Comes e q) = 0
 closedBy st (Chain e) = 0
+closedBy st (ComesAll es qs) = 0
 
 -- a row that the call discards by itself: the row dropped, the two ends of the port closed
 unfoldable pub discards : Call → Row → Bool
@@ -49,6 +50,7 @@ discards (Call.Answer p v served) r = false
 discards (Revoke p q) r = false
 discards (Comes e q) r = false
 discards (Chain e) r = false
+discards (ComesAll es qs) r = false
 
 -- row n comes from the request that the call closes
 unfoldable pub falls : State → Call → ℕ → Bool
@@ -82,6 +84,7 @@ placeAfter st (Call.Answer p v served) r = placeBack st (Call.Answer p v served)
 placeAfter st (Revoke p q) r = placeBack st (Revoke p q) r
 placeAfter st (Comes e q) r = r .place
 placeAfter st (Chain e) r = r .place
+placeAfter st (ComesAll es qs) r = r .place
 
 -- ---- the requests that stay open
 -- item e leaves the list of v: it goes, or an older request that closes lists it
@@ -101,6 +104,7 @@ fetchedBy st (Call.Answer p v served) w = w
 fetchedBy st (Revoke p q) w = w
 fetchedBy st (Comes e q) w = w
 fetchedBy st (Chain e) w = w
+fetchedBy st (ComesAll es qs) w = w
 
 -- what leaves a list leaves a 0, and no other item moves
 unfoldable pub requestAfter : State → Call → Request → Request
@@ -125,6 +129,7 @@ recordAfter st (Call.Answer q v served) p = recordHomed st (Call.Answer q v serv
 recordAfter st (Revoke q v) p = recordHomed st (Revoke q v) p
 recordAfter st (Comes e q) p = processAt (st .processes) p
 recordAfter st (Chain e) p = processAt (st .processes) p
+recordAfter st (ComesAll es qs) p = processAt (st .processes) p
 
 -- ---- numbers: how many the call takes
 unfoldable pub takes : State → Call → ℕ
@@ -140,6 +145,7 @@ takes st (Call.Answer p v served) = 0
 takes st (Revoke p q) = 0
 takes st (Comes e q) = 0
 takes st (Chain e) = 0
+takes st (ComesAll es qs) = 0
 
 -- ==== what a call touches: nothing but this
 pub record Touches (st : State) (c : Call) (st′ : State) : Type 0 where

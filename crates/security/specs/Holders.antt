@@ -12,7 +12,7 @@ use Rattle.rows.specs.Codes.{inNode, inClist, withSystem}
 use Rattle.rows.specs.Tables.{rowOf}
 use Rattle.calls.specs.declared.Item.{Item}
 use Rattle.calls.specs.declared.Call.{Call}
-use Rattle.calls.specs.declared.Call.the-variants.{Go, Hold, Register, Drop, Port, Close, Ask, Fetch, Revoke, Comes, Chain}
+use Rattle.calls.specs.declared.Call.the-variants.{Go, Hold, Register, Drop, Port, Close, Ask, Fetch, Revoke, Comes, Chain, ComesAll}
 use Rattle.text.specs.declared.Entry.{Entry}
 use Rattle.text.specs.declared.Reading.{Reading}
 use Rattle.text.specs.declared.Reading.the-variants.{Asks, Crowded, Refused}
@@ -21,7 +21,7 @@ use Rattle.text.specs.Opening.{Form, nodeForm, processForm, Opening, opens, ref
 use Rattle.text.specs.Entry.{openEntry}
 use Rattle.history.specs.History.{OnLoan, History}
 use Rattle.history.specs.Notes.{notedOf, stands, lastGo, copied}
-use Rattle.history.specs.Reading.{entryCount, begun, answerRead, accepts, itemsNamed, noteLine, historyAfter}
+use Rattle.history.specs.Reading.{entryCount, begun, accepts, numberAnswered, itemsNamed, noteLine, historyAfter}
 use Rattle.history.specs.Demand3.{lentAfter, repliesTo, stateIn, InTables}
 use Rattle.security.specs.Sessions.{Log, fetcherOf, fetchesAfter}
 
@@ -92,6 +92,7 @@ noteHomes fs h (Call.Answer p v served) n hs = hs
 noteHomes fs h (Revoke p q) n hs = hs
 noteHomes fs h (Comes e q) n hs = hs
 noteHomes fs h (Chain e) n hs = hs
+noteHomes fs h (ComesAll es qs) n hs = hs
 
 unfoldable pub readingHomes : List Form → History → Reading → ℕ → Homes → Homes
 readingHomes fs h (Asks c) n hs = noteHomes fs h c n hs
@@ -99,7 +100,7 @@ readingHomes fs h (Crowded p) n hs = hs
 readingHomes fs h (Refused k) n hs = hs
 
 unfoldable pub lineHomes : List Form → History → List ℕ → List ℕ → Homes → Homes
-lineHomes fs h line reply hs = let r = answerRead reply in if r .good then readingHomes fs h (readingOf line) (r .c) hs else hs
+lineHomes fs h line reply hs = if accepts reply then readingHomes fs h (readingOf line) (numberAnswered reply) hs else hs
 
 -- after lines and their answers
 unfoldable pub homesAfter : List Form → History → Homes → List (List ℕ) → List (List ℕ) → Homes

@@ -9,7 +9,7 @@ use Rattle.rows.specs.Tables.{State, rowOf, numbers}
 use Rattle.rows.specs.Sound.{sound}
 use Rattle.rows.specs.Layout.{rightLengths}
 use Rattle.calls.specs.declared.Call.{Call}
-use Rattle.calls.specs.declared.Call.the-variants.{Go, Hold, Register, Drop, Port, Close, Ask, Fetch, Revoke, Comes, Chain}
+use Rattle.calls.specs.declared.Call.the-variants.{Go, Hold, Register, Drop, Port, Close, Ask, Fetch, Revoke, Comes, Chain, ComesAll}
 use Rattle.calls.specs.Answers.{refusalOf}
 use Rattle.calls.specs.Rules.{askedOf}
 use Rattle.text.specs.declared.Reading.{Reading}
@@ -17,7 +17,7 @@ use Rattle.text.specs.declared.Reading.the-variants.{Asks, Crowded, Refused}
 use Rattle.text.specs.CallLines.{readingOf}
 use Rattle.text.specs.Opening.{Form, opens, linesOf, openingOf}
 use Rattle.text.specs.Entry.{openEntry, callOn, stateOpened}
-use Rattle.history.specs.Reading.{answerRead, accepts}
+use Rattle.history.specs.Reading.{accepts, numberAnswered}
 use Rattle.history.specs.Demand3.{lentAfter, repliesTo, stateIn}
 
 -- ---- rows and requests by their numbers
@@ -61,6 +61,7 @@ logged st (Call.Answer p v served) log = log
 logged st (Revoke p q) log = log
 logged st (Comes e q) log = log
 logged st (Chain e) log = log
+logged st (ComesAll es qs) log = log
 
 unfoldable pub nobody : Fetcher
 nobody = record { request = 0; process = 0 }
@@ -101,6 +102,7 @@ noteFetchCall (Call.Answer p v served) q log = log
 noteFetchCall (Revoke p q′) q log = log
 noteFetchCall (Comes e q′) q log = log
 noteFetchCall (Chain e) q log = log
+noteFetchCall (ComesAll es qs) q log = log
 
 unfoldable pub noteFetchReading : Reading → ℕ → Log → Log
 noteFetchReading (Asks c) q log = noteFetchCall c q log
@@ -108,7 +110,7 @@ noteFetchReading (Crowded p) q log = log
 noteFetchReading (Refused k) q log = log
 
 unfoldable pub noteFetch : Log → List ℕ → List ℕ → Log
-noteFetch log line reply = let r = answerRead reply in if r .good then noteFetchReading (readingOf line) (r .c) log else log
+noteFetch log line reply = if accepts reply then noteFetchReading (readingOf line) (numberAnswered reply) log else log
 
 unfoldable pub fetchesAfter : Log → List (List ℕ) → List (List ℕ) → Log
 fetchesAfter log [] replies = log

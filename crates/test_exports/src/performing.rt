@@ -3,19 +3,32 @@ use calls::Answer;
 use calls::Call;
 use calls::Item;
 use calls::Items;
+use calls::Sixteen;
+use calls::numbers;
 use calls::perform::perform;
 use rows::codes::LAST_PROCESS;
 use rows::layout::RECORDS;
 use rows::layout::TABLES;
 ghost use mathlib.Core.Path.{_≡_};
+ghost use mathlib.Core.List.{_∷_};
+ghost use Prim.Native.Nat.{_+_, _≤_};
+ghost use Rattle.calls.specs.Answers.{allOf};
+ghost use Rattle.questions.specs.contracts.Pairs.{PAIRS};
+ghost use Rattle.test_exports.specs.contracts.Calls.{CALL_WORDS, sixteenAt};
 ghost use Rattle.test_exports.specs.contracts.Calls.{itemsOfWords, callOfWords, callFits, wordsOfAnswer};
 ghost use Rattle.test_exports.specs.contracts.Calls.{PerformsWords, AllStay};
 
 // a call: its code, its two numbers (of chain its row, and one that is not looked at), row and rights of each item of
-// an ask, or 1 for a request served; an answer: its code and its numbers
-pub const CALL_WORDS: usize = 11;
+// an ask, or 1 for a request served; of comesall its code, the rows of the pairs, their requests
+pub const CALL_WORDS: usize = 33;
 
-pub const ANSWER_WORDS: usize = 13;
+// an answer: its code and its numbers
+pub const ANSWER_WORDS: usize = 17;
+
+// where the rows of the pairs begin, and their requests
+const ROWS_AT: usize = 1;
+
+const REQUESTS_AT: usize = 17;
 
 // the code of comes: from it on calls have no caller
 const COMES: u32 = 10;
@@ -47,7 +60,20 @@ fn items_of(w: &[u32; CALL_WORDS]) -> Items
     }
 }
 
-// The call of its words; a code above that of chain stands for chain too.
+// Sixteen of the words, from a position on.
+fn sixteen_at(w: &[u32; CALL_WORDS], at: usize) -> Sixteen
+    requires { ⌜ at + PAIRS ≤ CALL_WORDS ⌝ }
+    ensures { λ r. ⌜ r ≡ sixteenAt (now (w .entry)) at ⌝ }
+{
+    Sixteen {
+        first: numbers::four_from(w, at),
+        second: numbers::four_from(w, at + 4),
+        third: numbers::four_from(w, at + 8),
+        fourth: numbers::four_from(w, at + 12),
+    }
+}
+
+// The call of its words; a code above that of comesall stands for comesall too.
 fn call_of(w: &[u32; CALL_WORDS]) -> Call
     ensures { λ r. ⌜ r ≡ callOfWords (now (w .entry)) ⌝ }
 {
@@ -67,7 +93,8 @@ fn call_of(w: &[u32; CALL_WORDS]) -> Call
         8 => Call::Answer(p, e, served),
         9 => Call::Revoke(p, e),
         10 => Call::Comes(p, e),
-        _ => Call::Chain(p),
+        11 => Call::Chain(p),
+        _ => Call::ComesAll(sixteen_at(w, ROWS_AT), sixteen_at(w, REQUESTS_AT)),
     }
 }
 
@@ -79,18 +106,47 @@ fn caller_fits(w: &[u32; CALL_WORDS]) -> bool
     (COMES <= w[0]) | ((1 <= p) & (p <= LAST_PROCESS))
 }
 
+// What is told of sixteen pairs, after its code.
+fn words_told(s: Sixteen) -> [u32; ANSWER_WORDS]
+    ensures { λ r. ⌜ r ≡ 6 ∷ allOf s ⌝ }
+{
+    let a = s.first;
+    let b = s.second;
+    let c = s.third;
+    let d = s.fourth;
+    [
+        6,
+        a.first,
+        a.second,
+        a.third,
+        a.fourth,
+        b.first,
+        b.second,
+        b.third,
+        b.fourth,
+        c.first,
+        c.second,
+        c.third,
+        c.fourth,
+        d.first,
+        d.second,
+        d.third,
+        d.fourth,
+    ]
+}
+
 fn words_of(a: Answer) -> [u32; ANSWER_WORDS]
     ensures { λ r. ⌜ r ≡ wordsOfAnswer a ⌝ }
 {
     match a {
-        Answer::Done => [0, 0, 0, 0, 0, 0, 0, 0, 0, 0, 0, 0, 0],
-        Answer::Made(n) => [1, n, 0, 0, 0, 0, 0, 0, 0, 0, 0, 0, 0],
-        Answer::Fetched(v, e, f, g, h) => [2, v, e, f, g, h, 0, 0, 0, 0, 0, 0, 0],
+        Answer::Done => [0, 0, 0, 0, 0, 0, 0, 0, 0, 0, 0, 0, 0, 0, 0, 0, 0],
+        Answer::Made(n) => [1, n, 0, 0, 0, 0, 0, 0, 0, 0, 0, 0, 0, 0, 0, 0, 0],
+        Answer::Fetched(v, e, f, g, h) => [2, v, e, f, g, h, 0, 0, 0, 0, 0, 0, 0, 0, 0, 0, 0],
         Answer::Told(b) => {
             if b {
-                [3, 1, 0, 0, 0, 0, 0, 0, 0, 0, 0, 0, 0]
+                [3, 1, 0, 0, 0, 0, 0, 0, 0, 0, 0, 0, 0, 0, 0, 0, 0]
             } else {
-                [3, 0, 0, 0, 0, 0, 0, 0, 0, 0, 0, 0, 0]
+                [3, 0, 0, 0, 0, 0, 0, 0, 0, 0, 0, 0, 0, 0, 0, 0, 0]
             }
         }
         Answer::Chained(a, b, c) => [
@@ -107,8 +163,13 @@ fn words_of(a: Answer) -> [u32; ANSWER_WORDS]
             c.second,
             c.third,
             c.fourth,
+            0,
+            0,
+            0,
+            0,
         ],
-        Answer::Refused(k) => [4, k, 0, 0, 0, 0, 0, 0, 0, 0, 0, 0, 0],
+        Answer::ToldAll(s) => words_told(s),
+        Answer::Refused(k) => [4, k, 0, 0, 0, 0, 0, 0, 0, 0, 0, 0, 0, 0, 0, 0, 0],
     }
 }
 

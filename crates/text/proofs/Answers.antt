@@ -3,18 +3,19 @@ use Prim.Native.Nat.{ℕ, zero, suc, _+_, _-_, _*_, _/_, _%_, _^_, _≤_, _<_}
 use native.Mathlib.Omega.{arith}
 use mathlib.Core.Path.{_≡_, refl, sym, ap, _∙_}
 use mathlib.Core.Bool.{Bool, true, false, cond}
-use mathlib.Core.List.{List, [], _∷_, _++_, append-assoc}
+use mathlib.Core.List.{List, [], _∷_, _++_, map, append-assoc}
 use lib.ListN.{length, getD, drop, length-append}
 use lib.Seq.{append-snoc, getD-drop}
-use lib.Dec.{ltb, eqb}
+use lib.Dec.{leb, ltb, eqb}
 use borrow.Author.Tests.{ltb-true, ltb-false, lt-ltb, le-leb, eq-eqb, ne-eqb, eqb-true}
 use Rattle.rows.specs.Lists.{bytes, between}
 use Rattle.rows.specs.Limits.{greatestNumber}
 use Rattle.rows.proofs.Bools.{bool-eq}
+use Rattle.calls.specs.Answers.{Value, num, dash}
 use Rattle.text.specs.declared.Run.{Run}
 use Rattle.text.specs.declared.Read.{Read}
 use Rattle.text.specs.Patterns.{isDigit, grownTo, grown, run, digits, began, counted, passed, number, itself, piece, pieces, form, bad}
-use Rattle.text.specs.Answers.{decimal, digitsOf, spaced, okText, noText}
+use Rattle.text.specs.Answers.{decimal, digitsOf, valueText, spaced, okText, noText}
 
 -- ---- digits
 digit-is : (k : ℕ) → k < 10 → isDigit (48 + k) ≡ true
@@ -82,6 +83,20 @@ leads-decimal (suc d) n t h = pick (ltb n 10) refl (leads-decimal d (n / 10) ((4
         let l = ih (omega arith) in
         rw append-snoc (record { digit = l .digit; zeros = l .zeros ∙ ne-eqb (n / 10) 0 (omega arith) ∙ sym (ne-eqb n 0 (omega arith)) })
 
+-- ---- how long a number is
+decimal-short : (d n : ℕ) → length (decimal d n) ≤ d
+unfolding decimal
+decimal-short zero n = omega arith
+decimal-short (suc d) n = pick (leb (suc n) 10) (decimal-short d (n / 10))
+  where
+    pick : (b : Bool) → length (decimal d (n / 10)) ≤ d → length (cond b ((48 + n) ∷ []) (decimal d (n / 10) ++ ((48 + n % 10) ∷ []))) ≤ suc d
+    pick true h = omega arith
+    pick false h = let e = length-append (decimal d (n / 10)) ((48 + n % 10) ∷ []) in omega arith
+
+pub digits-short : (n : ℕ) → length (digitsOf n) ≤ 10
+unfolding digitsOf
+digits-short n = decimal-short 10 n
+
 -- ---- a printed number
 pub run-ends : (test : ℕ → Bool) (more : ℕ → ℕ → ℕ) (v i : ℕ) (u : List ℕ) → test (getD u 0 0) ≡ false → run test more v i u ≡ record { value = v; next = i }
 unfolding run
@@ -89,9 +104,9 @@ run-ends test more v i [] e = refl
 run-ends test more v i (b ∷ u) e = rw e refl
 
 -- what is read where the digits of n stand, with no digit after them
-pub record Gives (f : Read) (n : ℕ) : Type 0 where
-  pub good : f .good ≡ true
-  pub value : f .c ≡ n
+record Gives (f : Read) (n : ℕ) : Type 0 where
+  good : f .good ≡ true
+  value : f .c ≡ n
 
 number-printed : (s : List ℕ) (r : Read) (n : ℕ) (t : List ℕ) → drop (r .next) s ≡ digitsOf n ++ t → n ≤ greatestNumber → isDigit (getD t 0 0) ≡ false → Gives (number s r) n
 unfolding number counted digits digitsOf grown greatestNumber
@@ -110,28 +125,42 @@ number-printed s r n t e h z =
     pick worth false q = record { good = refl; value = worth }
 
 -- ---- answers
-after-number : (ns : List ℕ) → isDigit (getD (spaced ns ++ bytes ")\n") 0 0) ≡ false
+after-value : (vs : List Value) → isDigit (getD (spaced vs ++ bytes ")\n") 0 0) ≡ false
 unfolding spaced bytes isDigit between
-after-number [] = refl
-after-number (n ∷ ns) = refl
+after-value [] = refl
+after-value (v ∷ vs) = refl
 
-ok-prefix : (u : List ℕ) → form (40 ∷ 111 ∷ 107 ∷ 32 ∷ u) 0 "(ok #" ≡ number (40 ∷ 111 ∷ 107 ∷ 32 ∷ u) (began 4)
+ok-prefix : (u : List ℕ) → form (40 ∷ 111 ∷ 107 ∷ 32 ∷ u) 0 "(ok " ≡ began 4
 unfolding form pieces piece itself passed began bytes
 ok-prefix u = rw (there 0 (omega arith), there 1 (omega arith), there 2 (omega arith), there 3 (omega arith)) refl
   where
     there : (i : ℕ) → i < 4 → ltb i (suc (suc (suc (suc (length u))))) ≡ true
     there i h = lt-ltb i (suc (suc (suc (suc (length u))))) (omega arith)
 
-pub read-ok : (n : ℕ) (ns : List ℕ) → n ≤ greatestNumber → Gives (form (okText (n ∷ ns)) 0 "(ok #") n
+-- an accepted answer, whatever its first value
+pub read-ok : (v : Value) (vs : List Value) → form (okText (v ∷ vs)) 0 "(ok " .good ≡ true
 unfolding okText spaced bytes began
-read-ok n ns h =
-    rw (ok-prefix (digitsOf n ++ spaced ns ++ bytes ")\n"))
-    (number-printed (40 ∷ 111 ∷ 107 ∷ 32 ∷ (digitsOf n ++ spaced ns ++ bytes ")\n")) (began 4) n (spaced ns ++ bytes ")\n") (append-assoc (digitsOf n) (spaced ns) (bytes ")\n")) h (after-number ns))
+read-ok v vs = ap (λ (f : Read). f .good) (ok-prefix ((valueText v ++ spaced vs) ++ bytes ")\n"))
 
-no-prefix : (u : List ℕ) → form (40 ∷ 110 ∷ 111 ∷ u) 0 "(ok #" .good ≡ false
+ok-number : (u : List ℕ) → form (40 ∷ 111 ∷ 107 ∷ 32 ∷ u) 0 "(ok #" ≡ number (40 ∷ 111 ∷ 107 ∷ 32 ∷ u) (began 4)
+unfolding form pieces piece bytes began
+ok-number u = ap (λ (r : Read). piece (40 ∷ 111 ∷ 107 ∷ 32 ∷ u) r 35) (ok-prefix u)
+
+-- its first value: a number, or none
+pub read-number : (n : ℕ) (vs : List Value) → n ≤ greatestNumber → form (okText (num n ∷ vs)) 0 "(ok #" .c ≡ n
+unfolding okText spaced valueText bytes began
+read-number n vs h =
+    rw (ok-number (digitsOf n ++ spaced vs ++ bytes ")\n"))
+    (number-printed (40 ∷ 111 ∷ 107 ∷ 32 ∷ (digitsOf n ++ spaced vs ++ bytes ")\n")) (began 4) n (spaced vs ++ bytes ")\n") (append-assoc (digitsOf n) (spaced vs) (bytes ")\n")) h (after-value vs) .value)
+
+pub read-dash : (vs : List Value) → form (okText (dash ∷ vs)) 0 "(ok #" .c ≡ 0
+unfolding okText spaced valueText bytes number began bad isDigit between
+read-dash vs = ap (λ (r : Read). r .c) (ok-number (45 ∷ (spaced vs ++ bytes ")\n")))
+
+no-prefix : (u : List ℕ) → form (40 ∷ 110 ∷ 111 ∷ u) 0 "(ok " .good ≡ false
 unfolding form pieces piece itself passed began bytes bad
 no-prefix u = rw (lt-ltb 0 (suc (suc (suc (length u)))) (omega arith), lt-ltb 1 (suc (suc (suc (length u)))) (omega arith)) refl
 
-pub read-no : (ns : List ℕ) → form (noText ns) 0 "(ok #" .good ≡ false
+pub read-no : (ns : List ℕ) → form (noText ns) 0 "(ok " .good ≡ false
 unfolding noText bytes
-read-no ns = no-prefix (spaced ns ++ bytes ")\n")
+read-no ns = no-prefix (spaced (map num ns) ++ bytes ")\n")

@@ -1,45 +1,34 @@
 -- A call whose numbers are in range, written as a line, reads back as itself.
-use Prim.Native.Nat.{ℕ, zero, suc, _+_, _*_, _/_, _%_, _^_, _≤_, _<_}
+use Prim.Native.Nat.{ℕ, _+_, _^_, _≤_, _<_}
 use native.Mathlib.Omega.{arith}
-use mathlib.Core.Path.{_≡_, refl, sym, ap, subst, _∙_}
-use mathlib.Core.Bool.{Bool, true, false, cond, _&&_}
-use mathlib.Core.List.{List, [], _∷_, _++_, map, append-assoc}
+use mathlib.Core.Path.{_≡_, refl, ap, subst, _∙_}
+use mathlib.Core.Bool.{true, false, _&&_}
+use mathlib.Core.List.{List, [], _∷_, _++_, map}
 use lib.Dec.{leb, eqb}
-use lib.ListN.{length, getD, length-append}
-use borrow.Author.Tests.{leb-true, le-leb, le-ltb, eq-eqb, ne-eqb}
+use lib.ListN.{length, getD, length-append, length-map}
+use borrow.Author.Tests.{leb-true, le-leb, le-ltb, ne-eqb}
 use Rattle.rows.specs.Lists.{bytes, between, all, some, distinct}
 use Rattle.rows.specs.Limits.{greatestNumber, processes, mostBytes, mostItems, allRights}
-use Rattle.rows.proofs.Bools.{and-l, and-r, clash}
+use Rattle.rows.proofs.Bools.{and-l, and-r, and-i, clash}
 use Rattle.calls.specs.declared.Item.{Item}
 use Rattle.calls.specs.declared.Items.{Items}
 use Rattle.calls.specs.declared.Call.{Call}
-use Rattle.calls.specs.declared.Call.the-variants.{Go, Hold, Register, Drop, Port, Close, Ask, Fetch, Revoke, Comes, Chain}
+use Rattle.calls.specs.declared.Call.the-variants.{Go, Hold, Register, Drop, Port, Close, Ask, Fetch, Revoke, Comes, Chain, ComesAll}
 use Rattle.calls.specs.Loans.{itemsOf}
 use Rattle.changes.proofs.Removed.{length-filter}
-use Rattle.text.specs.declared.Read.{Read}
 use Rattle.text.specs.declared.Reading.{Reading}
 use Rattle.text.specs.declared.Reading.the-variants.{Asks}
-use Rattle.text.specs.Patterns.{isDigit, isLetter, spelt, bad, began, pieces, form, whole, wordFrom, wordOf, mostGroups}
-use Rattle.text.specs.CallLines.{isProcess, isNumber, ranged, simple, simpleForm, answerForm, chainForm, comesForm, Gathered, itemOf, addItem, gathered, itemRanged, packed, judged, askForm, readingOf}
+use Rattle.text.specs.Patterns.{isDigit, isLetter, spelt, bad, began, form, whole, wordFrom, wordOf, mostGroups}
+use Rattle.text.specs.CallLines.{isProcess, isNumber, ranged, simple, simpleForm, answerForm, chainForm, comesForm, Group, gathered, comesAllForm, itemOf, itemRanged, packed, judged, askForm, readingOf}
 use Rattle.text.specs.Answers.{decimal, digitsOf}
-use Rattle.text.proofs.Answers.{leads-decimal}
-use Rattle.text.specs.ReadBack.{simpleText, itemsText, askText, lastOf, answerText, comesText, chainText, callText, InRange}
-use Rattle.text.proofs.Cursor.{At, at-start, at-skip, at-next, reading, takes-byte, other-byte, no-number, takes-number, takes-word, then-reads, reads-all, then-bad}
+use Rattle.text.proofs.Answers.{leads-decimal, digits-short}
+use Rattle.text.proofs.GroupHeads.{not-comesall}
+use Rattle.text.proofs.UncalledBack.{short, number-fits, comes-back, chain-back, comes-all-back, pairs-few}
+use Rattle.text.proofs.GroupsBack.{groupFits, groups-lead, groups-short, gather-groups, last-bracket}
+use Rattle.text.specs.ReadBack.{simpleText, itemGroup, groupsText, askText, lastOf, answerText, comesText, chainText, pairsOf, comesAllText, callText, InRange}
+use Rattle.text.proofs.Cursor.{At, at-start, at-skip, at-next, at-first, reading, takes-byte, other-byte, takes-number, takes-word, then-reads, reads-all, then-bad, ends}
 
 -- ---- numbers as text
-decimal-short : (d n : ℕ) → length (decimal d n) ≤ d
-unfolding decimal
-decimal-short zero n = omega arith
-decimal-short (suc d) n = pick (leb (suc n) 10) (decimal-short d (n / 10))
-  where
-    pick : (b : Bool) → length (decimal d (n / 10)) ≤ d → length (cond b ((48 + n) ∷ []) (decimal d (n / 10) ++ ((48 + n % 10) ∷ []))) ≤ suc d
-    pick true h = omega arith
-    pick false h = let e = length-append (decimal d (n / 10)) ((48 + n % 10) ∷ []) in omega arith
-
-pub digits-short : (n : ℕ) → length (digitsOf n) ≤ 10
-unfolding digitsOf
-digits-short n = decimal-short 10 n
-
 -- it begins with a digit
 record Begins (u : List ℕ) : Type 0 where
   first : ℕ
@@ -56,16 +45,14 @@ digits-begin : (n : ℕ) (u : List ℕ) → n ≤ greatestNumber → Begins (dig
 unfolding digitsOf greatestNumber
 digits-begin n u h = let lt : n < 10 ^ 10 = omega arith in begins (decimal 10 n ++ u) (leads-decimal 9 n u lt .digit)
 
--- ---- a whole form
-ends : (s : List ℕ) (i w x y z : ℕ) → At s i [] → whole s (reading i w x y z) ≡ true
-unfolding whole
-ends s i w x y z a = let e = a .size in eq-eqb i (length s) (omega arith)
+-- a line that begins with a number is no `comesall` and no `comes`
+no-comes-all : (s : List ℕ) (p : ℕ) (u : List ℕ) (other : Reading) → At s 0 (40 ∷ (digitsOf p ++ u)) → p ≤ greatestNumber → comesAllForm s other ≡ other
+unfolding comesAllForm
+no-comes-all s p u other a h =
+    let d = digits-begin p u h in
+    let at : At s 1 (d .first ∷ d .others) = subst (λ (l : List ℕ). At s 1 l) (d .is) (at-next s 0 40 (digitsOf p ++ u) a) in
+    rw (not-comesall s (ap (λ (b : ℕ). eqb b 99) (at-first s 1 (d .first ∷ d .others) at) ∙ ne-eqb (d .first) 99 (λ e. omega (arith, d .digit)))) refl
 
-short : (s : List ℕ) → length s ≤ 256 → readingOf s ≡ askForm s (comesForm s (simpleForm s (answerForm s (chainForm s))))
-unfolding readingOf mostBytes
-short s h = rw (le-ltb 256 (length s) h) refl
-
--- a line that begins with a number is no `comes`
 no-comes : (s : List ℕ) (p : ℕ) (u : List ℕ) (other : Reading) → At s 0 (40 ∷ (digitsOf p ++ u)) → p ≤ greatestNumber → comesForm s other ≡ other
 unfolding comesForm whole form began bytes bad
 no-comes s p u other a h =
@@ -134,7 +121,7 @@ module _ (s : List ℕ) (p n b : ℕ) (ws : List ℕ) (l : all isLetter (b ∷ w
       let e = a8 .size in
       let dp = digits-short p in
       let dn = digits-short n in
-      short s (omega arith) ∙ no-ask _ d ∙ no-comes s p _ _ a0 hp ∙ simple-form (answerForm s (chainForm s))
+      short s (omega arith) ∙ no-ask _ d ∙ no-comes-all s p _ _ a0 hp ∙ no-comes s p _ _ a0 hp ∙ simple-form (answerForm s (chainForm s))
 
 -- ---- answer
 module _ (s : List ℕ) (p v x : ℕ) (hp : p ≤ greatestNumber) (hv : v ≤ greatestNumber) (hx : x ≤ greatestNumber)
@@ -221,187 +208,16 @@ module _ (s : List ℕ) (p v x : ℕ) (hp : p ≤ greatestNumber) (hv : v ≤ gr
       let dp = digits-short p in
       let dv = digits-short v in
       let dx = digits-short x in
-      short s (omega arith) ∙ answer-no-ask _ ∙ no-comes s p _ _ a0 hp ∙ answer-no-simple _
+      short s (omega arith) ∙ answer-no-ask _ ∙ no-comes-all s p _ _ a0 hp ∙ no-comes s p _ _ a0 hp ∙ answer-no-simple _
       ∙ rw (read, ends s _ 0 p v x there, cp, cv, cx) refl
 
--- ---- comes
-comes-read : (s : List ℕ) (e q : ℕ) → e ≤ greatestNumber → q ≤ greatestNumber → At s 0 (bytes "(comes " ++ (digitsOf e ++ (32 ∷ (digitsOf q ++ (41 ∷ 10 ∷ [])))))
-    → (form s 0 "(comes # #)\n" ≡ reading (7 + length (digitsOf e) + 1 + length (digitsOf q) + 1 + 1) 0 0 e q) × At s (7 + length (digitsOf e) + 1 + length (digitsOf q) + 1 + 1) []
-unfolding form began bytes isDigit between
-comes-read s e q he hq a0 =
-    let a1 = at-next s 0 40 _ a0 in
-    let a2 = at-next s 1 99 _ a1 in
-    let a3 = at-next s 2 111 _ a2 in
-    let a4 = at-next s 3 109 _ a3 in
-    let a5 = at-next s 4 101 _ a4 in
-    let a6 = at-next s 5 115 _ a5 in
-    let a7 = at-next s 6 32 _ a6 in
-    let a8 = at-skip s 7 (digitsOf e) _ a7 in
-    let a9 = at-next s _ 32 _ a8 in
-    let b1 = at-skip s _ (digitsOf q) _ a9 in
-    let b2 = at-next s _ 41 _ b1 in (
-      then-reads s _ _ _ 40 _ (takes-byte s 0 0 0 0 0 40 _ a0 refl refl)
-          (then-reads s _ _ _ 99 _ (takes-byte s 1 0 0 0 0 99 _ a1 refl refl)
-          (then-reads s _ _ _ 111 _ (takes-byte s 2 0 0 0 0 111 _ a2 refl refl)
-          (then-reads s _ _ _ 109 _ (takes-byte s 3 0 0 0 0 109 _ a3 refl refl)
-          (then-reads s _ _ _ 101 _ (takes-byte s 4 0 0 0 0 101 _ a4 refl refl)
-          (then-reads s _ _ _ 115 _ (takes-byte s 5 0 0 0 0 115 _ a5 refl refl)
-          (then-reads s _ _ _ 32 _ (takes-byte s 6 0 0 0 0 32 _ a6 refl refl)
-          (then-reads s _ _ _ 35 _ (takes-number s 7 0 0 0 0 e _ a7 he refl)
-          (then-reads s _ _ _ 32 _ (takes-byte s _ 0 0 0 e 32 _ a8 refl refl)
-          (then-reads s _ _ _ 35 _ (takes-number s _ 0 0 0 e q _ a9 hq refl)
-          (then-reads s _ _ _ 41 _ (takes-byte s _ 0 0 e q 41 _ b1 refl refl)
-          (then-reads s _ _ _ 10 _ (takes-byte s _ 0 0 e q 10 _ b2 refl refl) (reads-all s _)))))))))))),
-      at-next s _ 10 _ b2,
-    )
-
--- a line whose second byte is a c has no caller
-no-caller : (s u ps : List ℕ) → At s 0 (40 ∷ 99 ∷ u) → pieces s (reading 0 0 0 0 0) (40 ∷ 35 ∷ ps) ≡ bad
-unfolding isDigit between
-no-caller s u ps a0 =
-    then-reads s (reading 0 0 0 0 0) _ bad 40 (35 ∷ ps) (takes-byte s 0 0 0 0 0 40 _ a0 refl refl)
-    (then-bad s (reading 1 0 0 0 0) 35 ps (no-number s 1 0 0 0 0 99 u (at-next s 0 40 _ a0) refl refl))
-
-uncalled-no-ask : (s u : List ℕ) (other : Reading) → At s 0 (40 ∷ 99 ∷ u) → askForm s other ≡ other
-unfolding askForm form began bytes bad
-uncalled-no-ask s u other a0 = rw (no-caller s u (32 ∷ 97 ∷ 115 ∷ 107 ∷ 32 ∷ 35 ∷ []) a0) refl
-
-uncalled-no-simple : (s u : List ℕ) (other : Reading) → At s 0 (40 ∷ 99 ∷ u) → simpleForm s other ≡ other
-unfolding simpleForm whole form began bytes bad
-uncalled-no-simple s u other a0 = rw (no-caller s u (32 ∷ 64 ∷ 32 ∷ 35 ∷ 41 ∷ 10 ∷ []) a0) refl
-
-uncalled-no-answer : (s u : List ℕ) (other : Reading) → At s 0 (40 ∷ 99 ∷ u) → answerForm s other ≡ other
-unfolding answerForm whole form began bytes bad
-uncalled-no-answer s u other a0 = rw (no-caller s u (32 ∷ 97 ∷ 110 ∷ 115 ∷ 119 ∷ 101 ∷ 114 ∷ 32 ∷ 35 ∷ 32 ∷ 35 ∷ 41 ∷ 10 ∷ []) a0) refl
-
--- ---- chain
-chain-read : (s : List ℕ) (e : ℕ) → e ≤ greatestNumber → At s 0 (bytes "(chain " ++ (digitsOf e ++ (41 ∷ 10 ∷ [])))
-    → (form s 0 "(chain #)\n" ≡ reading (7 + length (digitsOf e) + 1 + 1) 0 0 0 e) × At s (7 + length (digitsOf e) + 1 + 1) []
-unfolding form began bytes isDigit between
-chain-read s e he a0 =
-    let a1 = at-next s 0 40 _ a0 in
-    let a2 = at-next s 1 99 _ a1 in
-    let a3 = at-next s 2 104 _ a2 in
-    let a4 = at-next s 3 97 _ a3 in
-    let a5 = at-next s 4 105 _ a4 in
-    let a6 = at-next s 5 110 _ a5 in
-    let a7 = at-next s 6 32 _ a6 in
-    let a8 = at-skip s 7 (digitsOf e) _ a7 in
-    let a9 = at-next s _ 41 _ a8 in (
-      then-reads s _ _ _ 40 _ (takes-byte s 0 0 0 0 0 40 _ a0 refl refl)
-          (then-reads s _ _ _ 99 _ (takes-byte s 1 0 0 0 0 99 _ a1 refl refl)
-          (then-reads s _ _ _ 104 _ (takes-byte s 2 0 0 0 0 104 _ a2 refl refl)
-          (then-reads s _ _ _ 97 _ (takes-byte s 3 0 0 0 0 97 _ a3 refl refl)
-          (then-reads s _ _ _ 105 _ (takes-byte s 4 0 0 0 0 105 _ a4 refl refl)
-          (then-reads s _ _ _ 110 _ (takes-byte s 5 0 0 0 0 110 _ a5 refl refl)
-          (then-reads s _ _ _ 32 _ (takes-byte s 6 0 0 0 0 32 _ a6 refl refl)
-          (then-reads s _ _ _ 35 _ (takes-number s 7 0 0 0 0 e _ a7 he refl)
-          (then-reads s _ _ _ 41 _ (takes-byte s _ 0 0 0 e 41 _ a8 refl refl)
-          (then-reads s _ _ _ 10 _ (takes-byte s _ 0 0 0 e 10 _ a9 refl refl) (reads-all s _)))))))))),
-      at-next s _ 10 _ a9,
-    )
-
-chain-no-comes : (s u : List ℕ) (other : Reading) → At s 0 (40 ∷ 99 ∷ 104 ∷ u) → comesForm s other ≡ other
-unfolding comesForm whole form began bytes bad
-chain-no-comes s u other a0 =
-    let a1 = at-next s 0 40 _ a0 in
-    rw (then-reads s (reading 0 0 0 0 0) _ bad 40 _ (takes-byte s 0 0 0 0 0 40 _ a0 refl refl)
-    (then-reads s _ _ _ 99 _ (takes-byte s 1 0 0 0 0 99 _ a1 refl refl)
-    (then-bad s (reading 2 0 0 0 0) 111 (109 ∷ 101 ∷ 115 ∷ 32 ∷ 35 ∷ 32 ∷ 35 ∷ 41 ∷ 10 ∷ []) (other-byte s 2 0 0 0 0 104 111 u (at-next s 1 99 _ a1) refl refl refl)))) refl
-
 -- ---- ask
-items-lead : (is : List Item) → isDigit (getD (itemsText is ++ (41 ∷ 10 ∷ [])) 0 0) ≡ false
-unfolding itemsText bytes isDigit between
-items-lead [] = refl
-items-lead (i ∷ is) = refl
-
-items-short : (is : List Item) → length (itemsText is) ≤ 24 * length is
-unfolding itemsText bytes
-items-short [] = omega arith
-items-short (i ∷ is) =
-    let h = items-short is in
-    let r = digits-short (i .row) in
-    let t = digits-short (i .rights) in
-    let x = length-append (digitsOf (i .row)) (32 ∷ (digitsOf (i .rights) ++ (41 ∷ itemsText is))) in
-    let y = length-append (digitsOf (i .rights)) (41 ∷ itemsText is) in
-    omega arith
-
--- all items are gathered, and the reader stands before the last bracket
-record Gathers (s : List ℕ) (is : List Item) (g : Gathered) : Type 0 where
-  items : g .items ≡ is
-  there : At s (g .next) (41 ∷ 10 ∷ [])
-
-item-row : (i : Item) → itemRanged i ≡ true → i .row ≤ greatestNumber
-unfolding itemRanged isNumber between
-item-row i e = leb-true (i .row) greatestNumber (and-r (leb 1 (i .row)) (leb (i .row) greatestNumber) (and-l (leb 1 (i .row) && leb (i .row) greatestNumber) (leb (i .rights) allRights) e))
-
-item-rights : (i : Item) → itemRanged i ≡ true → i .rights ≤ greatestNumber
-unfolding itemRanged isNumber between allRights greatestNumber
-item-rights i e = let h = leb-true (i .rights) 7 (and-r (isNumber (i .row)) (leb (i .rights) 7) e) in omega arith
-
--- the text after an item's own
-regroup : (i : Item) (is : List Item) → itemsText (i ∷ is) ++ (41 ∷ 10 ∷ [])
-    ≡ 32 ∷ 40 ∷ (digitsOf (i .row) ++ (32 ∷ (digitsOf (i .rights) ++ (41 ∷ (itemsText is ++ (41 ∷ 10 ∷ []))))))
-unfolding itemsText bytes
-regroup i is =
-    ap (λ (l : List ℕ). 32 ∷ 40 ∷ l)
-    (append-assoc (digitsOf (i .row)) (32 ∷ (digitsOf (i .rights) ++ (41 ∷ itemsText is))) (41 ∷ 10 ∷ [])
-    ∙ ap (λ (l : List ℕ). digitsOf (i .row) ++ (32 ∷ l)) (append-assoc (digitsOf (i .rights)) (41 ∷ itemsText is) (41 ∷ 10 ∷ [])))
-
--- one item
-record Taken (s : List ℕ) (i : Item) (u : List ℕ) (f : Read) : Type 0 where
-  good : f .good ≡ true
-  item : itemOf f ≡ i
-  there : At s (f .next) u
-
-take-item : (s : List ℕ) (j : ℕ) (i : Item) (u : List ℕ) → itemRanged i ≡ true
-    → At s j (32 ∷ 40 ∷ (digitsOf (i .row) ++ (32 ∷ (digitsOf (i .rights) ++ (41 ∷ u))))) → Taken s i u (form s j " (# #)")
-unfolding form began bytes isDigit between itemOf
-take-item s j i u r a0 =
-    let a1 = at-next s j 32 _ a0 in
-    let a2 = at-next s _ 40 _ a1 in
-    let a3 = at-skip s _ (digitsOf (i .row)) _ a2 in
-    let a4 = at-next s _ 32 _ a3 in
-    let a5 = at-skip s _ (digitsOf (i .rights)) _ a4 in
-    subst (Taken s i u)
-    (sym (then-reads s _ _ _ 32 _ (takes-byte s j 0 0 0 0 32 _ a0 refl refl)
-    (then-reads s _ _ _ 40 _ (takes-byte s _ 0 0 0 0 40 _ a1 refl refl)
-    (then-reads s _ _ _ 35 _ (takes-number s _ 0 0 0 0 (i .row) _ a2 (item-row i r) refl)
-    (then-reads s _ _ _ 32 _ (takes-byte s _ 0 0 0 (i .row) 32 _ a3 refl refl)
-    (then-reads s _ _ _ 35 _ (takes-number s _ 0 0 0 (i .row) (i .rights) _ a4 (item-rights i r) refl)
-    (then-reads s _ _ _ 41 _ (takes-byte s _ 0 0 (i .row) (i .rights) 41 _ a5 refl refl) (reads-all s _))))))))
-    (record { good = refl; item = refl; there = at-next s _ 41 _ a5 })
-
-no-item : (s : List ℕ) (j : ℕ) (u : List ℕ) → At s j (41 ∷ u) → form s j " (# #)" .good ≡ false
-unfolding form began bytes bad
-no-item s j u a = ap (λ (f : Read). f .good) (then-bad s (reading j 0 0 0 0) 32 (40 ∷ 35 ∷ 32 ∷ 35 ∷ 41 ∷ []) (other-byte s j 0 0 0 0 41 32 u a refl refl refl))
-
-gather-items : (s : List ℕ) (k : ℕ) (is : List Item) (j : ℕ) → length is ≤ k → all itemRanged is ≡ true → At s j (itemsText is ++ (41 ∷ 10 ∷ [])) → Gathers s is (gathered k s j)
-unfolding gathered itemsText bytes all addItem itemOf
-gather-items s zero [] j h r a = record { items = refl; there = a }
-gather-items s zero (i ∷ is) j h r a = absurd (omega arith)
-gather-items s (suc k) [] j h r a =
-    rw (no-item s j (10 ∷ []) a) (record { items = refl; there = a })
-gather-items s (suc k) (i ∷ is) j h r a =
-    let here : itemRanged i ≡ true = and-l (itemRanged i) (all itemRanged is) r in
-    let t = take-item s j i (itemsText is ++ (41 ∷ 10 ∷ [])) here (subst (At s j) (regroup i is) a) in
-    let g = gather-items s k is (form s j " (# #)" .next) (omega arith) (and-r (itemRanged i) (all itemRanged is) r) (t .there) in
-    rw (t .good) (record { items = λ m. t .item m ∷ g .items m; there = g .there })
-
-last-bracket : (s : List ℕ) (j : ℕ) → At s j (41 ∷ 10 ∷ []) → whole s (form s j ")\n") ≡ true
-unfolding form began bytes
-last-bracket s j a =
-    let a1 = at-next s j 41 _ a in
-    subst (λ (f : Read). whole s f ≡ true)
-    (sym (then-reads s _ _ _ 41 _ (takes-byte s j 0 0 0 0 41 _ a refl refl) (then-reads s _ _ _ 10 _ (takes-byte s _ 0 0 0 0 10 _ a1 refl refl) (reads-all s _))))
-    (ends s _ 0 0 0 0 (at-next s _ 10 _ a1))
-
-ask-read : (s : List ℕ) (p c : ℕ) (is : List Item) → p ≤ greatestNumber → c ≤ greatestNumber
-    → At s 0 (40 ∷ (digitsOf p ++ (32 ∷ 97 ∷ 115 ∷ 107 ∷ 32 ∷ (digitsOf c ++ (itemsText is ++ (41 ∷ 10 ∷ []))))))
+ask-read : (s : List ℕ) (p c : ℕ) (xs : List Group) → p ≤ greatestNumber → c ≤ greatestNumber
+    → At s 0 (40 ∷ (digitsOf p ++ (32 ∷ 97 ∷ 115 ∷ 107 ∷ 32 ∷ (digitsOf c ++ (groupsText xs ++ (41 ∷ 10 ∷ []))))))
     → (form s 0 "(# ask #" ≡ reading (1 + length (digitsOf p) + 1 + 1 + 1 + 1 + 1 + length (digitsOf c)) 0 0 p c)
-    × At s (1 + length (digitsOf p) + 1 + 1 + 1 + 1 + 1 + length (digitsOf c)) (itemsText is ++ (41 ∷ 10 ∷ []))
+    × At s (1 + length (digitsOf p) + 1 + 1 + 1 + 1 + 1 + length (digitsOf c)) (groupsText xs ++ (41 ∷ 10 ∷ []))
 unfolding form began bytes isDigit between
-ask-read s p c is hp hc a0 =
+ask-read s p c xs hp hc a0 =
     let a1 = at-next s 0 40 _ a0 in
     let a2 = at-skip s 1 (digitsOf p) _ a1 in
     let a3 = at-next s _ 32 _ a2 in
@@ -416,7 +232,7 @@ ask-read s p c is hp hc a0 =
           (then-reads s _ _ _ 115 _ (takes-byte s _ 0 0 0 p 115 _ a4 refl refl)
           (then-reads s _ _ _ 107 _ (takes-byte s _ 0 0 0 p 107 _ a5 refl refl)
           (then-reads s _ _ _ 32 _ (takes-byte s _ 0 0 0 p 32 _ a6 refl refl)
-          (then-reads s _ _ _ 35 _ (takes-number s _ 0 0 0 p c _ a7 hc (items-lead is)) (reads-all s _)))))))),
+          (then-reads s _ _ _ 35 _ (takes-number s _ 0 0 0 p c _ a7 hc (groups-lead xs)) (reads-all s _)))))))),
       at-skip s _ (digitsOf c) _ a7,
     )
 
@@ -424,29 +240,46 @@ process-fits : (p : ℕ) → isProcess p ≡ true → p ≤ greatestNumber
 unfolding isProcess between processes greatestNumber
 process-fits p e = let h = leb-true p 64 (and-r (leb 1 p) (leb p 64) e) in omega arith
 
-number-fits : (n : ℕ) → isNumber n ≡ true → n ≤ greatestNumber
-unfolding isNumber between
-number-fits n e = leb-true n greatestNumber (and-r (leb 1 n) (leb n greatestNumber) e)
-
 judged-asks : (p c : ℕ) (is : List Item) → isProcess p ≡ true → isNumber c ≡ true → all itemRanged is ≡ true → distinct (map (λ i. i .row) is) ≡ true → length is ≤ mostItems
     → judged p c is ≡ Asks (Ask p c (packed is))
 unfolding judged
 judged-asks p c is hp hc r d h = rw (hp, hc, r, d, le-ltb mostItems (length is) h) refl
 
+-- the groups of items, and the items of groups
+item-fits : (i : Item) → itemRanged i ≡ true → groupFits (itemGroup i) ≡ true
+unfolding itemRanged itemGroup groupFits allRights greatestNumber
+item-fits i e =
+    let row = number-fits (i .row) (and-l (isNumber (i .row)) (leb (i .rights) 7) e) in
+    let rights = leb-true (i .rights) 7 (and-r (isNumber (i .row)) (leb (i .rights) 7) e) in
+    and-i (leb (i .row) greatestNumber) (leb (i .rights) greatestNumber) (le-leb (i .row) greatestNumber row) (le-leb (i .rights) greatestNumber (omega arith))
+
+items-fit : (is : List Item) → all itemRanged is ≡ true → all groupFits (map itemGroup is) ≡ true
+unfolding all
+items-fit [] e = refl
+items-fit (i ∷ is) e =
+    and-i (groupFits (itemGroup i)) (all groupFits (map itemGroup is)) (item-fits i (and-l (itemRanged i) (all itemRanged is) e)) (items-fit is (and-r (itemRanged i) (all itemRanged is) e))
+
+items-groups : (is : List Item) → map itemOf (map itemGroup is) ≡ is
+unfolding itemOf itemGroup
+items-groups [] = refl
+items-groups (i ∷ is) = ap (λ (js : List Item). i ∷ js) (items-groups is)
+
 ask-back : (s : List ℕ) (p c : ℕ) (is : List Item) → isProcess p ≡ true → isNumber c ≡ true → all itemRanged is ≡ true → distinct (map (λ i. i .row) is) ≡ true → length is ≤ 4
-    → At s 0 (40 ∷ (digitsOf p ++ (32 ∷ 97 ∷ 115 ∷ 107 ∷ 32 ∷ (digitsOf c ++ (itemsText is ++ (41 ∷ 10 ∷ [])))))) → readingOf s ≡ Asks (Ask p c (packed is))
+    → At s 0 (40 ∷ (digitsOf p ++ (32 ∷ 97 ∷ 115 ∷ 107 ∷ 32 ∷ (digitsOf c ++ (groupsText (map itemGroup is) ++ (41 ∷ 10 ∷ [])))))) → readingOf s ≡ Asks (Ask p c (packed is))
 unfolding askForm mostGroups mostItems
 ask-back s p c is hp hc r d h a0 =
-    let f = ask-read s p c is (process-fits p hp) (number-fits c hc) a0 in
+    let xs : List Group = map itemGroup is in
+    let n : length xs ≡ length is = length-map is itemGroup in
+    let f = ask-read s p c xs (process-fits p hp) (number-fits c hc) a0 in
     let j = 1 + length (digitsOf p) + 1 + 1 + 1 + 1 + 1 + length (digitsOf c) in
-    let g = gather-items s 64 is j (omega arith) r (f .1) in
+    let g = gather-groups s 64 xs j (omega arith) (items-fit is r) (f .1) in
     let dp = digits-short p in
     let dc = digits-short c in
-    let di = items-short is in
-    let la = length-append (itemsText is) (41 ∷ 10 ∷ []) in
+    let di = groups-short xs in
+    let la = length-append (groupsText xs) (41 ∷ 10 ∷ []) in
     let e = f .1 .size in
     short s (omega arith)
-    ∙ (rw (f .0, last-bracket s (gathered 64 s j .next) (g .there), g .items) (judged-asks p c is hp hc r d h))
+    ∙ (rw (f .0, last-bracket s (gathered 64 s j .next) (g .there), g .groups, items-groups is) (judged-asks p c is hp hc r d h))
 
 -- ---- every call
 -- a call of one number, by the letters of its word
@@ -470,33 +303,12 @@ answered p e x h few =
     let he = and-r (isProcess p) (isNumber e) h in
     answer-back _ p e x (process-fits p hp) (number-fits e he) (omega arith) (at-start _) hp he (le-leb x 1 few)
 
-comes-back : (e q : ℕ) → isNumber e ≡ true → isNumber q ≡ true → readingOf (bytes "(comes " ++ (digitsOf e ++ (32 ∷ (digitsOf q ++ (41 ∷ 10 ∷ []))))) ≡ Asks (Comes e q)
-unfolding comesForm ranged bytes
-comes-back e q he hq =
-    let s = bytes "(comes " ++ (digitsOf e ++ (32 ∷ (digitsOf q ++ (41 ∷ 10 ∷ [])))) in
-    let f = comes-read s e q (number-fits e he) (number-fits q hq) (at-start s) in
-    let z = f .1 .size in
-    let de = digits-short e in
-    let dq = digits-short q in
-    short s (omega arith) ∙ uncalled-no-ask s _ _ (at-start s) ∙ (rw (f .0, ends s _ 0 0 e q (f .1), he, hq) refl)
-
-chain-back : (e : ℕ) → isNumber e ≡ true → readingOf (bytes "(chain " ++ (digitsOf e ++ (41 ∷ 10 ∷ []))) ≡ Asks (Chain e)
-unfolding chainForm ranged bytes
-chain-back e he =
-    let s = bytes "(chain " ++ (digitsOf e ++ (41 ∷ 10 ∷ [])) in
-    let a = at-start s in
-    let f = chain-read s e (number-fits e he) a in
-    let z = f .1 .size in
-    let de = digits-short e in
-    short s (omega arith) ∙ uncalled-no-ask s _ _ a ∙ chain-no-comes s _ _ a ∙ uncalled-no-simple s _ _ a ∙ uncalled-no-answer s _ _ a
-    ∙ (rw (f .0, ends s _ 0 0 0 e (f .1), he) refl)
-
 few-items : (is : Items) → length (itemsOf is) ≤ 4
 unfolding itemsOf
 few-items is = length-filter (λ i. some (i .row)) (is .first ∷ is .second ∷ is .third ∷ is .fourth ∷ [])
 
 pub call-read : (c : Call) → InRange c → readingOf (callText c) ≡ Asks c
-unfolding InRange callText simpleText askText answerText lastOf comesText chainText simple ranged bytes wordOf wordFrom spelt all isLetter between
+unfolding InRange callText simpleText askText answerText lastOf comesText chainText comesAllText simple ranged bytes wordOf wordFrom spelt all isLetter between mostBytes
 call-read (Go p e) h =
     one-number p e 103 (111 ∷ []) refl refl (omega arith) (and-l (isProcess p) (leb e greatestNumber) h) (leb-true e greatestNumber (and-r (isProcess p) (leb e greatestNumber) h)) (Asks (Go p e)) (rw h refl)
 call-read (Hold p e) h = named p e h 104 (111 ∷ 108 ∷ 100 ∷ []) refl refl (omega arith) (Asks (Hold p e)) (rw h refl)
@@ -511,3 +323,4 @@ call-read (Call.Answer p e false) h = answered p e 0 h (omega arith)
 call-read (Revoke p e) h = named p e h 114 (101 ∷ 118 ∷ 111 ∷ 107 ∷ 101 ∷ []) refl refl (omega arith) (Asks (Revoke p e)) (rw h refl)
 call-read (Comes e q) h = comes-back e q (and-l (isNumber e) (isNumber q) h) (and-r (isNumber e) (isNumber q) h)
 call-read (Chain e) h = chain-back e h
+call-read (ComesAll es qs) h = comes-all-back _ (pairsOf es qs) (h .there) (h .pairs) (pairs-few es qs) (h .short) (at-start _) ∙ ap Asks (h .first)

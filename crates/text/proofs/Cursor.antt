@@ -12,7 +12,7 @@ use Rattle.rows.specs.Lists.{all}
 use Rattle.rows.specs.Limits.{greatestNumber}
 use Rattle.rows.proofs.Bools.{and-l, and-r}
 use Rattle.text.specs.declared.Read.{Read}
-use Rattle.text.specs.Patterns.{isDigit, isLetter, grown, spelt, run, digits, letters, bad, counted, worded, passed, number, word, itself, piece, pieces, wordFrom}
+use Rattle.text.specs.Patterns.{isDigit, isLetter, grown, spelt, run, digits, letters, bad, counted, worded, passed, number, word, itself, piece, pieces, whole, wordFrom}
 use Rattle.text.specs.Answers.{decimal, digitsOf}
 use Rattle.text.proofs.Answers.{run-decimal, leads-decimal, run-ends}
 
@@ -35,7 +35,7 @@ at-skip s i xs u a =
 pub at-next : (s : List ℕ) (i b : ℕ) (u : List ℕ) → At s i (b ∷ u) → At s (i + 1) u
 at-next s i b u a = at-skip s i (b ∷ []) u a
 
-at-first : (s : List ℕ) (i : ℕ) (u : List ℕ) → At s i u → getD s i 0 ≡ getD u 0 0
+pub at-first : (s : List ℕ) (i : ℕ) (u : List ℕ) → At s i u → getD s i 0 ≡ getD u 0 0
 at-first s i u a = let e : i ≡ i + 0 = omega arith in ap (λ (k : ℕ). getD s k 0) e ∙ sym (getD-drop i s 0 0) ∙ ap (λ (l : List ℕ). getD l 0 0) (a .rest)
 
 at-inside : (s : List ℕ) (i b : ℕ) (u : List ℕ) → At s i (b ∷ u) → i < length s
@@ -111,3 +111,8 @@ stays-bad s (p ∷ ps) = stays-bad s ps
 
 pub then-bad : (s : List ℕ) (r : Read) (p : ℕ) (ps : List ℕ) → piece s r p ≡ bad → pieces s r (p ∷ ps) ≡ bad
 then-bad s r p ps e = then-reads s r bad bad p ps e (stays-bad s ps)
+
+-- ---- a whole form
+pub ends : (s : List ℕ) (i w x y z : ℕ) → At s i [] → whole s (reading i w x y z) ≡ true
+unfolding whole
+ends s i w x y z a = let e = a .size in eq-eqb i (length s) (omega arith)

@@ -5,9 +5,15 @@ pub mod Answers
 pub mod Cursor
 -- a call written as a line reads back as itself
 pub mod CallsBack
+-- those that have no caller
+pub mod UncalledBack
+-- groups of two numbers read back from their text
+pub mod GroupsBack
 -- what an answer says is read back from its text
 pub mod AnswersBack
--- what a call line that is read as a call guarantees: caller, numbers and items in range
+-- numbers with 0 after the last, and the pairs of two such lists
+pub mod Firsts
+-- what a call line that is read as a call guarantees: caller, numbers, items and pairs in range
 pub mod Readings
 -- what an accepted opening text guarantees of its forms
 pub mod OpeningForms
@@ -23,8 +29,10 @@ pub mod Opening
 pub mod Numbers
 -- runs, pieces and whole patterns, step by step as the reader takes them
 pub mod PatternLaws
--- the items of an ask: one more kept, those read and those left
-pub mod AskLaws
+-- groups of two numbers: one more kept, what is judged of them, those read and those left
+pub mod GroupLaws
+-- the head of a line that has groups
+pub mod GroupHeads
 -- replies: one byte more, one text after another, the digits of a number
 pub mod ReplyLaws
 -- the lines of an opening text, the entries of a node form, what is given

@@ -22,7 +22,7 @@ use Rattle.text.specs.declared.EntriesRead.{EntriesRead}
 use Rattle.text.specs.declared.Entry.{Entry}
 use Rattle.text.specs.declared.EntryRead.{EntryRead}
 use Rattle.text.specs.declared.Given.{Given}
-use Rattle.text.proofs.AskLaws.{all-snoc}
+use Rattle.text.proofs.GroupLaws.{all-snoc}
 
 -- ---- lines
 -- a text is its first line and the lines after it

@@ -3,14 +3,14 @@ use Prim.Native.Nat.{ℕ, _≤_, _<_, _+_}
 use Prim.Native.String.{String}
 use native.Mathlib.Numerals.{add-one}
 use native.Mathlib.Omega.{arith}
-use mathlib.Core.Bool.{true, false, Bool}
+use mathlib.Core.Bool.{true, false, Bool, cond, _&&_}
 use mathlib.Core.List.{List, [], _∷_}
-use mathlib.Core.Path.{_≡_, refl, ap}
-use lib.Dec.{leb}
+use mathlib.Core.Path.{_≡_, refl, ap, sym, _∙_}
+use lib.Dec.{leb, ltb, eqb}
 use lib.ListN.{length, getD, drop, drop-of-length-le, List·getD-eq-default}
 use lib.Seq.{drop-cons}
-use borrow.Author.Tests.{le-leb, lt-leb, leb-true, ne-eqb, le-ltb, lt-ltb, eq-eqb}
-use Rattle.rows.proofs.Bools.{and-l, and-r}
+use borrow.Author.Tests.{le-leb, lt-leb, leb-true, ne-eqb, le-ltb, lt-ltb, eq-eqb, eqb-true}
+use Rattle.rows.proofs.Bools.{clash, and-l, and-r}
 use Rattle.rows.specs.Lists.{between, bytes}
 use Rattle.text.specs.Patterns.{isDigit, isLetter, run, number, bad, counted, digits, word, worded, letters, itself, passed, piece, pieces, began, form}
 use Rattle.text.specs.declared.Read.{Read}
@@ -146,3 +146,25 @@ pieces-bad s r (p ∷ ps) e = rw (piece-bad s r p e) (pieces-bad s r ps e)
 pub form-of : (s : List ℕ) (i : ℕ) (t : List ℕ) (p : String) → t ≡ bytes p → pieces s (began i) t ≡ form s i p
 unfolding form
 form-of s i t p e = ap (λ (x : List ℕ). pieces s (began i) x) e
+
+-- ---- patterns that begin with a bracket differ in what follows it
+-- what was read whole was read so far
+pub second-piece : (s : List ℕ) (p : ℕ) (ps : List ℕ) → pieces s (began 0) (40 ∷ p ∷ ps) .good ≡ true → piece s (passed (began 0)) p .good ≡ true
+unfolding pieces piece itself began passed bad
+second-piece s p ps e = pick (ltb 0 (length s) && eqb (getD s 0 0) 40) e
+  where
+    pick : (x : Bool) → pieces s (piece s (cond x (passed (began 0)) bad) p) ps .good ≡ true → piece s (passed (began 0)) p .good ≡ true
+    pick false g = clash g (ap (λ (r : Read). r .good) (pieces-bad s bad ps refl))
+    pick true g = then (piece s (passed (began 0)) p .good) refl g
+      where
+        then : (y : Bool) → piece s (passed (began 0)) p .good ≡ y → pieces s (piece s (passed (began 0)) p) ps .good ≡ true → y ≡ true
+        then true q g = refl
+        then false q g = clash g (ap (λ (r : Read). r .good) (pieces-bad s (piece s (passed (began 0)) p) ps q) ∙ q)
+
+pub second-byte : (s : List ℕ) (b : ℕ) (ps : List ℕ) → (b ≡ 35 → ⊥) → (b ≡ 64 → ⊥) → pieces s (began 0) (40 ∷ b ∷ ps) .good ≡ true → getD s 1 0 ≡ b
+unfolding began passed bad itself
+second-byte s b ps h k e = pick (ltb 1 (length s) && eqb (getD s 1 0) b) refl (sym (ap (λ (r : Read). r .good) (piece-byte s (passed (began 0)) b refl h k)) ∙ second-piece s b ps e)
+  where
+    pick : (y : Bool) → ltb 1 (length s) && eqb (getD s 1 0) b ≡ y → cond y (passed (passed (began 0))) bad .good ≡ true → getD s 1 0 ≡ b
+    pick true r g = eqb-true (getD s 1 0) b (and-r (ltb 1 (length s)) (eqb (getD s 1 0) b) r)
+    pick false r g = clash g refl

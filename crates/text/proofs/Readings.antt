@@ -1,4 +1,4 @@
--- What a call line that is read as a call guarantees: its caller, its numbers and its items are in range, no item twice.
+-- What a call line that is read as a call guarantees: its caller, its numbers, items and pairs are in range, no item twice, and a comesall has a pair.
 use Prim.Native.Nat.{ℕ, suc, _≤_}
 use native.Mathlib.Omega.{arith}
 use mathlib.Core.Path.{_≡_, refl, subst}
@@ -8,20 +8,24 @@ use lib.ListN.{length}
 use lib.Dec.{leb, ltb, eqb}
 use borrow.Author.Tests.{ltb-false, leb-true, lt-ltb}
 use Rattle.rows.specs.Lists.{all, distinct, between, some, filter}
-use Rattle.rows.specs.Limits.{processes, allRights, greatestNumber, mostItems, mostBytes}
+use Rattle.rows.specs.Limits.{processes, allRights, greatestNumber, mostItems, mostPairs, mostBytes}
 use Rattle.rows.proofs.Bools.{and-l, and-r, all-mono}
 use Rattle.rows.proofs.Places.{between-range}
 use Rattle.calls.specs.declared.Item.{Item}
+use Rattle.calls.specs.declared.Sixteen.{Sixteen}
 use Rattle.calls.specs.declared.Call.{Call}
-use Rattle.calls.specs.declared.Call.the-variants.{Go, Hold, Register, Drop, Port, Close, Ask, Fetch, Revoke, Comes, Chain}
+use Rattle.calls.specs.declared.Call.the-variants.{Go, Hold, Register, Drop, Port, Close, Ask, Fetch, Revoke, Comes, Chain, ComesAll}
 use Rattle.calls.specs.Rules.{isRefusal}
+use Rattle.calls.specs.Calls.{fourFrom, sixteenFrom}
 use Rattle.calls.specs.Loans.{itemsOf}
 use Rattle.calls.specs.contracts.Effects.{IsProcess}
 use Rattle.calls.specs.contracts.Performs.{CallerInRange}
 use Rattle.text.specs.declared.Reading.{Reading}
 use Rattle.text.specs.declared.Reading.the-variants.{Asks, Crowded, Refused}
 use Rattle.text.specs.Patterns.{form, whole, wordOf, mostGroups}
-use Rattle.text.specs.CallLines.{isProcess, isNumber, ranged, simple, simpleForm, chainForm, answerForm, comesForm, gathered, itemRanged, noItem, packed, judged, askForm, readingOf}
+use Rattle.text.specs.CallLines.{isProcess, isNumber, ranged, simple, simpleForm, chainForm, answerForm, comesForm, Group, gathered, pairRanged, comesAll, judgedPairs, comesAllForm, itemOf, itemRanged, noItem, packed, judged, askForm, readingOf}
+use Rattle.text.specs.ReadBack.{pairsOf}
+use Rattle.text.proofs.Firsts.{pairs-back}
 
 -- ---- what is guaranteed
 pub record GoodNumber (p e : ℕ) : Type 0 where
@@ -44,6 +48,10 @@ pub record GoodComes (e q : ℕ) : Type 0 where
   pub row : isNumber e ≡ true
   pub request : isNumber q ≡ true
 
+pub record GoodPairs (es qs : Sixteen) : Type 0 where
+  pub there : some (es .first .first) ≡ true
+  pub pairs : all pairRanged (pairsOf es qs) ≡ true
+
 unfoldable pub Good : Call → Type 0
 Good (Go p e) = GoodGo p e
 Good (Hold p s) = GoodNumber p s
@@ -57,6 +65,7 @@ Good (Call.Answer p v served) = GoodNumber p v
 Good (Revoke p q) = GoodNumber p q
 Good (Comes e q) = GoodComes e q
 Good (Chain e) = isNumber e ≡ true
+Good (ComesAll es qs) = GoodPairs es qs
 
 -- a call that is read is good; a refusal has such a number
 unfoldable Reads : Reading → Type 0
@@ -159,6 +168,10 @@ rights-ranged : (i : Item) → itemRanged i ≡ true → leb (i .rights) allRigh
 unfolding itemRanged
 rights-ranged i e = and-r (isNumber (i .row)) (leb (i .rights) allRights) e
 
+pair-some : (x : Group) → pairRanged x ≡ true → some (x .first) ≡ true
+unfolding pairRanged
+pair-some x e = number-some (x .first) (and-l (isNumber (x .first)) (isNumber (x .second)) e)
+
 judged-reads : (p c : ℕ) (is : List Item) → Reads (judged p c is)
 unfolding judged Reads Good isNamed
 judged-reads p c is =
@@ -189,15 +202,43 @@ unfolding askForm
 ask-form-reads s other h =
     let f = form s 0 "(# ask #" in
     let g = gathered mostGroups s (f .next) in
-    if-reads (f .good && whole s (form s (g .next) ")\n")) (judged (f .b) (f .c) (g .items)) other (judged-reads (f .b) (f .c) (g .items)) h
+    if-reads (f .good && whole s (form s (g .next) ")\n")) (judged (f .b) (f .c) (map itemOf (g .groups))) other (judged-reads (f .b) (f .c) (map itemOf (g .groups))) h
+
+-- ---- the pairs of a comesall
+-- as many as there are places, each in range: those read are those that the call holds
+ranged-pairs : (xs : List Group) → all pairRanged xs ≡ true → length xs ≤ mostPairs
+    → all pairRanged (pairsOf (sixteenFrom (map (λ x. x .first) xs)) (sixteenFrom (map (λ x. x .second) xs))) ≡ true
+ranged-pairs xs a h = rw (pairs-back xs h (all-mono pairRanged (λ x. some (x .first)) pair-some xs a)) a
+
+pairs-reads : (xs : List Group) → Reads (judgedPairs xs)
+unfolding judgedPairs comesAll sixteenFrom fourFrom Reads Good all
+pairs-reads [] = refl
+pairs-reads (x ∷ xs) = if-reads (eqb (suc (length xs)) 0) (Refused 2) _ refl (pick (pairRanged x && all pairRanged xs) refl (ltb mostPairs (suc (length xs))) refl)
+  where
+    pick : (a : Bool) → pairRanged x && all pairRanged xs ≡ a → (l : Bool) → ltb mostPairs (suc (length xs)) ≡ l
+        → Reads (cond (not a) (Refused 3) (cond l (Refused 6) (Asks (comesAll (x ∷ xs)))))
+    pick false ea l el = refl
+    pick true ea true el = refl
+    pick true ea false el =
+        record { there = pair-some x (and-l (pairRanged x) (all pairRanged xs) ea); pairs = ranged-pairs (x ∷ xs) ea (ltb-false mostPairs (suc (length xs)) el) }
+
+comes-all-form-reads : (s : List ℕ) (other : Reading) → Reads other → Reads (comesAllForm s other)
+unfolding comesAllForm
+comes-all-form-reads s other h =
+    let f = form s 0 "(comesall" in
+    let g = gathered mostGroups s (f .next) in
+    if-reads (f .good && whole s (form s (g .next) ")\n")) (judgedPairs (g .groups)) other (pairs-reads (g .groups)) h
 
 line-reads : (s : List ℕ) → Reads (readingOf s)
 unfolding readingOf Reads
 line-reads s =
     let answered = answerForm s (chainForm s) in
     let one = simpleForm s answered in
-    if-reads (ltb (suc mostBytes) (length s)) (Refused 2) (askForm s (comesForm s one)) refl
-    (ask-form-reads s (comesForm s one) (comes-form-reads s one (simple-form-reads s answered (answer-form-reads s (chainForm s) (chain-form-reads s)))))
+    let comes = comesForm s one in
+    let all = comesAllForm s comes in
+    if-reads (ltb (suc mostBytes) (length s)) (Refused 2) (askForm s all) refl
+    (ask-form-reads s all
+    (comes-all-form-reads s comes (comes-form-reads s one (simple-form-reads s answered (answer-form-reads s (chainForm s) (chain-form-reads s))))))
 
 -- ---- what other files use
 pub reading-good : (line : List ℕ) (c : Call) → readingOf line ≡ Asks c → Good c
@@ -227,6 +268,7 @@ good-in-range (Call.Answer p v served) g = process-range p (g .caller)
 good-in-range (Revoke p q) g = process-range p (g .caller)
 good-in-range (Comes e q) g = tt
 good-in-range (Chain e) g = tt
+good-in-range (ComesAll es qs) g = tt
 
 pub reading-in-range : (line : List ℕ) (c : Call) → readingOf line ≡ Asks c → CallerInRange c
 reading-in-range line c e = good-in-range c (reading-good line c e)

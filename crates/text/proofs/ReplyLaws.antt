@@ -4,8 +4,8 @@ use native.Mathlib.Numerals.{add-one}
 use native.Mathlib.Nat.{lt-irrefl, not-suc-le-zero, le-of-suc-le-suc}
 use native.Mathlib.Decide.{decLt}
 use native.Mathlib.Omega.{arith}
-use mathlib.Core.Bool.{Bool, cond, true, false, _&&_}
-use mathlib.Core.List.{List, _++_, _∷_, [], append-nil, append-assoc}
+use mathlib.Core.Bool.{Bool, true, false, _&&_}
+use mathlib.Core.List.{List, _++_, _∷_, [], map, map-append, append-nil, append-assoc}
 use mathlib.Core.Path.{_≡_, sym, _∙_, ap, refl}
 use lib.Dec.{leb, ltb}
 use lib.ListN.{length, set, length-append, length-set, length-drop, take, getD, drop}
@@ -15,8 +15,9 @@ use mir.Val.{boolByte}
 use Rattle.rows.proofs.Bools.{clash, and-l, and-r, and-i}
 use Rattle.rows.proofs.Lists.{filter-append}
 use Rattle.rows.specs.Lists.{pad, nonzero, filter, some, if_then_else_}
-use Rattle.text.specs.Answers.{decimal, spaced, digitsOf}
-use Rattle.text.specs.contracts.Replies.{inReply, Puts}
+use Rattle.calls.specs.Answers.{Value, num}
+use Rattle.text.specs.Answers.{decimal, valueText, spaced, digitsOf}
+use Rattle.text.specs.contracts.Replies.{inReply, Puts, listedText}
 use Rattle.text.specs.contracts.Sizes.{REPLY, VALUE}
 use Rattle.text.specs.declared.Reply.{Reply}
 use Rattle.changes.proofs.Put.{set-pad-end}
@@ -85,8 +86,8 @@ digit-more (suc j) n l t more h e =
 
 -- the first digit, and a space before it
 pub value-whole : (i left n : ℕ) (l : List ℕ) → length l ≡ VALUE → 0 < i → i < VALUE → leb 10 left && ltb 1 i ≡ false → decimal i left ++ drop (suc i) l ≡ decimal 10 n
-    → take (VALUE - (i - 1)) (drop (i - 1) (set (set l i (48 + left % 10)) (i - 1) 32)) ≡ spaced (n ∷ [])
-unfolding spaced digitsOf
+    → take (VALUE - (i - 1)) (drop (i - 1) (set (set l i (48 + left % 10)) (i - 1) 32)) ≡ spaced (num n ∷ [])
+unfolding spaced valueText digitsOf
 value-whole zero left n l long some h none e = absurd (lt-irrefl 0 some)
 value-whole (suc i) left n l long some h none e =
     let b = 48 + left % 10 in
@@ -100,40 +101,33 @@ value-whole (suc i) left n l long some h none e =
     rw q (take-all (VALUE - i) (drop i w) (omega (arith, length-drop i w, length-set m i 32)) ∙ put)
 
 -- ---- values
-pub spaced-append : (ms ns : List ℕ) → spaced (ms ++ ns) ≡ spaced ms ++ spaced ns
+pub spaced-append : (vs ws : List Value) → spaced (vs ++ ws) ≡ spaced vs ++ spaced ws
 unfolding spaced
-spaced-append [] ns = refl
-spaced-append (m ∷ ms) ns = rw (spaced-append ms ns, append-assoc)
-
--- the listed ones of a list, one after the other
-pub listed-next : (n : ℕ) (ns : List ℕ) → spaced (nonzero (n ∷ ns)) ≡ spaced (nonzero (n ∷ [])) ++ spaced (nonzero ns)
-unfolding nonzero filter spaced
-listed-next n ns = pick (some n)
-  where
-    pick : (b : Bool) → spaced (cond b (n ∷ filter some ns) (filter some ns)) ≡ spaced (cond b (n ∷ []) []) ++ spaced (filter some ns)
-    pick true = ap (λ (t : List ℕ). 32 ∷ t) (sym (rw (append-nil (digitsOf n)) refl))
-    pick false = refl
-
-pub four-listed : (a b c d : ℕ)
-    → spaced (nonzero (a ∷ b ∷ c ∷ d ∷ []))
-    ≡ spaced (nonzero (a ∷ [])) ++ (spaced (nonzero (b ∷ [])) ++ (spaced (nonzero (c ∷ [])) ++ spaced (nonzero (d ∷ []))))
-four-listed a b c d =
-    listed-next a (b ∷ c ∷ d ∷ []) ∙ ap (λ (t : List ℕ). spaced (nonzero (a ∷ [])) ++ t) (listed-next b (c ∷ d ∷ []) ∙ ap (λ (t : List ℕ). spaced (nonzero (b ∷ [])) ++ t) (listed-next c (d ∷ [])))
+spaced-append [] ws = refl
+spaced-append (v ∷ vs) ws = rw (spaced-append vs ws, append-assoc)
 
 -- values in two parts, then the end
-pub two-parts : (ms ns e : List ℕ) → spaced ms ++ (spaced ns ++ e) ≡ spaced (ms ++ ns) ++ e
-two-parts ms ns e = rw (spaced-append ms ns, append-assoc) refl
+pub two-parts : (vs ws : List Value) (e : List ℕ) → spaced vs ++ (spaced ws ++ e) ≡ spaced (vs ++ ws) ++ e
+two-parts vs ws e = rw (spaced-append vs ws, append-assoc) refl
 
--- the listed ones of three lists, one after the other, then the end
-nonzero-append : (ms ns : List ℕ) → nonzero (ms ++ ns) ≡ nonzero ms ++ nonzero ns
-unfolding nonzero
-nonzero-append ms ns = filter-append some ms ns
+-- the listed ones of two lists, of four numbers, of four lists, one after the other; of three lists, then the end
+module _ (value : ℕ → Value) where
+  pub listed-append : (ms ns : List ℕ) → listedText value (ms ++ ns) ≡ listedText value ms ++ listedText value ns
+  unfolding nonzero
+  listed-append ms ns = rw (filter-append some ms ns, map-append value (filter some ms) (filter some ns)) (spaced-append (map value (filter some ms)) (map value (filter some ns)))
 
-pub three-listed : (ks ms ns e : List ℕ)
-    → spaced (nonzero ks) ++ (spaced (nonzero ms) ++ (spaced (nonzero ns) ++ e)) ≡ spaced (nonzero (ks ++ (ms ++ ns))) ++ e
-three-listed ks ms ns e =
-    rw (nonzero-append ks (ms ++ ns), nonzero-append ms ns)
-    (ap (λ (t : List ℕ). spaced (nonzero ks) ++ t) (two-parts (nonzero ms) (nonzero ns) e) ∙ two-parts (nonzero ks) (nonzero ms ++ nonzero ns) e)
+  pub four-lists : (ks ls ms ns : List ℕ)
+      → listedText value (ks ++ (ls ++ (ms ++ ns))) ≡ listedText value ks ++ (listedText value ls ++ (listedText value ms ++ listedText value ns))
+  four-lists ks ls ms ns = rw (listed-append ks (ls ++ (ms ++ ns)), listed-append ls (ms ++ ns), listed-append ms ns) refl
+
+  pub four-listed : (a b c d : ℕ)
+      → listedText value (a ∷ b ∷ c ∷ d ∷ [])
+      ≡ listedText value (a ∷ []) ++ (listedText value (b ∷ []) ++ (listedText value (c ∷ []) ++ listedText value (d ∷ [])))
+  four-listed a b c d = four-lists (a ∷ []) (b ∷ []) (c ∷ []) (d ∷ [])
+
+  pub three-listed : (ks ms ns e : List ℕ)
+      → listedText value ks ++ (listedText value ms ++ (listedText value ns ++ e)) ≡ listedText value (ks ++ (ms ++ ns)) ++ e
+  three-listed ks ms ns e = rw (listed-append ks (ms ++ ns), listed-append ms ns, append-assoc, append-assoc) refl
 
 -- a bool as a number
 pub told-number : (b : Bool) → boolByte b ≡ (if b then 1 else 0)

@@ -7,13 +7,12 @@ use mathlib.Core.List.{List, _∷_, []}
 use mathlib.Core.Path.{_≡_, refl, ap, subst, _∙_, sym}
 use lib.Dec.{eqb, ltb}
 use lib.ListN.{length, getD}
-use borrow.Author.Tests.{ne-eqb, eqb-true}
-use Rattle.rows.proofs.Bools.{clash, and-l, and-r}
+use Rattle.rows.proofs.Bools.{and-l}
 use Rattle.rows.specs.Limits.{mostBytes}
 use Rattle.rows.specs.Lists.{any, bytes}
 use Rattle.rows.specs.contracts.Sizes.{ROWS, PROCESSES}
 use Rattle.text.specs.Opening.{Line, lastLine, formLine, badLine, lineOf, nodeForm, processForm, processLine, openLine, entriesFrom, entriesIn, nodeLine, formListed, givesNode}
-use Rattle.text.specs.Patterns.{whole, form, mostGroups, pieces, piece, itself, began, passed, bad}
+use Rattle.text.specs.Patterns.{whole, form, mostGroups}
 use Rattle.text.specs.contracts.Openings.{naming, namingOf, listedFrom, otherLine, entriesHere, NamesEntries, NamesLine}
 use Rattle.text.specs.contracts.Written.{SetsRecord, LineFits, LineWritten, WritesEntries, WritesLine, WritesRecord}
 use Rattle.text.specs.contracts.Sizes.{GROUPS}
@@ -21,26 +20,7 @@ use Rattle.text.specs.declared.Given.{Given}
 use Rattle.text.specs.declared.Naming.{Naming}
 use Rattle.text.specs.declared.Naming.the-variants.{Ended, Listed, Missing}
 use Rattle.text.specs.declared.Read.{Read}
-use Rattle.text.proofs.PatternLaws.{piece-bad}
-
--- ---- two patterns that differ in their second byte
-stays-bad : (s : List ℕ) (r : Read) (ps : List ℕ) → r .good ≡ false → pieces s r ps .good ≡ false
-unfolding pieces
-stays-bad s r [] e = e
-stays-bad s r (p ∷ ps) e = ap (λ (x : Read). pieces s x ps .good) (piece-bad s r p e) ∙ stays-bad s r ps e
-
--- the first byte was read, then the second
-second-byte : (s : List ℕ) (b : ℕ) (ps : List ℕ) → (b ≡ 35 → ⊥) → (b ≡ 64 → ⊥) → pieces s (began 0) (40 ∷ b ∷ ps) .good ≡ true → getD s 1 0 ≡ b
-unfolding pieces piece itself began passed bad
-second-byte s b ps h k e = pick (ltb 0 (length s) && eqb (getD s 0 0) 40) refl e
-  where
-    pick : (x : Bool) → ltb 0 (length s) && eqb (getD s 0 0) 40 ≡ x → pieces s (piece s (cond x (passed (began 0)) bad) b) ps .good ≡ true → getD s 1 0 ≡ b
-    pick false q g = clash g (stays-bad s bad ps refl)
-    pick true q g = then (ltb 1 (length s) && eqb (getD s 1 0) b) refl (rw (ne-eqb b 35 h, ne-eqb b 64 k) at g)
-      where
-        then : (y : Bool) → ltb 1 (length s) && eqb (getD s 1 0) b ≡ y → pieces s (cond y (passed (passed (began 0))) bad) ps .good ≡ true → getD s 1 0 ≡ b
-        then true r g = eqb-true (getD s 1 0) b (and-r (ltb 1 (length s)) (eqb (getD s 1 0) b) r)
-        then false r g = clash g (stays-bad s bad ps refl)
+use Rattle.text.proofs.PatternLaws.{second-byte}
 
 -- a line that begins as a node form is no other form
 node-alone : (s : List ℕ) → form s 0 "(node #" .good ≡ true → otherLine s ≡ badLine

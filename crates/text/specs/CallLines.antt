@@ -5,11 +5,12 @@ use mathlib.Core.List.{List, [], _∷_, map}
 use lib.Dec.{leb, ltb, eqb}
 use lib.ListN.{length, getD}
 use Rattle.rows.specs.Lists.{if_then_else_, all, distinct, between}
-use Rattle.rows.specs.Limits.{processes, allRights, greatestNumber, mostItems, mostBytes}
+use Rattle.rows.specs.Limits.{processes, allRights, greatestNumber, mostItems, mostPairs, mostBytes}
 use Rattle.calls.specs.declared.Item.{Item}
 use Rattle.calls.specs.declared.Items.{Items}
 use Rattle.calls.specs.declared.Call.{Call}
-use Rattle.calls.specs.declared.Call.the-variants.{Go, Hold, Register, Drop, Port, Close, Ask, Fetch, Revoke, Comes, Chain}
+use Rattle.calls.specs.declared.Call.the-variants.{Go, Hold, Register, Drop, Port, Close, Ask, Fetch, Revoke, Comes, Chain, ComesAll}
+use Rattle.calls.specs.Calls.{sixteenFrom}
 use Rattle.text.specs.declared.Read.{Read}
 use Rattle.text.specs.declared.Reading.{Reading}
 use Rattle.text.specs.declared.Reading.the-variants.{Asks, Crowded, Refused}
@@ -64,24 +65,56 @@ comesForm s other =
     let f = form s 0 "(comes # #)\n" in
     if whole s f then ranged (isNumber (f .b) && isNumber (f .c)) (Comes (f .b) (f .c)) else other
 
--- ---- ask
--- (rules F2, T7) `(p ask c (e r) ..)`: every item counts, also those after the fourth
+-- ---- groups of two numbers: the items of an ask, the pairs of a comesall
+-- (rules F2, T7) ` (# #)`: every one counts, also those after the fourth or the 16th
+pub record Group : Type 0 where
+  pub first : ℕ
+  pub second : ℕ
+
 pub record Gathered : Type 0 where
-  pub items : List Item
+  pub groups : List Group
   pub next : ℕ
 
-unfoldable pub itemOf : Read → Item
-itemOf f = record { row = f .b; rights = f .c }
+unfoldable pub groupOf : Read → Group
+groupOf f = record { first = f .b; second = f .c }
 
-unfoldable pub addItem : Item → Gathered → Gathered
-addItem i g = record { items = i ∷ g .items; next = g .next }
+unfoldable pub addGroup : Group → Gathered → Gathered
+addGroup x g = record { groups = x ∷ g .groups; next = g .next }
 
--- (rules F2, T7) the items from position i on, n at most, and the position after them
+-- (rules F2, T7) the groups from position i on, n at most, and the position after them
 unfoldable pub gathered : ℕ → List ℕ → ℕ → Gathered
-gathered zero s i = record { items = []; next = i }
+gathered zero s i = record { groups = []; next = i }
 gathered (suc n) s i =
     let f = form s i " (# #)" in
-    if f .good then addItem (itemOf f) (gathered n s (f .next)) else record { items = []; next = i }
+    if f .good then addGroup (groupOf f) (gathered n s (f .next)) else record { groups = []; next = i }
+
+-- ---- comesall
+-- (rules F2, F4) a pair: a row and a request
+unfoldable pub pairRanged : Group → Bool
+pairRanged x = isNumber (x .first) && isNumber (x .second)
+
+unfoldable pub comesAll : List Group → Call
+comesAll xs = ComesAll (sixteenFrom (map (λ x. x .first) xs)) (sixteenFrom (map (λ x. x .second) xs))
+
+-- (rules F3, F4, F7, F8) no pair is 2; then 3, then 6, more than 16 pairs
+unfoldable pub judgedPairs : List Group → Reading
+judgedPairs xs =
+    if eqb (length xs) 0 then Refused 2
+    else if not (all pairRanged xs) then Refused 3
+    else if ltb mostPairs (length xs) then Refused 6
+    else Asks (comesAll xs)
+
+-- (rules F2, F3) `(comesall (e q) ..)`, with no caller
+unfoldable pub comesAllForm : List ℕ → Reading → Reading
+comesAllForm s other =
+    let f = form s 0 "(comesall" in
+    let g = gathered mostGroups s (f .next) in
+    if f .good && whole s (form s (g .next) ")\n") then judgedPairs (g .groups) else other
+
+-- ---- ask
+-- (rule F2) an item: a row and the rights lent
+unfoldable pub itemOf : Group → Item
+itemOf x = record { row = x .first; rights = x .second }
 
 -- (rule F4) an item's rights are 0 to 7
 unfoldable pub itemRanged : Item → Bool
@@ -107,8 +140,8 @@ unfoldable pub askForm : List ℕ → Reading → Reading
 askForm s other =
     let f = form s 0 "(# ask #" in
     let g = gathered mostGroups s (f .next) in
-    if f .good && whole s (form s (g .next) ")\n") then judged (f .b) (f .c) (g .items) else other
+    if f .good && whole s (form s (g .next) ")\n") then judged (f .b) (f .c) (map itemOf (g .groups)) else other
 
 -- (rules T1, F1, F3) a call is one line, whose line feed is the last byte, of at most 255 bytes before it; every other line is 2
 unfoldable pub readingOf : List ℕ → Reading
-readingOf s = if ltb (suc mostBytes) (length s) then Refused 2 else askForm s (comesForm s (simpleForm s (answerForm s (chainForm s))))
+readingOf s = if ltb (suc mostBytes) (length s) then Refused 2 else askForm s (comesAllForm s (comesForm s (simpleForm s (answerForm s (chainForm s)))))

@@ -6,6 +6,7 @@ use Rattle.rows.specs.Lists.{if_then_else_, some}
 use Rattle.rows.specs.Tables.{State, isListed, empty}
 use Rattle.rows.specs.Layout.{wordsOf, recordsOf, stateOf, rightLengths, soundWords, clearedTables, clearedProcesses}
 use Rattle.calls.specs.declared.Call.{Call}
+use Rattle.calls.specs.Answers.{num}
 use Rattle.calls.specs.Rules.{Out, _when_, refused, judge}
 use Rattle.calls.specs.Calls.{callerOf, perform}
 use Rattle.text.specs.declared.Reading.{Reading}
@@ -15,7 +16,7 @@ use Rattle.text.specs.Opening.{Form, Opening, opens, refusedAt, linesOf,
 use Rattle.text.specs.Answers.{okText, noText, printed}
 
 -- ---- a call on a state
--- (rule F6) 5: the caller is not listed; comes and chain have none
+-- (rule F6) 5: the caller is not listed; comes, chain and comesall have none
 unfoldable pub callerUnlisted : State → Call → Bool
 callerUnlisted st c = let p = callerOf c in some p && not (isListed (st .processes) p)
 
@@ -52,7 +53,7 @@ unfoldable pub stateOpened : List Form → State
 stateOpened fs = openedFrom empty fs
 
 unfoldable pub openedBy : Opening → Replied
-openedBy (opens fs rest) = replyWith (okText (0 ∷ [])) (stateOpened fs)
+openedBy (opens fs rest) = replyWith (okText (num 0 ∷ [])) (stateOpened fs)
 openedBy (refusedAt k n) = replyWith (noText (k ∷ n ∷ [])) empty
 
 -- (rules K8, O9) a run of another length is `(no 1 0)`, and both runs are cleared; what the words hold does not matter

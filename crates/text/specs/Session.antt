@@ -2,6 +2,7 @@
 use Prim.Native.Nat.{ℕ}
 use mathlib.Core.List.{List, [], _∷_, _++_}
 use Rattle.rows.specs.Tables.{State}
+use Rattle.calls.specs.Answers.{num}
 use Rattle.text.specs.Opening.{Opening, opens, refusedAt, linesOf, openingOf}
 use Rattle.text.specs.Answers.{okText, noText, printed}
 use Rattle.text.specs.Entry.{callOn, stateOpened}
@@ -14,7 +15,7 @@ answers st (l ∷ ls) = let o = callOn st l in printed (o .answer) ++ answers (o
 -- (rule K9) after a refused opening nothing more is printed
 unfoldable pub sessionOf : Opening → List ℕ
 sessionOf (refusedAt k n) = noText (k ∷ n ∷ [])
-sessionOf (opens fs rest) = okText (0 ∷ []) ++ answers (stateOpened fs) rest
+sessionOf (opens fs rest) = okText (num 0 ∷ []) ++ answers (stateOpened fs) rest
 
 -- (rules K9, P12) one line for the opening, then one a call
 unfoldable pub session : List ℕ → List ℕ

@@ -1,28 +1,35 @@
 // A call line of any bytes: the call that it asks for, or the refusal of its text (specs/CallLines.antt).
-use crate::Asked;
+use crate::Groups;
+use crate::Head;
 use crate::Read;
 use crate::Reader;
 use crate::Reading;
+use crate::Seen;
 use crate::patterns::ends_at;
 use crate::patterns::is_whole;
 use crate::patterns::read_form;
 use calls::Call;
 use calls::Item;
 use calls::Items;
+use calls::numbers::sixteen_from;
 use rows::codes::ALL_RIGHTS;
 use rows::codes::LAST_NUMBER;
 use rows::codes::LAST_PROCESS;
 ghost use mathlib.Core.Path.{_≡_};
-ghost use Prim.Native.Nat.{_+_, _<_};
-ghost use lib.ListN.{length};
+ghost use mathlib.Core.List.{map};
+ghost use Prim.Native.Nat.{_<_};
 ghost use Rattle.rows.specs.Lists.{member};
-ghost use Rattle.text.specs.Patterns.{form};
 ghost use Rattle.text.specs.CallLines.{isProcess, isNumber, ranged, simple, simpleForm, chainForm};
-ghost use Rattle.text.specs.CallLines.{Gathered, gathered, packed, judged, askForm, readingOf};
+ghost use Rattle.text.specs.CallLines.{Gathered, gathered, itemOf, packed, judged, comesAll, judgedPairs};
+ghost use Rattle.text.specs.CallLines.{readingOf};
 ghost use Rattle.text.specs.contracts.Sizes.{GROUPS};
-ghost use Rattle.text.specs.contracts.Asks.{askedFrom, withItem, answerOrChain, otherCall, JudgesAsk};
+ghost use Rattle.text.specs.contracts.Groups.{seenWith, groupsOf, groupsFrom, answerOrChain, otherCall, cNext};
+ghost use Rattle.text.specs.contracts.Groups.{headOf, JudgesGroups, groupsForm};
 
 const MOST_ITEMS: usize = 4;
+
+// the pairs of a comesall at most
+const PAIRS: usize = 16;
 
 // groups in brackets: more than any line has
 pub const GROUPS: usize = 64;
@@ -142,14 +149,14 @@ fn comes_form(line: &[u8]) -> Reading
     simple_form(line)
 }
 
-// ---- ask
-// Whether n is one of the rows.
-fn is_named(rows: &[u32], n: u32) -> bool
-    ensures { λ r. ⌜ r ≡ member n (now (rows .entry)) ⌝ }
+// ---- groups of two numbers
+// Whether n is one of the numbers.
+fn is_named(ns: &[u32], n: u32) -> bool
+    ensures { λ r. ⌜ r ≡ member n (now (ns .entry)) ⌝ }
 {
     let mut i = 0;
-    while i < rows.len() {
-        if n == rows[i] {
+    while i < ns.len() {
+        if n == ns[i] {
             return true;
         }
         i += 1;
@@ -157,60 +164,70 @@ fn is_named(rows: &[u32], n: u32) -> bool
     false
 }
 
-// One more item after those read: every one is looked at for 3 and 4, past the fourth too.
-fn add_item(a: Asked, f: Read) -> Asked
-    requires { ⌜ (a .count < GROUPS) × (length (a .rows) ≡ GROUPS) ⌝ }
-    ensures added { λ r. ⌜ ((g : Gathered) → a ≡ askedFrom g → r ≡ askedFrom (withItem g f)) ⌝ }
-    ensures counted { λ r. ⌜ r .count ≡ a .count + 1 ⌝ }
+// What is seen with one more group: every one is looked at for 3 and 4, also past the fourth or the 16th.
+fn see_group(s: Seen, f: Read, named: bool) -> Seen
+    requires { ⌜ s .count < GROUPS ⌝ }
+    ensures { λ r. ⌜ r ≡ seenWith s f named ⌝ }
 {
-    let n = a.count;
-    let mut rows = a.rows;
-    let mut rights = a.rights;
-    let named = is_named(&rows[0..n], f.b);
-    let good = is_number(f.b) & (f.c <= ALL_RIGHTS);
-    rows[n] = f.b;
-    rights[n] = f.c;
-    Asked {
+    let good = is_number(f.b);
+    Seen {
         next: f.next,
-        count: n + 1,
-        ranged: a.ranged & good,
-        apart: a.apart & !named,
-        rows,
-        rights,
+        count: s.count + 1,
+        items: s.items & (good & (f.c <= ALL_RIGHTS)),
+        pairs: s.pairs & (good & is_number(f.c)),
+        apart: s.apart & !named,
     }
 }
 
-// The items from a position on.
-fn gather(line: &[u8], at: usize) -> Asked
-    ensures { λ r. ⌜ r ≡ askedFrom (gathered GROUPS (now (line .entry)) at) ⌝ }
+// The groups of their parts.
+fn groups_of(s: Seen, firsts: [u32; GROUPS], seconds: [u32; GROUPS]) -> Groups
+    ensures { λ r. ⌜ r ≡ groupsOf s firsts seconds ⌝ }
 {
-    let rows = [0u32; GROUPS];
-    let rights = [0u32; GROUPS];
-    let mut a = Asked {
+    Groups {
+        next: s.next,
+        count: s.count,
+        items: s.items,
+        pairs: s.pairs,
+        apart: s.apart,
+        firsts,
+        seconds,
+    }
+}
+
+// The groups from a position on.
+fn gather(line: &[u8], at: usize) -> Groups
+    ensures { λ r. ⌜ r ≡ groupsFrom (gathered GROUPS (now (line .entry)) at) ⌝ }
+{
+    let mut firsts = [0u32; GROUPS];
+    let mut seconds = [0u32; GROUPS];
+    let mut s = Seen {
         next: at,
         count: 0,
-        ranged: true,
+        items: true,
+        pairs: true,
         apart: true,
-        rows,
-        rights,
     };
-    while a.count < GROUPS {
-        let i = a.next;
+    while s.count < GROUPS {
+        let i = s.next;
         let f = read_form(line, i, b" (# #)");
         if !f.good {
-            return a;
+            return groups_of(s, firsts, seconds);
         }
-        a = add_item(a, f);
+        let n = s.count;
+        let named = is_named(&firsts[0..n], f.b);
+        firsts[n] = f.b;
+        seconds[n] = f.c;
+        s = see_group(s, f, named);
     }
-    a
+    groups_of(s, firsts, seconds)
 }
 
-// The first four items, no items after the last.
-fn first_four(a: Asked) -> Items
-    ensures { λ r. ⌜ ((g : Gathered) → a ≡ askedFrom g → r ≡ packed (g .items)) ⌝ }
+// The first four groups as items, no items after the last.
+fn first_four(g: Groups) -> Items
+    ensures { λ r. ⌜ ((x : Gathered) → g ≡ groupsFrom x → r ≡ packed (map itemOf (x .groups))) ⌝ }
 {
-    let rows = a.rows;
-    let rights = a.rights;
+    let rows = g.firsts;
+    let rights = g.seconds;
     Items {
         first: Item {
             row: rows[0],
@@ -232,50 +249,110 @@ fn first_four(a: Asked) -> Items
 }
 
 // An ask of its caller, its client end and its items: 3, then 4, then too many items.
-fn judge(p: u32, c: u32, a: Asked) -> Reading
-    ensures { λ r. ⌜ ((g : Gathered) → a ≡ askedFrom g → r ≡ judged p c (g .items)) ⌝ }
+fn judge(p: u32, c: u32, g: Groups) -> Reading
+    ensures { λ r. ⌜ ((x : Gathered) → g ≡ groupsFrom x → r ≡ judged p c (map itemOf (x .groups))) ⌝ }
 {
-    let good = is_process(p) & (is_number(c) & a.ranged);
+    let good = is_process(p) & (is_number(c) & g.items);
     if !good {
         return Reading::Refused(3);
     }
-    if !a.apart {
+    if !g.apart {
         return Reading::Refused(4);
     }
-    if MOST_ITEMS < a.count {
+    if MOST_ITEMS < g.count {
         return Reading::Crowded(p);
     }
-    Reading::Asks(Call::Ask(p, c, first_four(a)))
+    Reading::Asks(Call::Ask(p, c, first_four(g)))
 }
 
-// The head of an ask at a position: its caller and its client end.
-fn ask_head(line: &[u8], at: usize) -> Read
-    ensures { λ r. ⌜ r ≡ form (now (line .entry)) at "(# ask #" ⌝ }
+// The first sixteen groups as pairs, 0 after the last.
+fn first_sixteen(g: Groups) -> Call
+    ensures { λ r. ⌜ ((x : Gathered) → g ≡ groupsFrom x → r ≡ comesAll (x .groups)) ⌝ }
 {
-    read_form(line, at, b"(# ask #")
+    let rows = g.firsts;
+    let requests = g.seconds;
+    Call::ComesAll(sixteen_from(&rows), sixteen_from(&requests))
 }
 
-// Head and items read as an ask if the line ends after them, else as another form.
-fn ask_if_ended(line: &[u8], f: Read, a: Asked, ended: bool) -> Reading
-    ensures { λ r. ⌜ JudgesAsk (now (line .entry)) f a ended r ⌝ }
+// A comesall of its pairs: 2 for none, then 3, then too many pairs.
+fn judge_pairs(g: Groups) -> Reading
+    ensures { λ r. ⌜ ((x : Gathered) → g ≡ groupsFrom x → r ≡ judgedPairs (x .groups)) ⌝ }
 {
-    if f.good & ended {
-        return judge(f.b, f.c, a);
+    if g.count == 0 {
+        return Reading::Refused(2);
     }
-    comes_form(line)
+    if !g.pairs {
+        return Reading::Refused(3);
+    }
+    if PAIRS < g.count {
+        return Reading::Refused(6);
+    }
+    Reading::Asks(first_sixteen(g))
 }
 
-// `(p ask c (e r) ..)`, else another form: head, items and end, one after the other.
-fn ask_form(line: &[u8]) -> Reading
-    ensures { λ r. ⌜ r ≡ askForm (now (line .entry)) (otherCall (now (line .entry))) ⌝ }
+// ---- lines that have groups
+// Whether the byte after a position is a `c`, as in a comesall.
+fn is_c_next(line: &[u8], at: usize) -> bool
+    ensures { λ r. ⌜ r ≡ cNext (now (line .entry)) at ⌝ }
+{
+    if line.len() <= at {
+        return false;
+    }
+    let i = at + 1;
+    if line.len() <= i {
+        return false;
+    }
+    line[i] == b'c'
+}
+
+// The head of a line that has groups, at a position: its second byte tells whether it can be that of a comesall.
+fn groups_head(line: &[u8], at: usize) -> Head
+    ensures { λ r. ⌜ r ≡ headOf (now (line .entry)) at ⌝ }
+{
+    if is_c_next(line, at) {
+        let f = read_form(line, at, b"(comesall");
+        return Head {
+            good: f.good,
+            next: f.next,
+            asks: false,
+            caller: 0,
+            port: 0,
+        };
+    }
+    let f = read_form(line, at, b"(# ask #");
+    Head {
+        good: f.good,
+        next: f.next,
+        asks: true,
+        caller: f.b,
+        port: f.c,
+    }
+}
+
+// Head and groups read as an ask or as a comesall if the line ends after them, else as another form.
+fn groups_if_ended(line: &[u8], h: Head, g: Groups, ended: bool) -> Reading
+    ensures { λ r. ⌜ JudgesGroups (now (line .entry)) h g ended r ⌝ }
+{
+    if !(h.good & ended) {
+        return comes_form(line);
+    }
+    if h.asks {
+        return judge(h.caller, h.port, g);
+    }
+    judge_pairs(g)
+}
+
+// `(p ask c (e r) ..)` or `(comesall (e q) ..)`, else another form: head, groups and end, one after the other.
+fn groups_form(line: &[u8]) -> Reading
+    ensures { λ r. ⌜ r ≡ groupsForm (now (line .entry)) ⌝ }
 {
     let mut r = Reader { line, at: 0 };
-    let f = ask_head(r.line, r.at);
-    r.at = f.next;
-    let a = gather(r.line, r.at);
-    r.at = a.next;
+    let h = groups_head(r.line, r.at);
+    r.at = h.next;
+    let g = gather(r.line, r.at);
+    r.at = g.next;
     let ended = ends_at(r.line, r.at);
-    ask_if_ended(r.line, f, a, ended)
+    groups_if_ended(r.line, h, g, ended)
 }
 
 // The call that a line of any bytes asks for, or the refusal of its text.
@@ -286,5 +363,5 @@ pub fn read_call(line: &[u8]) -> Reading
     if LONGEST_LINE < line.len() {
         return Reading::Refused(2);
     }
-    ask_form(line)
+    groups_form(line)
 }

@@ -38,15 +38,35 @@ pub struct Entry {
     pub rights: u32,
 }
 
-// The items of an ask as they are read: the position after them, how many, whether each is in range and no row is named
-// twice, their rows and their rights.
-pub struct Asked {
+// The head of a line that has groups, and the position after it: of an ask its caller and its client end; of a comesall
+// it has no numbers.
+pub struct Head {
+    pub good: bool,
+    pub next: usize,
+    pub asks: bool,
+    pub caller: u32,
+    pub port: u32,
+}
+
+// What is seen of groups of two numbers: the position after them, how many; whether each is in range as an item of an
+// ask, and as a pair of a comesall; whether no first number stands twice.
+pub struct Seen {
     pub next: usize,
     pub count: usize,
-    pub ranged: bool,
+    pub items: bool,
+    pub pairs: bool,
     pub apart: bool,
-    pub rows: [u32; 64],
-    pub rights: [u32; 64],
+}
+
+// The groups as they are read: what is seen of them, their first and their second numbers.
+pub struct Groups {
+    pub next: usize,
+    pub count: usize,
+    pub items: bool,
+    pub pairs: bool,
+    pub apart: bool,
+    pub firsts: [u32; 64],
+    pub seconds: [u32; 64],
 }
 
 // An answer's text: the first `length` bytes; 0 after them.

@@ -4,15 +4,19 @@ use crate::REPLY;
 use crate::Reply;
 use calls::Answer;
 use calls::Four;
+use calls::Sixteen;
+use calls::comes_all::NO;
+use calls::comes_all::YES;
 ghost use mathlib.Core.Path.{_≡_};
-ghost use mathlib.Core.List.{[], _∷_};
+ghost use mathlib.Core.List.{[], _∷_, map};
 ghost use Prim.Native.Nat.{_+_, _*_, _≤_, _%_};
 ghost use lib.ListN.{length};
 ghost use Rattle.rows.specs.Lists.{nonzero};
-ghost use Rattle.calls.specs.declared.Answer.the-variants.{Chained, Refused};
+ghost use Rattle.calls.specs.declared.Answer.the-variants.{Chained, ToldAll, Refused};
+ghost use Rattle.calls.specs.Answers.{num, numbersOf, allOf};
 ghost use Rattle.text.specs.Answers.{spaced, okText, printed};
-ghost use Rattle.text.specs.contracts.Sizes.{REPLY, VALUE};
-ghost use Rattle.text.specs.contracts.Replies.{inReply, Puts, openingText};
+ghost use Rattle.text.specs.contracts.Sizes.{REPLY, VALUE, TOLD};
+ghost use Rattle.text.specs.contracts.Replies.{inReply, Puts, numbersText, toldText, openingText};
 
 // the digits of a number at most
 const DIGITS: usize = 10;
@@ -43,7 +47,7 @@ fn last_digit(n: u64) -> u8
 // A space and a number: its digits from the last to the first, with the space before them.
 fn put_value(o: &mut [u8; REPLY], at: usize, n: u64) -> usize
     requires { ⌜ at + VALUE ≤ REPLY ⌝ }
-    ensures put { λ r. ⌜ Puts (now (o .entry)) at (spaced (n ∷ [])) (now (o .exit)) r ⌝ }
+    ensures put { λ r. ⌜ Puts (now (o .entry)) at (spaced (num n ∷ [])) (now (o .exit)) r ⌝ }
     ensures grown { λ r. ⌜ r ≤ at + VALUE ⌝ }
 {
     let mut value = [0u8; VALUE];
@@ -63,7 +67,7 @@ fn put_value(o: &mut [u8; REPLY], at: usize, n: u64) -> usize
 // A value that is listed; nothing for 0.
 fn put_listed(o: &mut [u8; REPLY], at: usize, n: u32) -> usize
     requires { ⌜ at + VALUE ≤ REPLY ⌝ }
-    ensures put { λ r. ⌜ Puts (now (o .entry)) at (spaced (nonzero (n ∷ []))) (now (o .exit)) r ⌝ }
+    ensures put { λ r. ⌜ Puts (now (o .entry)) at (numbersText (n ∷ [])) (now (o .exit)) r ⌝ }
     ensures grown { λ r. ⌜ r ≤ at + VALUE ⌝ }
 {
     if n == 0 {
@@ -75,7 +79,7 @@ fn put_listed(o: &mut [u8; REPLY], at: usize, n: u32) -> usize
 // Those of four values that are listed, in their order: of a request's items those that it still has.
 fn put_items(o: &mut [u8; REPLY], at: usize, a: u32, b: u32, c: u32, d: u32) -> usize
     requires { ⌜ at + 4 * VALUE ≤ REPLY ⌝ }
-    ensures put { λ r. ⌜ Puts (now (o .entry)) at (spaced (nonzero (a ∷ b ∷ c ∷ d ∷ []))) (now (o .exit)) r ⌝ }
+    ensures put { λ r. ⌜ Puts (now (o .entry)) at (numbersText (a ∷ b ∷ c ∷ d ∷ [])) (now (o .exit)) r ⌝ }
     ensures grown { λ r. ⌜ r ≤ at + 4 * VALUE ⌝ }
 {
     let first = put_listed(o, at, a);
@@ -87,7 +91,7 @@ fn put_items(o: &mut [u8; REPLY], at: usize, a: u32, b: u32, c: u32, d: u32) -> 
 // ---- answers
 // `(ok n)`.
 fn put_accepted(o: &mut [u8; REPLY], n: u64) -> usize
-    ensures { λ r. ⌜ Puts (now (o .entry)) 0 (okText (n ∷ [])) (now (o .exit)) r ⌝ }
+    ensures { λ r. ⌜ Puts (now (o .entry)) 0 (okText (num n ∷ [])) (now (o .exit)) r ⌝ }
 {
     let begun = put_text(o, 0, b"(ok");
     let valued = put_value(o, begun, n);
@@ -96,7 +100,7 @@ fn put_accepted(o: &mut [u8; REPLY], n: u64) -> usize
 
 // `(ok v ..)`: a request and its items.
 fn put_fetched(o: &mut [u8; REPLY], v: u32, a: u32, b: u32, c: u32, d: u32) -> usize
-    ensures { λ r. ⌜ Puts (now (o .entry)) 0 (okText (v ∷ nonzero (a ∷ b ∷ c ∷ d ∷ []))) (now (o .exit)) r ⌝ }
+    ensures { λ r. ⌜ Puts (now (o .entry)) 0 (okText (map num (v ∷ nonzero (a ∷ b ∷ c ∷ d ∷ [])))) (now (o .exit)) r ⌝ }
 {
     let begun = put_text(o, 0, b"(ok");
     let numbered = put_value(o, begun, v as u64);
@@ -113,6 +117,53 @@ fn put_chained(o: &mut [u8; REPLY], a: Four, b: Four, c: Four) -> usize
     let second = put_items(o, first, b.first, b.second, b.third, b.fourth);
     let third = put_items(o, second, c.first, c.second, c.third, c.fourth);
     put_text(o, third, b")\n")
+}
+
+// What is told of a pair: a space and 0, 1 or `-`; nothing where there is no pair.
+fn put_told(o: &mut [u8; REPLY], at: usize, c: u32) -> usize
+    requires { ⌜ at + TOLD ≤ REPLY ⌝ }
+    ensures put { λ r. ⌜ Puts (now (o .entry)) at (toldText (c ∷ [])) (now (o .exit)) r ⌝ }
+    ensures grown { λ r. ⌜ r ≤ at + TOLD ⌝ }
+{
+    match c {
+        0 => at,
+        NO => put_text(o, at, b" 0"),
+        YES => put_text(o, at, b" 1"),
+        _ => put_text(o, at, b" -"),
+    }
+}
+
+// What is told of four pairs, in their order.
+fn put_four(o: &mut [u8; REPLY], at: usize, f: Four) -> usize
+    requires { ⌜ at + 4 * TOLD ≤ REPLY ⌝ }
+    ensures put { λ r. ⌜ Puts (now (o .entry)) at (toldText (numbersOf f)) (now (o .exit)) r ⌝ }
+    ensures grown { λ r. ⌜ r ≤ at + 4 * TOLD ⌝ }
+{
+    let first = put_told(o, at, f.first);
+    let second = put_told(o, first, f.second);
+    let third = put_told(o, second, f.third);
+    put_told(o, third, f.fourth)
+}
+
+// What is told of sixteen pairs, in their order.
+fn put_sixteen(o: &mut [u8; REPLY], at: usize, s: Sixteen) -> usize
+    requires { ⌜ at + 16 * TOLD ≤ REPLY ⌝ }
+    ensures put { λ r. ⌜ Puts (now (o .entry)) at (toldText (allOf s)) (now (o .exit)) r ⌝ }
+    ensures grown { λ r. ⌜ r ≤ at + 16 * TOLD ⌝ }
+{
+    let first = put_four(o, at, s.first);
+    let second = put_four(o, first, s.second);
+    let third = put_four(o, second, s.third);
+    put_four(o, third, s.fourth)
+}
+
+// `(ok 1 ..)`: what is told of pairs.
+fn put_told_all(o: &mut [u8; REPLY], s: Sixteen) -> usize
+    ensures { λ r. ⌜ Puts (now (o .entry)) 0 (printed (ToldAll s)) (now (o .exit)) r ⌝ }
+{
+    let begun = put_text(o, 0, b"(ok");
+    let told = put_sixteen(o, begun, s);
+    put_text(o, told, b")\n")
 }
 
 // `(no k)`; 0 is no refusal.
@@ -137,6 +188,7 @@ fn put_answer(o: &mut [u8; REPLY], a: Answer) -> usize
         Answer::Fetched(v, a, b, c, d) => put_fetched(o, v, a, b, c, d),
         Answer::Told(t) => put_accepted(o, t as u64),
         Answer::Chained(a, b, c) => put_chained(o, a, b, c),
+        Answer::ToldAll(s) => put_told_all(o, s),
         Answer::Refused(k) => put_refusal(o, k),
     }
 }

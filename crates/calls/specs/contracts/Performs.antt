@@ -18,7 +18,7 @@ use Rattle.rows.specs.contracts.Sizes.{ROWS, PROCESSES, LAST-NEXT}
 use Rattle.calls.specs.declared.Answer.{Answer}
 use Rattle.calls.specs.declared.Answer.the-variants.{Refused}
 use Rattle.calls.specs.declared.Call.{Call}
-use Rattle.calls.specs.declared.Call.the-variants.{Go, Hold, Register, Drop, Port, Close, Ask, Fetch, Revoke, Comes, Chain}
+use Rattle.calls.specs.declared.Call.the-variants.{Go, Hold, Register, Drop, Port, Close, Ask, Fetch, Revoke, Comes, Chain, ComesAll}
 use Rattle.calls.specs.Rules.{Out, _when_, lowest, tooDeep, rowsFull, numbersSpent}
 use Rattle.calls.specs.Calls.{refusalsHold, heldDepth, refusalsRegister, registeredDepth, refusalsPort, portDepth, refusalsClose, refusalsDrop, chainedAnswer, perform, callerOf}
 use Rattle.calls.specs.contracts.Lookups.{HasRows, HasRequests, StandsAt}
@@ -40,7 +40,7 @@ pub record Agrees (after : List ℕ) (left : List Process) (r : Answer) (o : Out
 abbrev pub RunsAfter : List ℕ → List ℕ → Out → Type 0
 RunsAfter u v o = Represents u (o .after) × (v ≡ recordsOf (o .after .processes))
 
--- the caller is listed; comes and chain have none
+-- the caller is listed; comes, chain and comesall have none
 abbrev pub CallerListed : State → Call → Type 0
 CallerListed st c = some (callerOf c) ≡ true → isListed (st .processes) (callerOf c) ≡ true
 
@@ -60,7 +60,7 @@ StaysIfRefused t ps c after left r =
     (st : State) (k : ℕ) → sound st ≡ true → Represents t st → st .processes ≡ recordsIn ps → CallerListed st c
     → r ≡ Refused k → (after ≡ t) × (left ≡ ps)
 
--- what reading a line gives of a call: its caller is a process's number; comes and chain have none
+-- what reading a line gives of a call: its caller is a process's number; comes, chain and comesall have none
 unfoldable pub CallerInRange : Call → Type 0
 CallerInRange (Go p e) = IsProcess p
 CallerInRange (Hold p s) = IsProcess p
@@ -74,6 +74,7 @@ CallerInRange (Call.Answer p e served) = IsProcess p
 CallerInRange (Revoke p q) = IsProcess p
 CallerInRange (Comes e q) = Unit {0}
 CallerInRange (Chain e) = Unit {0}
+CallerInRange (ComesAll es qs) = Unit {0}
 
 -- ---- what refuses new rows
 -- k rows of depth d: 15, 16, 18, 0 for nothing

@@ -338,6 +338,37 @@ misreadings =
           ∷ "(1 drop 7)" ⇒ "(no 13)"
           ∷ [];
     }
+    -- (rules F3, F4, F7, T7, comesall-ok-1, comesall-ok-2, comesall-ok-3)
+    ∷ record {
+      name = "a comesall tells of each pair what comes tells, in its place, `-` where comes is 7; 16 pairs at most";
+      opening = offices;
+      opened = "(ok 0)";
+      calls =
+          "(1 hold 1)" ⇒ "(ok 7)"
+          ∷ "(1 port 7)" ⇒ "(ok 8)"
+          ∷ "(1 port 7)" ⇒ "(ok 10)"
+          -- 13 is a copy of 7; the end 10 is on loan
+          ∷ "(1 ask 8 (7 3) (10 0))" ⇒ "(ok 12)"
+          ∷ "(comesall (13 12) (7 12) (10 12))" ⇒ "(ok 1 0 0)"
+          ∷ "(2 fetch 9)" ⇒ "(ok 12 13 10)"
+          ∷ "(2 port 13)" ⇒ "(ok 14)"
+          ∷ "(2 hold 5)" ⇒ "(ok 16)"
+          -- 18 is a copy of 16, lent over 14, which comes from 12
+          ∷ "(2 ask 14 (16 1))" ⇒ "(ok 17)"
+          ∷ "(comesall (18 12) (16 12) (18 17) (15 12))" ⇒ "(ok 1 0 1 1)"
+          ∷ "(comesall (19 12) (18 12) (7 10) (18 17))" ⇒ "(ok - 1 - 1)"
+          ∷ "(comesall (12 13))" ⇒ "(ok -)"
+          ∷ "(comesall (7 12) (7 12) (7 12) (7 12) (7 12) (7 12) (7 12) (7 12) (7 12) (7 12) (7 12) (7 12) (7 12) (7 12) (7 12) (18 12))" ⇒ "(ok 0 0 0 0 0 0 0 0 0 0 0 0 0 0 0 1)"
+          ∷ "(comesall (7 12) (7 12) (7 12) (7 12) (7 12) (7 12) (7 12) (7 12) (7 12) (7 12) (7 12) (7 12) (7 12) (7 12) (7 12) (7 12) (7 12))" ⇒ "(no 6)"
+          ∷ "(comesall (7 12) (7 12) (7 12) (7 12) (7 12) (7 12) (7 12) (7 12) (7 12) (7 12) (7 12) (7 12) (7 12) (7 12) (7 12) (7 12) (0 12))" ⇒ "(no 3)"
+          ∷ "(comesall (7 0))" ⇒ "(no 3)"
+          ∷ "(comesall (4294967295 12))" ⇒ "(no 3)"
+          ∷ "(comesall)" ⇒ "(no 2)"
+          ∷ "(1 comesall (7 12))" ⇒ "(no 2)"
+          ∷ "(1 revoke 12)" ⇒ "(ok 0)"
+          ∷ "(comesall (13 12) (7 12))" ⇒ "(ok - -)"
+          ∷ [];
+    }
     ∷ []
 
 -- (rules K7, O8, O12, O14, O15, O17) the openings that are refused: number and line

@@ -1,4 +1,4 @@
--- The statement of demand 3 is not empty: computed sessions in which a revoke takes back what it must and leaves what it must.
+-- The statement of demand 3 is not empty: computed sessions in which a revoke takes back what it must and leaves what it must; nor is that of comesall.
 use Prim.Native.Nat.{ℕ}
 use Prim.Native.String.{String}
 use mathlib.Core.Bool.{Bool, not, _&&_}
@@ -10,12 +10,14 @@ use Rattle.rows.specs.Codes.{inClist}
 use Rattle.rows.specs.Tables.{State, rowOf, numbers}
 use Rattle.rows.specs.Layout.{tablesLength, processesLength, wordsOf}
 use Rattle.text.specs.Opening.{Opening, opens, refusedAt, linesOf, openingOf}
-use Rattle.text.specs.Answers.{printed}
-use Rattle.text.specs.Entry.{Replied, openEntry, callOn, stateOpened}
+use Rattle.text.specs.CallLines.{Group}
+use Rattle.text.specs.Answers.{okText, printed}
+use Rattle.text.specs.Entry.{Replied, openEntry, callEntry, callOn, stateOpened}
 use Rattle.history.specs.History.{History}
 use Rattle.history.specs.Notes.{loanOf, stands, isClosed}
 use Rattle.history.specs.Reading.{begun, noteLine}
 use Rattle.history.specs.Demand3.{lentAfter}
+use Rattle.history.specs.ComesTold.{comesTold}
 
 -- the history and the state after a text, and after lines
 pub record Moment : Type 0 where
@@ -100,3 +102,16 @@ lines = map bytes ("(1 hold 1)\n" ∷ "(1 port 4)\n" ∷ "(1 ask 5 (4 3))\n" ∷
 pub words-left : T (sameList (lentAfter opened lines .tables) (wordsOf (portFromLoanRevoked .state)))
 unfolding momentAfter afterLines afterOpening portFromLoan portFromLoanRevoked opened lines Rattle.rows.specs.Computes.computes Rattle.closing.specs.Computes.computes Rattle.calls.specs.Computes.computes Rattle.text.specs.Computes.computes Rattle.history.specs.Computes.computes
 words-left = tt
+
+-- ---- (rule P32) of three pairs the single questions' answers on those words are 1, 0 and `-`, and comesall answers them in one line
+unfoldable pub portMade : Replied
+portMade = lentAfter opened (map bytes ("(1 hold 1)\n" ∷ "(1 port 4)\n" ∷ "(1 ask 5 (4 3))\n" ∷ "(2 fetch 6)\n" ∷ "(2 port 8)\n" ∷ []))
+
+unfoldable pub threePairs : List Group
+threePairs = record { first = 10; second = 7 } ∷ record { first = 4; second = 7 } ∷ record { first = 4; second = 8 } ∷ []
+
+pub told-as-single :
+    T (sameList (okText (map (comesTold (portMade .tables) (portMade .processes)) threePairs)) (bytes "(ok 1 0 -)\n")
+    && sameList (callEntry (portMade .tables) (portMade .processes) (bytes "(comesall (10 7) (4 7) (4 8))\n") .reply) (bytes "(ok 1 0 -)\n"))
+unfolding opened portMade threePairs Rattle.rows.specs.Computes.computes Rattle.closing.specs.Computes.computes Rattle.calls.specs.Computes.computes Rattle.text.specs.Computes.computes Rattle.history.specs.Computes.computes
+told-as-single = tt

@@ -13,6 +13,7 @@ use Rattle.calls.specs.declared.Call.the-variants.{Close, Hold, Revoke}
 use Rattle.calls.specs.Answers.{refusalOf, valuesOf}
 use Rattle.text.specs.declared.Reading.the-variants.{Asks}
 use Rattle.text.specs.Entry.{answered}
+use Rattle.text.specs.ReadBack.{numbersIn}
 use Rattle.security.specs.Sessions.{fetcherOf}
 use Rattle.security.specs.Changes.{goes, shuts, placeAfter, recordAfter}
 use Rattle.security.specs.Places.{homeOf, listers, whereabouts}
@@ -89,7 +90,7 @@ sent-home = tt
 -- numbers: the next row after the revoke takes 14, though 9 to 13 are free
 pub never-again :
     T (eqb (revoked .state .next) 14 && (not (any (stands revoked) (9 ∷ 10 ∷ 11 ∷ 12 ∷ 13 ∷ []))
-    && sameList (valuesOf (answered (revoked .state) (Asks (Hold 1 1)) .answer)) (14 ∷ [])))
+    && sameList (numbersIn (valuesOf (answered (revoked .state) (Asks (Hold 1 1)) .answer))) (14 ∷ [])))
 unfolding everything
 never-again = tt
 
@@ -136,7 +137,7 @@ sameSeen v w =
 
 pub unseen :
     T (sameSeen (view (lentOn .state) 1) (view (elsewhere .state) 1) && (sameList (view (lentOn .state) 1 .asked) (9 ∷ [])
-    && (sameList (valuesOf (answered (lentOn .state) (Asks (Hold 1 1)) .answer)) (14 ∷ []) && sameList (valuesOf (answered (elsewhere .state) (Asks (Hold 1 1)) .answer)) (15 ∷ []))))
+    && (sameList (numbersIn (valuesOf (answered (lentOn .state) (Asks (Hold 1 1)) .answer))) (14 ∷ []) && sameList (numbersIn (valuesOf (answered (elsewhere .state) (Asks (Hold 1 1)) .answer))) (15 ∷ []))))
 unfolding everything sameSeen
 unseen = tt
 

@@ -1,12 +1,13 @@
 -- Texts in a reply: the bytes, 0 after them, and their number.
 use Prim.Native.Nat.{ℕ}
 use mathlib.Core.Path.{_≡_}
-use mathlib.Core.List.{List, [], _∷_, _++_}
+use mathlib.Core.List.{List, [], _∷_, _++_, map}
 use lib.Dec.{eqb}
 use lib.ListN.{length}
-use Rattle.rows.specs.Lists.{if_then_else_, pad}
+use Rattle.rows.specs.Lists.{if_then_else_, pad, nonzero}
+use Rattle.calls.specs.Answers.{Value, num, toldValue}
 use Rattle.text.specs.declared.Reply.{Reply}
-use Rattle.text.specs.Answers.{okText, noText}
+use Rattle.text.specs.Answers.{spaced, okText, noText}
 use Rattle.text.specs.contracts.Sizes.{REPLY}
 
 unfoldable pub inReply : List ℕ → Reply
@@ -17,6 +18,16 @@ abbrev pub Puts : List ℕ → ℕ → List ℕ → List ℕ → ℕ → Type 0
 Puts o n t u m =
     (before : List ℕ) → record { bytes = o; length = n } ≡ inReply before → record { bytes = u; length = m } ≡ inReply (before ++ t)
 
+-- the text of the numbers that are not 0: themselves of a fetch or a chain, what they tell of a comesall
+abbrev pub listedText : (ℕ → Value) → List ℕ → List ℕ
+listedText value ns = spaced (map value (nonzero ns))
+
+abbrev pub numbersText : List ℕ → List ℕ
+numbersText = listedText num
+
+abbrev pub toldText : List ℕ → List ℕ
+toldText = listedText toldValue
+
 -- what an opening answers: accepted (0), or the refusal and its line
 unfoldable pub openingText : ℕ → ℕ → List ℕ
-openingText k line = if eqb k 0 then okText (0 ∷ []) else noText (k ∷ line ∷ [])
+openingText k line = if eqb k 0 then okText (num 0 ∷ []) else noText (k ∷ line ∷ [])

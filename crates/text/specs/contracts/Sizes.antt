@@ -29,6 +29,10 @@ REPLY = 256
 abbrev pub VALUE : ℕ
 VALUE = 11
 
+-- a space and what is told of a pair
+abbrev pub TOLD : ℕ
+TOLD = 2
+
 -- ---- they are those of the definitions
 pub record TextSizesMeant : Type 0 where
   pub greatest-read : GREATEST-READ ≡ suc greatestNumber

@@ -109,6 +109,12 @@ enum-known-c-12 c = search needs
 chain-requires : tie.Need-chain-requires
 chain-requires c κs = search needs
 
+enum-known-c-13 : tie.Need-enum-known-c-13
+enum-known-c-13 c = search needs
+
+comes-all-requires : tie.Need-comes-all-requires
+comes-all-requires c κs = search needs
+
 same-length : tie.Need-same-length
 same-length c = search needs
 
@@ -250,6 +256,16 @@ returns-12 c =
     let a = c .before .before .before .before .before .before .before .args in
     carried (now (a .t)) (now (a .t)) (now (a .ps)) (now (a .ps)) (done .result) (pre .1) (pre .0, pre .1) (a .c) _ (c .before .before .before .c12 .given .1) (done .ensures (now (a .ps)))
 
+same-length-20 : tie.Need-same-length-20
+same-length-20 c = search needs
+
+returns-13 : tie.Need-returns-13
+returns-13 c =
+    let done = c .comes-all in
+    let pre = c .before .before .before .before .before .before .before .pre in
+    let a = c .before .before .before .before .before .before .before .args in
+    carried (now (a .t)) (now (a .t)) (now (a .ps)) (now (a .ps)) (done .result) (pre .1) (pre .0, pre .1) (a .c) _ (c .before .before .before .c13 .given .1) (done .ensures (now (a .ps)))
+
 pub perform-spec : {M : Type 1} → statement M
 perform-spec =
     tie.close
@@ -278,6 +294,8 @@ perform-spec =
     comes-requires
     enum-known-c-12
     chain-requires
+    enum-known-c-13
+    comes-all-requires
     same-length
     same-length-2
     returns
@@ -308,4 +326,6 @@ perform-spec =
     same-length-18
     returns-11
     same-length-19
-    returns-12)
+    returns-12
+    same-length-20
+    returns-13)

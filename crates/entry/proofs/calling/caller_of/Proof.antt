@@ -41,6 +41,9 @@ enum-known-c-11 c = search needs
 enum-known-c-12 : tie.Need-enum-known-c-12
 enum-known-c-12 c = search needs
 
+enum-known-c-13 : tie.Need-enum-known-c-13
+enum-known-c-13 c = search needs
+
 returns : tie.Need-returns
 unfolding callerOf
 returns c = sym (ap callerOf (c .before .c .given .1))
@@ -89,6 +92,10 @@ returns-12 : tie.Need-returns-12
 unfolding callerOf
 returns-12 c = sym (ap callerOf (c .before .c12 .given .1))
 
+returns-13 : tie.Need-returns-13
+unfolding callerOf
+returns-13 c = sym (ap callerOf (c .before .c13 .given .1))
+
 pub caller-of-spec : {M : Type 1} → statement M
 caller-of-spec =
     tie.close
@@ -105,6 +112,7 @@ caller-of-spec =
     enum-known-c-10
     enum-known-c-11
     enum-known-c-12
+    enum-known-c-13
     returns
     returns-2
     returns-3
@@ -116,4 +124,5 @@ caller-of-spec =
     returns-9
     returns-10
     returns-11
-    returns-12)
+    returns-12
+    returns-13)

@@ -66,10 +66,22 @@ returns-11 c = rw (c .match .keys11)
 
 returns-12 : tie.Need-returns-12
 unfolding callOfCode
-returns-12 c =
-    let r = c .match .rest in
+returns-12 c = rw (c .match .keys12)
+
+sixteen-at-requires : tie.Need-sixteen-at-requires
+sixteen-at-requires c κs = search needs
+
+sixteen-at-requires-2 : tie.Need-sixteen-at-requires-2
+sixteen-at-requires-2 c κs = search needs
+
+returns-13 : tie.Need-returns-13
+unfolding callOfCode
+returns-13 c =
+    let r = c .before .before .match .rest .0 in
     let r4 = r .0 .0 .0 .0 .0 in
     rw (
+      c .before .sixteen-at .ensures,
+      c .sixteen-at2 .ensures,
       ne-eqb _ 0 (r4 .0 .0 .0 .0 .0 .1),
       ne-eqb _ 1 (r4 .0 .0 .0 .0 .1),
       ne-eqb _ 2 (r4 .0 .0 .0 .1),
@@ -81,6 +93,7 @@ returns-12 c =
       ne-eqb _ 8 (r .0 .0 .1),
       ne-eqb _ 9 (r .0 .1),
       ne-eqb _ 10 (r .1),
+      ne-eqb _ 11 (c .before .before .match .rest .1),
     )
 
 pub call-of-spec : {M : Type 1} → statement M
@@ -92,6 +105,8 @@ call-of-spec =
     element-copy-out-e
     element-copy-out-served
     items-of-requires
+    sixteen-at-requires
+    sixteen-at-requires-2
     returns
     returns-2
     returns-3
@@ -103,4 +118,5 @@ call-of-spec =
     returns-9
     returns-10
     returns-11
-    returns-12)
+    returns-12
+    returns-13)

@@ -8,7 +8,7 @@ use Rattle.rows.proofs.Bools.{clash, not-t, not-f}
 use Rattle.calls.specs.declared.Call.{Call}
 use Rattle.calls.specs.contracts.Performs.{CallerInRange, Performs}
 use Rattle.calls.proofs.Carried.{runs-after}
-use Rattle.test_exports.specs.contracts.Calls.{itemsOfWords, wordsOfAnswer}
+use Rattle.test_exports.specs.contracts.Calls.{itemsOfWords, sixteenAt, wordsOfAnswer}
 use Rattle.test_exports.proofs.CallWords.{fits-in-range}
 use Rattle.test_exports.proofs.performing.kernel_perform.Statement.{statement}
 use Rattle.test_exports.proofs.performing.kernel_perform.Tie as tie
@@ -34,7 +34,7 @@ perform-requires : tie.Need-perform-requires
 perform-requires c κs =
     let fit = c .before .before .before .before .caller-fits in
     let w = now (c .before .before .before .before .before .before .before .before .before .args .w) in
-    let range = fits-in-range (getD w 0 0) (getD w 1 0) (getD w 2 0) (itemsOfWords w) (eqb (getD w 3 0) 1) (sym (fit .ensures) ∙ not-f (fit .result) (c .before .before .before .if3 .left)) in
+    let range = fits-in-range (getD w 0 0) (getD w 1 0) (getD w 2 0) (itemsOfWords w) (eqb (getD w 3 0) 1) (sixteenAt w 1) (sixteenAt w 17) (sym (fit .ensures) ∙ not-f (fit .result) (c .before .before .before .if3 .left)) in
     (c .before .before .before .before .before .before .if1 .left, c .before .before .before .before .before .if2 .left, subst CallerInRange (sym (c .before .before .call-of .ensures)) range)
 
 words-of-requires : tie.Need-words-of-requires

@@ -25,6 +25,12 @@ enum-known-a-4 c = search needs
 enum-known-a-5 : tie.Need-enum-known-a-5
 enum-known-a-5 c = search needs
 
+enum-known-a-6 : tie.Need-enum-known-a-6
+enum-known-a-6 c = search needs
+
+words-told-requires : tie.Need-words-told-requires
+words-told-requires c κs = search needs
+
 returns : tie.Need-returns
 unfolding wordsOfAnswer
 returns c = sym (ap wordsOfAnswer (c .enum-told .given .1))
@@ -51,7 +57,11 @@ returns-6 c = sym (ap wordsOfAnswer (c .before .a4 .given .1))
 
 returns-7 : tie.Need-returns-7
 unfolding wordsOfAnswer
-returns-7 c = sym (ap wordsOfAnswer (c .before .a5 .given .1))
+returns-7 c = c .words-told .ensures ∙ sym (ap wordsOfAnswer (c .before .before .a5 .given .1))
+
+returns-8 : tie.Need-returns-8
+unfolding wordsOfAnswer
+returns-8 c = sym (ap wordsOfAnswer (c .before .a6 .given .1))
 
 pub words-of-spec : {M : Type 1} → statement M
 words-of-spec =
@@ -63,10 +73,13 @@ words-of-spec =
     enum-known-a-3
     enum-known-a-4
     enum-known-a-5
+    words-told-requires
+    enum-known-a-6
     returns
     returns-2
     returns-3
     returns-4
     returns-5
     returns-6
-    returns-7)
+    returns-7
+    returns-8)

@@ -1,7 +1,7 @@
 -- `call_line::first_four` meets its contract.
 use mathlib.Core.Path.{sym}
-use Rattle.text.specs.contracts.Asks.{askedFrom}
-use Rattle.text.proofs.AskLaws.{four-packed}
+use Rattle.text.specs.contracts.Groups.{groupsFrom}
+use Rattle.text.proofs.GroupLaws.{four-packed}
 use borrow.Author.Needs.{needs}
 use Rattle.text.proofs.call_line.first_four.Statement.{statement}
 use Rattle.text.proofs.call_line.first_four.Tie as tie
@@ -31,8 +31,8 @@ array-read-t30 : tie.Need-array-read-t30
 array-read-t30 c = search needs
 
 returns : tie.Need-returns
-unfolding askedFrom
-returns c = λ g e. rw e (sym (four-packed g))
+unfolding groupsFrom
+returns c = λ x e. rw e (sym (four-packed x))
 
 pub first-four-spec : {M : Type 1} → statement M
 first-four-spec =

@@ -13,14 +13,14 @@ returns : tie.Need-returns
 unfolding readingOf mostBytes
 returns c = rw (lt-ltb 256 (length (c .before .before .args .line .now)) (omega arith))
 
-ask-form-requires : tie.Need-ask-form-requires
-ask-form-requires c κs = search needs
+groups-form-requires : tie.Need-groups-form-requires
+groups-form-requires c κs = search needs
 
 returns-2 : tie.Need-returns-2
 unfolding readingOf mostBytes
 returns-2 c =
     let a = c .before .before .before .args in
-    c .ask-form .ensures ∙ rw (le-ltb 256 (length (a .line .now)) (omega arith))
+    c .groups-form .ensures ∙ rw (le-ltb 256 (length (a .line .now)) (omega arith))
 
 pub read-call-spec : {M : Type 1} → statement M
-read-call-spec = tie.close (tie.spec returns ask-form-requires returns-2)
+read-call-spec = tie.close (tie.spec returns groups-form-requires returns-2)

@@ -1,6 +1,6 @@
 -- `opening_lines::node_form`: a walk of its MIR, by hand. The reader stands in `_2`: it is taken apart for each covered function that is called, and
 -- moved to the position that the function came to. A `&[u8]` is Copy: what the line owns is had again for each call.
--- The MIR is that of `call_line::ask_form` but for names and types, and so is the walk.
+-- The MIR is that of `call_line::groups_form` but for names and types, and so is the walk.
 use mathlib.Core.Path.{_≡_, refl, subst}
 use Prim.Native.Nat.{ℕ, _<_, _^_}
 use mathlib.Core.Bool.{Bool}

@@ -3,7 +3,7 @@ use borrow.Author.Needs.{needs}
 use Prim.Native.Nat.{ℕ}
 use mathlib.Core.List.{_∷_, []}
 use mathlib.Core.Path.{ap}
-use Rattle.calls.specs.Answers.{refusalOf, valuesOf}
+use Rattle.calls.specs.Answers.{num, refusalOf, valuesOf}
 use Rattle.text.specs.Answers.{printed, okText}
 use Rattle.text.proofs.ReplyLaws.{told-number, puts-as}
 use Rattle.text.proofs.replies.put_answer.Statement.{statement}
@@ -48,6 +48,12 @@ put-chained-requires c κs = search needs
 enum-known-a-5 : tie.Need-enum-known-a-5
 enum-known-a-5 c = search needs
 
+put-told-all-requires : tie.Need-put-told-all-requires
+put-told-all-requires c κs = search needs
+
+enum-known-a-6 : tie.Need-enum-known-a-6
+enum-known-a-6 c = search needs
+
 put-refusal-requires : tie.Need-put-refusal-requires
 put-refusal-requires c κs = search needs
 
@@ -67,14 +73,17 @@ returns-4 : tie.Need-returns-4
 unfolding printed refusalOf valuesOf
 returns-4 c =
     let t = c .before .before .before .a3 .given in
-    rw (t .1) (puts-as _ _ (ap (λ (n : ℕ). okText (n ∷ [])) (told-number (t .0 .0))) (c .put-accepted3 .ensures))
+    rw (t .1) (puts-as _ _ (ap (λ (n : ℕ). okText (num n ∷ [])) (told-number (t .0 .0))) (c .put-accepted3 .ensures))
 
 returns-5 : tie.Need-returns-5
 returns-5 c = rw (c .before .before .before .a4 .given .1) (c .put-chained .ensures)
 
 returns-6 : tie.Need-returns-6
+returns-6 c = rw (c .before .before .before .a5 .given .1) (c .put-told-all .ensures)
+
+returns-7 : tie.Need-returns-7
 unfolding printed refusalOf valuesOf
-returns-6 c = rw (c .before .before .before .a5 .given .1) (c .put-refusal .ensures)
+returns-7 c = rw (c .before .before .before .a6 .given .1) (c .put-refusal .ensures)
 
 pub put-answer-spec : {M : Type 1} → statement M
 put-answer-spec =
@@ -93,10 +102,13 @@ put-answer-spec =
     enum-known-a-4
     put-chained-requires
     enum-known-a-5
+    put-told-all-requires
+    enum-known-a-6
     put-refusal-requires
     returns
     returns-2
     returns-3
     returns-4
     returns-5
-    returns-6)
+    returns-6
+    returns-7)

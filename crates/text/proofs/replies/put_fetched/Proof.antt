@@ -1,7 +1,8 @@
 -- `replies::put_fetched` meets its contract.
 use borrow.Author.Needs.{needs}
-use mathlib.Core.List.{_∷_, []}
+use mathlib.Core.List.{_∷_, [], map}
 use Rattle.rows.specs.Lists.{bytes, nonzero}
+use Rattle.calls.specs.Answers.{num}
 use Rattle.text.specs.Answers.{okText, spaced}
 use Rattle.text.proofs.ReplyLaws.{puts-then, puts-as, two-parts}
 use Rattle.text.proofs.replies.put_fetched.Statement.{statement}
@@ -33,9 +34,9 @@ returns c =
     let ok = v .before .before in
     let a = ok .before .before .before .args in
     let ns = nonzero (a .a ∷ a .b ∷ a .c ∷ a .d ∷ []) in
-    let items = puts-then (spaced ns) _ (i .put-items .ensures .0) (c .put-text2 .ensures .0) in
-    let values = puts-then (spaced (a .v ∷ [])) _ (v .put-value .ensures .0) items in
-    puts-then _ _ (ok .put-text .ensures .0) (puts-as _ _ (two-parts (a .v ∷ []) ns (bytes ")\n")) values)
+    let items = puts-then (spaced (map num ns)) _ (i .put-items .ensures .0) (c .put-text2 .ensures .0) in
+    let values = puts-then (spaced (num (a .v) ∷ [])) _ (v .put-value .ensures .0) items in
+    puts-then _ _ (ok .put-text .ensures .0) (puts-as _ _ (two-parts (num (a .v) ∷ []) (map num ns) (bytes ")\n")) values)
 
 pub put-fetched-spec : {M : Type 1} → statement M
 put-fetched-spec =

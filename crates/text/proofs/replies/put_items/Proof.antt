@@ -1,6 +1,7 @@
 -- `replies::put_items` meets its contract: the items one after the other.
 use borrow.Author.Needs.{needs}
 use native.Mathlib.Omega.{arith}
+use Rattle.calls.specs.Answers.{num}
 use Rattle.text.proofs.ReplyLaws.{puts-then, four-listed}
 use Rattle.text.proofs.replies.put_items.Statement.{statement}
 use Rattle.text.proofs.replies.put_items.Tie as tie
@@ -26,7 +27,7 @@ returns c =
     let last-two = puts-then _ _ (third .put-listed3 .ensures .0) (c .put-listed4 .ensures .0) in
     let last-three = puts-then _ _ (second .put-listed2 .ensures .0) last-two in
     let all-four = puts-then _ _ (first .put-listed .ensures .0) last-three in
-    (rw (four-listed (a .a) (a .b) (a .c) (a .d)) all-four, omega arith)
+    (rw (four-listed num (a .a) (a .b) (a .c) (a .d)) all-four, omega arith)
 
 pub put-items-spec : {M : Type 1} → statement M
 put-items-spec =

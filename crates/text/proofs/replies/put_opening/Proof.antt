@@ -3,6 +3,7 @@ use borrow.Author.Needs.{needs}
 use mathlib.Core.List.{_∷_, []}
 use borrow.Author.Tests.{ne-eqb}
 use Rattle.rows.specs.Lists.{bytes}
+use Rattle.calls.specs.Answers.{num}
 use Rattle.text.specs.Answers.{noText}
 use Rattle.text.specs.contracts.Replies.{openingText}
 use Rattle.text.proofs.ReplyLaws.{puts-then, puts-as, two-parts}
@@ -44,7 +45,7 @@ returns-2 c =
     let a = i .before .args in
     let line = puts-then _ _ (l .put-value2 .ensures .0) (c .put-text2 .ensures .0) in
     let values = puts-then _ _ (v .put-value .ensures .0) line in
-    let put = puts-then _ _ (no-text .put-text .ensures .0) (puts-as _ _ (two-parts (a .k ∷ []) (a .line ∷ []) (bytes ")\n")) values) in
+    let put = puts-then _ _ (no-text .put-text .ensures .0) (puts-as _ _ (two-parts (num (a .k) ∷ []) (num (a .line) ∷ []) (bytes ")\n")) values) in
     rw (ne-eqb (a .k) 0 (i .if1 .left)) put
 
 pub put-opening-spec : {M : Type 1} → statement M

@@ -1,9 +1,9 @@
--- `chain::four_from` meets its contract: the words at four positions.
+-- `numbers::four_from` meets its contract: the words at four positions.
 use borrow.Author.Needs.{needs}
 use mathlib.Core.Path.{refl}
 use Rattle.calls.specs.Calls.{fourFrom}
-use Rattle.calls.proofs.chain.four_from.Statement.{statement}
-use Rattle.calls.proofs.chain.four_from.Tie as tie
+use Rattle.calls.proofs.numbers.four_from.Statement.{statement}
+use Rattle.calls.proofs.numbers.four_from.Tie as tie
 
 mul-t3 : tie.Need-mul-t3
 mul-t3 c = search needs
