@@ -33,6 +33,13 @@ pub struct Item {
     pub rights: u32,
 }
 
+/// (rule F2) A pair of a comesall: a row and a request.
+#[derive(Clone, Copy, PartialEq, Eq, Debug)]
+pub struct Pair {
+    pub row: u32,
+    pub request: u32,
+}
+
 /// A call of good form; its numbers may be out of range.
 #[derive(Clone, PartialEq, Eq, Debug)]
 pub enum Call {
@@ -59,6 +66,9 @@ pub enum Call {
     Chain {
         row: u32,
     },
+    ComesAll {
+        pairs: Vec<Pair>,
+    },
 }
 
 /// (rules F1, F2, F3) The call on a line, none for a bad form: one line, whose
@@ -71,6 +81,10 @@ pub fn read_call(line: &[u8]) -> Option<Call> {
             request: *request,
         }),
         [Part::Word(b"chain"), Part::Number(row)] => Some(Call::Chain { row: *row }),
+        [Part::Word(b"comesall"), pairs @ ..] if !pairs.is_empty() => {
+            let pairs = pairs.iter().map(read_pair).collect::<Option<_>>()?;
+            Some(Call::ComesAll { pairs })
+        }
         [Part::Number(caller), Part::Word(b"ask"), Part::Number(client), items @ ..] => {
             let items = items.iter().map(read_item).collect::<Option<_>>()?;
             Some(Call::Ask {
@@ -99,26 +113,34 @@ pub fn read_call(line: &[u8]) -> Option<Call> {
 }
 
 fn read_item(part: &Part) -> Option<Item> {
+    let (row, rights) = two_numbers(part)?;
+    Some(Item { row, rights })
+}
+
+fn read_pair(part: &Part) -> Option<Pair> {
+    let (row, request) = two_numbers(part)?;
+    Some(Pair { row, request })
+}
+
+/// Two numbers in brackets.
+fn two_numbers(part: &Part) -> Option<(u32, u32)> {
     let Part::Form(parts) = part else {
         return None;
     };
     match parts.as_slice() {
-        [Part::Number(row), Part::Number(rights)] => Some(Item {
-            row: *row,
-            rights: *rights,
-        }),
+        [Part::Number(first), Part::Number(second)] => Some((*first, *second)),
         _ => None,
     }
 }
 
 impl Call {
-    /// None for `(comes e q)` and `(chain e)`.
+    /// None for `(comes e q)`, `(chain e)` and `(comesall (e q) ..)`.
     pub fn caller(&self) -> Option<u32> {
         match self {
             Call::One { caller, .. } | Call::Ask { caller, .. } | Call::Answer { caller, .. } => {
                 Some(*caller)
             }
-            Call::Comes { .. } | Call::Chain { .. } => None,
+            Call::Comes { .. } | Call::Chain { .. } | Call::ComesAll { .. } => None,
         }
     }
 
@@ -130,6 +152,7 @@ impl Call {
             Call::Answer { .. } => "answer".to_string(),
             Call::Comes { .. } => "comes".to_string(),
             Call::Chain { .. } => "chain".to_string(),
+            Call::ComesAll { .. } => "comesall".to_string(),
         }
     }
 
@@ -137,6 +160,14 @@ impl Call {
     pub fn items(&self) -> &[Item] {
         match self {
             Call::Ask { items, .. } => items,
+            _ => &[],
+        }
+    }
+
+    /// The pairs of a comesall; no other call has any.
+    pub fn pairs(&self) -> &[Pair] {
+        match self {
+            Call::ComesAll { pairs } => pairs,
             _ => &[],
         }
     }
@@ -156,6 +187,10 @@ impl Call {
                 *request = number(*request);
             }
             Call::Chain { row } => *row = number(*row),
+            Call::ComesAll { pairs } => pairs.iter_mut().for_each(|p| {
+                p.row = number(p.row);
+                p.request = number(p.request);
+            }),
         }
         call
     }
@@ -181,6 +216,10 @@ impl Call {
             Call::Answer { caller, end, last } => format!("({caller} answer {end} {last})\n"),
             Call::Comes { row, request } => format!("(comes {row} {request})\n"),
             Call::Chain { row } => format!("(chain {row})\n"),
+            Call::ComesAll { pairs } => {
+                let pairs = pairs.iter().map(|p| format!(" ({} {})", p.row, p.request));
+                format!("(comesall{})\n", pairs.collect::<String>())
+            }
         };
         text.into_bytes()
     }

@@ -1,13 +1,13 @@
 //! Random sessions with everything checked after every call.
 
 use crate::answer::Answer;
-use crate::call::{read_call, Call};
+use crate::call::{read_call, Call, Pair};
 use crate::demand3::demand3;
 use crate::history::History;
-use crate::limits::DEEPEST;
+use crate::limits::{DEEPEST, LAST_NUMBER, PAIRS};
 use crate::random::shifted::near_limit;
 use crate::random::{lines, openings, Profile, Rng};
-use crate::session::{call, open};
+use crate::session::{call, call_sound, open};
 use crate::sound::broken;
 use crate::tables::{Row, Tables};
 use crate::words::{decode, encode};
@@ -76,12 +76,14 @@ fn step(history: &mut History, tables: &mut Tables, line: &[u8]) -> Result<Answe
     let before = tables.clone();
     let answer = call(tables, line);
     history.note(line, &answer.print());
-    if !answer.accepted() && *tables != before {
-        return Err("a refused call changed the tables".to_string());
+    let question = read_call(line).is_some_and(|call| call.caller().is_none());
+    if (question || !answer.accepted()) && *tables != before {
+        return Err("a question or a refused call changed the tables".to_string());
     }
     check(history, tables)?;
     comes_agrees(history, line, &answer)?;
     chain_agrees(history, tables, line, &answer)?;
+    comesall_agrees(history, tables, line, &answer)?;
     Ok(answer)
 }
 
@@ -147,6 +149,55 @@ fn is_first_chain(history: &History, tables: &Tables, row: u32, numbers: &[u32])
     };
     let mut pairs = numbers.windows(2);
     from_text && to_row && short && pairs.all(|pair| linked(pair) && within(pair))
+}
+
+/// (rules F4, F7, comesall-ok-1, comesall-ok-2) Each value of a comesall is what `comes` answers of that
+/// pair alone, and what the history says. It is refused exactly for a number out of range, or else for
+/// too many pairs.
+fn comesall_agrees(
+    history: &History,
+    tables: &Tables,
+    line: &[u8],
+    answer: &Answer,
+) -> Result<(), String> {
+    let Some(Call::ComesAll { pairs }) = read_call(line) else {
+        return Ok(());
+    };
+    let in_range = |n: u32| (1..=LAST_NUMBER).contains(&n);
+    let odd = !pairs.iter().all(|p| in_range(p.row) && in_range(p.request));
+    let agrees = match answer {
+        Answer::Values(values) if !odd && pairs.len() <= PAIRS => {
+            let alone = pairs.iter().map(|p| comes_alone(tables, *p));
+            let told = pairs.iter().map(|p| told_of_pair(history, *p));
+            values.iter().copied().eq(alone) && values.iter().copied().eq(told)
+        }
+        Answer::No(3) => odd,
+        Answer::No(6) => !odd && pairs.len() > PAIRS,
+        _ => false,
+    };
+    match agrees {
+        true => Ok(()),
+        false => Err(format!("comesall {pairs:?}: {answer:?}")),
+    }
+}
+
+/// What `comes` answers of a pair; none where it is refused.
+fn comes_alone(tables: &Tables, pair: Pair) -> Option<bool> {
+    let Pair { row, request } = pair;
+    let single = Call::Comes { row, request };
+    match call_sound(&mut tables.clone(), &single.print()) {
+        Answer::Ok(numbers) => Some(numbers == [1]),
+        _ => None,
+    }
+}
+
+/// By the history whether the row comes from the request; none if it does not stand or the request
+/// is not open.
+fn told_of_pair(history: &History, pair: Pair) -> Option<bool> {
+    let (notes, now) = (&history.notes, &history.now);
+    let asked = now.standing.contains(&pair.row) && now.open_requests.contains(&pair.request);
+    let from = notes.rows_from(&now.standing, pair.request);
+    asked.then(|| from.contains(&pair.row))
 }
 
 /// The words of sound tables stand for these tables.

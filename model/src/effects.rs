@@ -4,7 +4,7 @@ use crate::answer::Answer;
 use crate::call::{Call, Item, Word};
 use crate::closing::{close_port, close_request, leave_lists};
 use crate::limits::ITEMS;
-use crate::relations::{comes_from, first_chain, request_on};
+use crate::relations::{comes_from, first_chain, pair_values, request_on};
 use crate::tables::{Kind, Place, Process, Request, Row, Tables};
 use std::collections::BTreeSet;
 
@@ -25,6 +25,7 @@ pub fn perform(tables: &mut Tables, call: &Call) -> Option<Answer> {
         Call::Answer { end, .. } => answer_request(tables, *end),
         Call::Comes { row, request } => Some(Answer::ok(comes_from(tables, *row, *request).into())),
         Call::Chain { row } => Some(Answer::Ok(first_chain(tables, *row))),
+        Call::ComesAll { pairs } => Some(Answer::Values(pair_values(tables, pairs))),
     }
 }
 

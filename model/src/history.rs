@@ -20,7 +20,8 @@ pub struct History {
     pub revoked: Option<u32>,
 }
 
-/// The first number of an accepted answer, none for a refusal.
+/// The first number of an accepted answer; none for a refusal, and for an answer with a `-`, which only
+/// a comesall has.
 fn accepted_number(answer: &[u8]) -> Option<u32> {
     let parts = read_line(answer)?;
     match parts.as_slice() {
@@ -53,8 +54,8 @@ impl History {
         history
     }
 
-    /// (rule H1) Feeds one line and its answer. Refused lines, `fetch`, `comes` and `chain` add
-    /// nothing.
+    /// (rule H1) Feeds one line and its answer. Refused lines, `fetch`, `comes`, `chain` and `comesall`
+    /// add nothing.
     pub fn note(&mut self, line: &[u8], answer: &[u8]) {
         self.revoked = None;
         let (Some(call), Some(n)) = (read_call(line), accepted_number(answer)) else {
@@ -73,7 +74,7 @@ impl History {
                 items,
             } => self.note_ask(caller, client, &items, n),
             Call::Answer { end, .. } => self.note_answered(end),
-            Call::Comes { .. } | Call::Chain { .. } => return,
+            Call::Comes { .. } | Call::Chain { .. } | Call::ComesAll { .. } => return,
         }
         self.before = std::mem::take(&mut self.now);
         self.now = Moment::after(&self.notes, &self.before, asked);

@@ -19,8 +19,10 @@ pub const ROWS: usize = 1024;
 pub const REQUESTS: usize = 128;
 /// (rules R11, X6) No row is deeper than 12.
 pub const DEEPEST: u32 = 12;
-/// (rules X4, X5) A node form has at most 16 entries, an ask at most 4 items.
+/// (rules X4, X5, X15) A node form has at most 16 entries, an ask at most 4 items, a comesall at
+/// most 16 pairs.
 pub const ENTRIES: usize = 16;
 pub const ITEMS: usize = 4;
+pub const PAIRS: usize = 16;
 /// (rule X3) A line has at most 255 bytes before its line feed.
 pub const LINE_BYTES: usize = 255;

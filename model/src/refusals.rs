@@ -53,8 +53,13 @@ fn input_tests(tables: &Tables, call: &Call) -> Tests {
         (3, out_of_range(call)),
         (4, item_named_twice(call.items())),
         (5, call.caller().is_some_and(|p| !tables.listed(p))),
-        (6, call.items().len() > ITEMS),
+        (6, too_many(call)),
     ]
+}
+
+/// (rules F7, X5, X15) Items of an ask, or pairs of a comesall.
+fn too_many(call: &Call) -> bool {
+    call.items().len() > ITEMS || call.pairs().len() > PAIRS
 }
 
 /// (rule F4) Rows and requests are 1 to 4,294,967,294, but for `go 0`; the last number of
@@ -83,6 +88,7 @@ fn out_of_range(call: &Call) -> bool {
         } => caller(*p) && number(*end) && *last <= 1,
         Call::Comes { row, request } => number(*row) && number(*request),
         Call::Chain { row } => number(*row),
+        Call::ComesAll { pairs } => pairs.iter().all(|p| number(p.row) && number(p.request)),
     };
     !in_range
 }
@@ -109,6 +115,8 @@ fn state_tests(tables: &Tables, call: &Call) -> Tests {
         Call::Answer { caller, end, last } => answer(tables, *caller, *end, *last),
         Call::Comes { row, request } => comes(tables, *row, *request),
         Call::Chain { row } => chain(tables, *row),
+        // (rule comesall-ok-2) A pair of which `comes` is 7 has the value `-`.
+        Call::ComesAll { .. } => Vec::new(),
     }
 }
 

@@ -1,7 +1,9 @@
-//! Comes from, on loan and lent, as predicates over the rows and requests; the first chain of a row.
+//! Comes from, on loan and lent, as predicates over the rows and requests; the first chain of a row;
+//! the values of pairs.
 
+use crate::call::Pair;
 use crate::tables::{Request, Row, Tables};
-use std::collections::BTreeSet;
+use std::collections::{BTreeMap, BTreeSet};
 
 /// (rule R14) A row comes from a request if it bears its number or a source of it
 /// comes from it: the least set of rows closed under this, for any of the requests
@@ -22,6 +24,29 @@ pub fn first_chain(tables: &Tables, row: u32) -> Vec<u32> {
     let mut chain: Vec<u32> = sources.map(|r| r.number).collect();
     chain.reverse();
     chain
+}
+
+/// (rules R14, comesall-ok-1, comesall-ok-2) The value of each pair, in one pass over the rows in
+/// rising number: of each row the places of the pairs whose request it comes from are kept. Sources
+/// are older, so theirs are known. None for a pair whose row does not stand or whose request is not
+/// open.
+pub fn pair_values(tables: &Tables, pairs: &[Pair]) -> Vec<Option<bool>> {
+    let mut values = vec![None; pairs.len()];
+    let mut from: BTreeMap<u32, BTreeSet<usize>> = BTreeMap::new();
+    for row in &tables.rows {
+        let of_sources = row.sources().filter_map(|s| from.get(&s)).flatten();
+        let mut of_row: BTreeSet<usize> = of_sources.copied().collect();
+        for (at, pair) in pairs.iter().enumerate() {
+            if pair.request == row.request {
+                of_row.insert(at);
+            }
+            if pair.row == row.number && tables.request(pair.request).is_some() {
+                values[at] = Some(of_row.contains(&at));
+            }
+        }
+        from.insert(row.number, of_row);
+    }
+    values
 }
 
 /// (rule L7) An end is on loan while an open request lists it.

@@ -1,13 +1,17 @@
 //! Random sessions: soundness, demand 3 and unchanged tables on a refusal,
 //! after every call. MODEL_CALLS and MODEL_SEED make it longer or another.
 
+use model::call::{Call, Pair};
 use model::chains;
 use model::check::{self, Tally};
 use model::history::History;
+use model::limits::PAIRS;
+use model::notes::Notes;
 use model::random::{self, Profile, PROFILES};
 use model::session::{call, Session};
 use model::tables::Tables;
 use model::{run_session, Answer};
+use std::collections::BTreeMap;
 use std::sync::OnceLock;
 
 fn variable(name: &str, default: u64) -> u64 {
@@ -130,6 +134,50 @@ fn chain_is_the_first_of_all_chains() {
         }
     }
     assert!(lengths.iter().all(|seen| *seen >= 10), "{lengths:?}");
+}
+
+/// What `comesall` answers of every row and request, standing and open or not, after a session: what
+/// all chains of the row say. Lines have 1 to 16 pairs.
+#[test]
+fn comesall_is_what_the_chains_say() {
+    let mut seen = BTreeMap::new();
+    for seed in 0..200 {
+        let profile = PROFILES[seed as usize % 5];
+        let (mut tables, history) = told(seed, profile, 80);
+        let pairs = all_pairs(&history.notes);
+        for some in pairs.chunks(1 + seed as usize % PAIRS) {
+            let values = some.iter().map(|p| by_chains(&history.notes, *p));
+            let values: Vec<Option<bool>> = values.collect();
+            let pairs = some.to_vec();
+            let line = Call::ComesAll { pairs }.print();
+            let answer = call(&mut tables, &line);
+            let said = String::from_utf8_lossy(&line);
+            assert_eq!(answer, Answer::Values(values.clone()), "{seed}: {said}");
+            for value in values {
+                *seen.entry(value).or_insert(0) += 1;
+            }
+        }
+    }
+    for value in [None, Some(false), Some(true)] {
+        assert!(seen.get(&value) >= Some(&500), "{value:?}: {seen:?}");
+    }
+}
+
+/// Each row with each request.
+fn all_pairs(notes: &Notes) -> Vec<Pair> {
+    let of_row = |row: u32| {
+        let requests = notes.requests.keys();
+        requests.map(move |q| Pair { row, request: *q })
+    };
+    notes.rows.keys().flat_map(|row| of_row(*row)).collect()
+}
+
+/// Whether a chain of the row has a row that bears the request; none if the row does not stand or
+/// the request is closed.
+fn by_chains(notes: &Notes, pair: Pair) -> Option<bool> {
+    let Pair { row, request } = pair;
+    let asked = chains::stands(notes, row) && !chains::request_closed(notes, request);
+    asked.then(|| chains::comes_from(notes, row, request))
 }
 
 /// A request has an end on loan, by the history, exactly where the tables

@@ -130,8 +130,8 @@ fn every_kind_and_every_edge() {
 }
 
 /// The grounds of 7 to 18, a letter to each test where a number has more than one.
-/// register-15 never applies to sound tables. Those of answer have the last number too, those of
-/// chain how many rows it has.
+/// register-15 never applies to sound tables, and none refuses a comesall. Those of answer have the
+/// last number too, those of chain how many rows it has.
 const GROUNDS: [&str; 52] = [
     "answer-10 with 1",
     "answer-11a with 0",
@@ -187,8 +187,9 @@ const GROUNDS: [&str; 52] = [
     "register-9",
 ];
 
-/// The calls that are accepted, an answer and a chain out of range, and revoke's one ground.
-const OTHERS: [&str; 27] = [
+/// The calls that are accepted, a comesall with the values that are among those answered; an answer,
+/// a chain and a comesall out of range, one of too many pairs, and revoke's one ground.
+const OTHERS: [&str; 36] = [
     "answer-3 with 2",
     "answer-ok with 0",
     "answer-ok with 1",
@@ -208,6 +209,15 @@ const OTHERS: [&str; 27] = [
     "chain-ok of 12",
     "close-ok",
     "comes-ok",
+    "comesall-3",
+    "comesall-6",
+    "comesall-ok with (ok -)",
+    "comesall-ok with (ok 0)",
+    "comesall-ok with (ok 1)",
+    "comesall-ok with (ok - 0)",
+    "comesall-ok with (ok - 1)",
+    "comesall-ok with (ok 0 1)",
+    "comesall-ok with (ok - 0 1)",
     "drop-ok",
     "fetch-ok",
     "go-ok",

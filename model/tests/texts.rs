@@ -120,7 +120,12 @@ const REFUSED_LINES: [(u32, &str); 6] = [
         (1 answer 1 1 1)|(1 answer 1 (1))|(1 answer 1 (1 0))|(1 answer (1 1))|(1 answer 1 01)|\
         (1 answer 1 1 )|(1 answer 1  1)|(answer 1 1)|(1 Answer 1 1)|(1 reply 1)|(1 refuse 1)|\
         (1 reply 1 1)|(1 refuse 1 0)|(65 answer 1 01)|(chain)|(1 chain 1)|(chain 1 1)|(chain (1))|\
-        (chain 01)|(chain 1 )|(chain  1)|(Chain 1)|(chains 1)|(chain1)",
+        (chain 01)|(chain 1 )|(chain  1)|(Chain 1)|(chains 1)|(chain1)|(comesall)|\
+        (1 comesall (1 1))|(comesall 1 1)|(comesall (1))|(comesall (1 1 1))|(comesall ())|\
+        (comesall (1 1) 1)|(comesall (1 1) (1))|(comesall (1 01))|(comesall (1 1)(1 1))|\
+        (comesall(1 1))|(comesall  (1 1))|(comesall (1 1) )|(comesall (1 -))|(comesall ((1 1)))|\
+        (Comesall (1 1))|(comesallx (1 1))|(comesal (1 1))|(comes all (1 1))|(comes (1 1))|\
+        (comesall (0 1) (01 1))",
     ),
     (
         3,
@@ -130,7 +135,9 @@ const REFUSED_LINES: [(u32, &str); 6] = [
         (1 ask 5 (0 1))|(1 ask 5 (1 8))|(2 ask 5 (1 8) (1 8))|(1 revoke 0)|\
         (1 ask 5 (1 0) (1 0) (1 0) (1 0) (1 9))|(1 answer 1 2)|(2 answer 1 2)|(1 answer 0 1)|\
         (1 answer 1 4294967295)|(1 answer 1 4294967297)|(1 answer 4294967295 0)|(65 answer 1 1)|\
-        (chain 0)|(chain 4294967295)|(chain 4294967297)|(chain 18446744073709551617)",
+        (chain 0)|(chain 4294967295)|(chain 4294967297)|(chain 18446744073709551617)|\
+        (comesall (0 1))|(comesall (1 0))|(comesall (1 1) (1 0))|(comesall (4294967295 1))|\
+        (comesall (1 4294967297))|(comesall (1 1) (18446744073709551617 1))",
     ),
     (
         4,
@@ -142,7 +149,11 @@ const REFUSED_LINES: [(u32, &str); 6] = [
         "(2 go 0)|(2 go 9)|(64 hold 1)|(2 ask 1 (1 0) (2 0) (3 0) (4 0) (5 0))|\
         (2 answer 1 0)|(2 answer 1 1)",
     ),
-    (6, "(1 ask 1 (1 0) (2 0) (3 0) (4 0) (5 0))"),
+    (
+        6,
+        "(1 ask 1 (1 0) (2 0) (3 0) (4 0) (5 0))|(comesall (1 1) (1 1) (1 1) (1 1) (1 1) (1 1) (1 1) \
+        (1 1) (1 1) (1 1) (1 1) (1 1) (1 1) (1 1) (1 1) (1 1) (1 1))",
+    ),
     (
         7,
         "(1 go 4294967294)|(1 go 4294967290)|(1 go 1000001)|(1 go 1)|(comes 1 1)|\
@@ -170,6 +181,7 @@ fn call_lines() {
     assert_eq!(answer("(1 go 0)"), Some(2));
     assert_eq!(answer("(1 go 0)\n"), None);
     assert_eq!(answer("(chain 1)\n"), None);
+    assert_eq!(answer("(comesall (1 1))\n"), None);
 }
 
 /// (rules O8, K10) What follows it is not read; the last line without a line feed is a call.
@@ -246,7 +258,8 @@ fn forms_have_one_spelling() {
 #[test]
 fn any_bytes() {
     let mut rng = Rng::new(43);
-    let alphabet = b"(( )) \n\n0123456789 node process open op dir go hold ask answer comes chain";
+    let alphabet =
+        b"(( )) \n\n0123456789 node process open op dir go hold ask answer comes chain comesall";
     for round in 0..20_000 {
         let length = rng.below(80);
         let byte = |_| match round % 2 {

@@ -2,12 +2,12 @@
 //! these as possible are among them.
 
 use crate::answer::Answer;
-use crate::call::{read_call, Call};
+use crate::call::{read_call, Call, Pair};
 use crate::limits::LAST_NUMBER;
 use crate::random::shifted::near_limit;
 use crate::random::{lines, openings, Profile, Rng, SMALL};
 use crate::refusals;
-use crate::relations::first_chain;
+use crate::relations::{comes_from, first_chain};
 use crate::session::{call_sound, open};
 use crate::tables::{Place, Request, Row, Tables};
 use std::collections::{BTreeMap, BTreeSet};
@@ -22,6 +22,9 @@ fn features(before: &Tables, line: &[u8], answer: &Answer, after: &Tables) -> Fe
         return Features::from(["bad form".to_string()]);
     };
     let mut found = Features::new();
+    if let Answer::Values(values) = answer {
+        found.extend(of_pairs(before, call.pairs(), values));
+    }
     if let Answer::Ok(numbers) = answer {
         found.extend(of_rows(before, after));
         found.extend(of_ends(before, after));
@@ -45,6 +48,7 @@ fn word(call: &Call) -> String {
         Call::Answer { last, .. } => format!("Answer {}", last.min(&2)),
         Call::Comes { .. } => "Comes".to_string(),
         Call::Chain { .. } => "Chain".to_string(),
+        Call::ComesAll { .. } => "ComesAll".to_string(),
     }
 }
 
@@ -102,6 +106,43 @@ fn of_chain(tables: &Tables, call: &Call) -> Features {
     let second = rows.filter(|r| r.via != 0);
     let passed = second.map(|r| format!("past the second source of {}", sort(r)));
     passed.chain(last).collect()
+}
+
+/// How many pairs a comesall has, the value at each place, and why it is that.
+fn of_pairs(tables: &Tables, pairs: &[Pair], values: &[Option<bool>]) -> Features {
+    let mut found = Features::from([format!("{} pairs", pairs.len())]);
+    for (at, (pair, value)) in pairs.iter().zip(values).enumerate() {
+        found.insert(format!("{value:?} at {at}"));
+        found.insert(of_pair(tables, pair));
+        if pairs[..at].contains(pair) {
+            found.insert("an equal pair".to_string());
+        }
+        if values[..at].contains(&None) {
+            found.insert(format!("{value:?} after none"));
+        }
+    }
+    if !pairs.is_sorted_by_key(|p| p.row) {
+        found.insert("not in rising number".to_string());
+    }
+    found
+}
+
+/// What of the pair is missing; else by which sources its row comes from the request, and whether
+/// the row bears it or is on loan in it.
+fn of_pair(tables: &Tables, pair: &Pair) -> String {
+    let request = tables.request(pair.request);
+    let (Some(row), Some(request)) = (tables.row(pair.row), request) else {
+        let stands = tables.row(pair.row).is_some();
+        return format!("row stands {stands}, request open {}", request.is_some());
+    };
+    let by = |source: u32| comes_from(tables, source, pair.request);
+    format!(
+        "bears {}, by first source {}, by second {}, listed {}",
+        row.request == pair.request,
+        by(row.source),
+        by(row.via),
+        request.lists(row.number)
+    )
 }
 
 /// Ends that go to another place: how many requests listed them, and whether

@@ -1,7 +1,7 @@
-//! Texts at the limits of lines and of nodes' entries.
+//! Texts at the limits of lines, of nodes' entries and of the pairs of a comesall.
 
 use crate::form::split_lines;
-use crate::limits::{ENTRIES, LINE_BYTES};
+use crate::limits::{ENTRIES, LINE_BYTES, PAIRS};
 use crate::random::Rng;
 
 /// The text with a number of one line lengthened so that the line has one
@@ -23,12 +23,16 @@ pub fn stretched(rng: &mut Rng, text: &[u8]) -> Vec<u8> {
     )
 }
 
-/// The text with the last entry of a node repeated, to as many as a node may
-/// have, one less or one more.
+/// The text with the last entry of a node, or the last pair of a comesall, repeated, to as many as
+/// there may be, one less or one more.
 pub fn crowded(rng: &mut Rng, text: &[u8]) -> Vec<u8> {
-    let entries = ENTRIES + rng.below(3) - 1;
-    let node = |line: &[u8]| line.starts_with(b"(node") && line.ends_with(b"))\n");
-    with_line(rng, text, node, |line| {
+    let beyond = rng.below(3);
+    let node = |line: &[u8]| line.starts_with(b"(node");
+    let comesall = |line: &[u8]| line.starts_with(b"(comesall");
+    let listing = |line: &[u8]| (node(line) || comesall(line)) && line.ends_with(b"))\n");
+    with_line(rng, text, listing, |line| {
+        let most = if node(line) { ENTRIES } else { PAIRS };
+        let entries = most + beyond - 1;
         let count = line.iter().filter(|b| **b == b'(').count() - 1;
         let Some(start) = line.windows(2).rposition(|w| w == b" (") else {
             return;

@@ -1,5 +1,5 @@
 //! Damaged texts: bytes flipped, cut out, doubled or added, lines made too
-//! long, numbers made odd; lines that are nearly an answer or a chain.
+//! long, numbers made odd; lines that are nearly an answer, a chain or a comesall.
 
 use super::prng::Rng;
 
@@ -86,6 +86,54 @@ pub fn garbled_chain(rng: &mut Rng, row: u32) -> Vec<u8> {
     let wrapped = (1u64 << 32) + u64::from(row);
     let line = line.replace("WRAPPED", &wrapped.to_string());
     (line.replace('E', &row.to_string()) + "\n").into_bytes()
+}
+
+/// Lines that are no comesall of a row and a request, which E and Q stand for, W and V the same past 32
+/// bits: without pairs, with a caller, a pair that is none, spaces and brackets, another word.
+const COMESALLS: [&str; 27] = [
+    "(comesall)",
+    "(comesall )",
+    "(1 comesall (E Q))",
+    "(comesall E Q)",
+    "(comesall ())",
+    "(comesall (E))",
+    "(comesall (E Q Q))",
+    "(comesall ((E Q)))",
+    "(comesall (E Q) E)",
+    "(comesall (E Q) E Q)",
+    "(comesall (E Q) ())",
+    "(comesall (E Q) (E))",
+    "(comesall (E Q)(E Q))",
+    "(comesall (E Q) )",
+    "(comesall  (E Q))",
+    "(comesall(E Q))",
+    "(comesall (E  Q))",
+    "(comesall (E Q ))",
+    "(comesall (E Q) (0E Q))",
+    "(comesall (E -))",
+    "(comesall (W Q))",
+    "(comesall (E Q) (E V))",
+    "(comesalls (E Q))",
+    "(comesal (E Q))",
+    "(Comesall (E Q))",
+    "(comes all (E Q))",
+    "(comes (E Q))",
+];
+
+/// A line that is nearly a comesall of this row and this request.
+pub fn garbled_comesall(rng: &mut Rng, row: u32, request: u32) -> Vec<u8> {
+    let mut line = rng.pick(&COMESALLS).unwrap_or("(comesall)").to_string();
+    let past = |number: u32| (1u64 << 32) + u64::from(number);
+    let numbers: [(char, u64); 4] = [
+        ('E', row.into()),
+        ('Q', request.into()),
+        ('W', past(row)),
+        ('V', past(request)),
+    ];
+    for (letter, number) in numbers {
+        line = line.replace(letter, &number.to_string());
+    }
+    (line + "\n").into_bytes()
 }
 
 /// The text damaged once to three times.

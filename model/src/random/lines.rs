@@ -1,6 +1,7 @@
 //! Random call lines, made by looking at the tables: most are accepted.
 
-use super::damage::{damage, garbled_answer, garbled_chain};
+use super::damage::{damage, garbled_answer, garbled_chain, garbled_comesall};
+use super::pairs::comesall;
 use super::prng::Rng;
 use super::profile::Profile;
 use crate::call::{Call, Item, Word, WORDS};
@@ -9,8 +10,8 @@ use crate::refusals::refusal;
 use crate::relations::{first_chain, on_loan, request_on};
 use crate::tables::{Kind, Place, Request, Row, Tables};
 
-/// What is proposed: a word with one number, an ask, an answer with its last number, a comes or a
-/// chain.
+/// What is proposed: a word with one number, an ask, an answer with its last number, a comes, a chain
+/// or a comesall.
 #[derive(Clone, Copy)]
 enum Plan {
     One(Word),
@@ -18,9 +19,10 @@ enum Plan {
     Answer(u32),
     Comes,
     Chain,
+    ComesAll,
 }
 
-const PLANS: [Plan; 13] = [
+const PLANS: [Plan; 14] = [
     Plan::One(Word::Go),
     Plan::One(Word::Hold),
     Plan::One(Word::Register),
@@ -34,22 +36,28 @@ const PLANS: [Plan; 13] = [
     Plan::One(Word::Revoke),
     Plan::Comes,
     Plan::Chain,
+    Plan::ComesAll,
 ];
 
 /// Last numbers of an answer that are out of range.
 const ODD_LAST: [u32; 6] = [2, 3, 10, 256, LAST_NUMBER, u32::MAX];
 
-/// How likely each plan is, in the order of `PLANS`.
-fn weights(profile: Profile, tables: &Tables) -> [u32; 13] {
-    match profile {
-        Profile::Tiny => [8, 10, 5, 6, 10, 3, 24, 16, 5, 3, 4, 6, 4],
-        Profile::Loans => [4, 10, 3, 4, 13, 2, 32, 20, 4, 2, 3, 3, 3],
-        Profile::Nested => [1, 6, 1, 2, 16, 1, 36, 24, 4, 3, 4, 2, 2],
-        Profile::Directories => [18, 20, 8, 6, 7, 1, 18, 14, 2, 1, 3, 2, 3],
-        Profile::Deep => [12, 20, 14, 2, 16, 1, 18, 16, 1, 1, 2, 1, 4],
-        Profile::Full if tables.rows.len() < 1022 => [2, 40, 6, 0, 26, 0, 26, 5, 0, 0, 0, 1, 1],
-        Profile::Full => [2, 20, 6, 20, 12, 2, 20, 8, 3, 2, 3, 2, 2],
+/// How likely each plan is, in the order of `PLANS`. Without an open request a comesall, which is
+/// accepted all the same, has no value but `-`.
+fn weights(profile: Profile, tables: &Tables) -> [u32; 14] {
+    let mut weights = match profile {
+        Profile::Tiny => [8, 10, 5, 6, 10, 3, 24, 16, 5, 3, 4, 6, 4, 5],
+        Profile::Loans => [4, 10, 3, 4, 13, 2, 32, 20, 4, 2, 3, 3, 3, 4],
+        Profile::Nested => [1, 6, 1, 2, 16, 1, 36, 24, 4, 3, 4, 2, 2, 3],
+        Profile::Directories => [18, 20, 8, 6, 7, 1, 18, 14, 2, 1, 3, 2, 3, 3],
+        Profile::Deep => [12, 20, 14, 2, 16, 1, 18, 16, 1, 1, 2, 1, 4, 3],
+        Profile::Full if tables.rows.len() < 1022 => [2, 40, 6, 0, 26, 0, 26, 5, 0, 0, 0, 1, 1, 1],
+        Profile::Full => [2, 20, 6, 20, 12, 2, 20, 8, 3, 2, 3, 2, 2, 2],
+    };
+    if tables.requests.is_empty() {
+        weights[PLANS.len() - 1] = 1;
     }
+    weights
 }
 
 /// One line, with its line feed if it was not damaged.
@@ -73,6 +81,10 @@ pub fn line(rng: &mut Rng, profile: Profile, tables: &Tables) -> Vec<u8> {
         3 if maker.rng.percent(25) => {
             let row = maker.any_number();
             garbled_chain(maker.rng, row)
+        }
+        4 if maker.rng.percent(25) => {
+            let (row, request) = (maker.any_number(), maker.any_number());
+            garbled_comesall(maker.rng, row, request)
         }
         2..=5 => maker.careless().print(),
         6..=20 => maker.propose().print(),
@@ -122,7 +134,7 @@ impl<'a> Maker<'a> {
             1 => self.rng.between(1, PROCESSES),
             _ => self.some_process(),
         };
-        match self.rng.below(13) {
+        match self.rng.below(14) {
             0 => Call::Comes {
                 row: self.any_number(),
                 request: self.any_number(),
@@ -130,12 +142,13 @@ impl<'a> Maker<'a> {
             1 => Call::Chain {
                 row: self.any_number(),
             },
-            2..=5 => Call::Ask {
+            2 => comesall(self.rng, self.tables, true),
+            3..=6 => Call::Ask {
                 caller,
                 client: self.any_number(),
                 items: self.careless_items(),
             },
-            6 => Call::Answer {
+            7 => Call::Answer {
                 caller,
                 end: self.any_number(),
                 last: self.any_last(),
@@ -202,6 +215,7 @@ impl<'a> Maker<'a> {
             Plan::Chain => Call::Chain {
                 row: self.some_row(),
             },
+            Plan::ComesAll => comesall(self.rng, self.tables, self.near),
         }
     }
 

@@ -6,6 +6,7 @@ pub mod alter;
 pub mod damage;
 pub mod lines;
 pub mod openings;
+pub mod pairs;
 pub mod prng;
 pub mod profile;
 pub mod shifted;

@@ -3,7 +3,7 @@
 
 use crate::answer::Answer;
 use crate::call::{read_call, Call};
-use crate::limits::LAST_NUMBER;
+use crate::limits::{LAST_NUMBER, LINE_BYTES};
 use crate::tables::Tables;
 
 /// The most that the numbers of tables can be raised by.
@@ -54,8 +54,12 @@ pub fn shift_line(line: &[u8], by: u32) -> Vec<u8> {
     }
 }
 
-/// The answer to a line, with the numbers raised that it gives. `comes` answers 1 or 0, no number.
+/// The answer to a line, with the numbers raised that it gives. `comes` answers 1 or 0, no number. A
+/// line that the raised numbers make too long is 2.
 pub fn shift_answer(line: &[u8], answer: &Answer, by: u32) -> Answer {
+    if shift_line(line, by).len() > LINE_BYTES + 1 {
+        return Answer::No(2);
+    }
     match (read_call(line), answer) {
         (Some(Call::Comes { .. }), _) => answer.clone(),
         (_, Answer::Ok(numbers)) => {

@@ -1,12 +1,13 @@
 //! Calls on sound tables, chosen so that each ground of each refusal decides as often as any.
 
+use crate::answer::Answer;
 use crate::call::Call;
 use crate::random::lines::near_call;
 use crate::random::{Rng, PROFILES};
 use crate::refusals::decided_by;
-use crate::relations::first_chain;
+use crate::relations::{first_chain, pair_values};
 use crate::tables::Tables;
-use std::collections::BTreeMap;
+use std::collections::{BTreeMap, BTreeSet};
 
 /// How many calls are proposed for one.
 const PROPOSALS: usize = 40;
@@ -18,12 +19,18 @@ pub struct Calls {
 }
 
 /// What decides, by the rule's name; of an answer with its last number too, of a chain with how
-/// many rows it has.
+/// many rows it has, of a comesall with the values that are among those answered.
 fn ground(tables: &Tables, call: &Call) -> Option<String> {
     let rule = decided_by(tables, call)?;
     match call {
         Call::Answer { last, .. } => Some(format!("{rule} with {}", last.min(&2))),
         Call::Chain { row } => Some(format!("{rule} of {}", first_chain(tables, *row).len())),
+        Call::ComesAll { pairs } if rule == "comesall-ok" => {
+            let values: BTreeSet<_> = pair_values(tables, pairs).into_iter().collect();
+            let printed = Answer::Values(values.into_iter().collect()).print();
+            let printed = String::from_utf8_lossy(&printed);
+            Some(format!("{rule} with {}", printed.trim_end()))
+        }
         _ => Some(rule),
     }
 }
