@@ -1,6 +1,6 @@
 //! Where the columns of the lent words start, and the codes of kinds and places.
 
-pub use model::limits::{ITEMS, LAST_NUMBER, REQUESTS, ROWS};
+pub use model::limits::{ITEMS, LAST_NUMBER, PAIRS, REQUESTS, ROWS};
 pub use model::words::{PROCESS_WORDS, REQUEST_COLUMNS, ROW_COLUMNS, TABLES_WORDS};
 
 pub const NUMBER: usize = 0;

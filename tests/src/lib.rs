@@ -27,5 +27,8 @@ pub type RowMarks = [bool; layout::ROWS];
 /// The same in bits: bit i % 64 of word i / 64 is the mark of slot i.
 pub type SlotBits = [u64; layout::ROWS / 64];
 
+/// Of each row the marks of sixteen pairs in bits, by source word, the slot plus 1; at 0, for no row, none.
+pub type PairMarks = [u16; layout::ROWS + 1];
+
 /// Which slots of requests are marked.
 pub type RequestMarks = [bool; layout::REQUESTS];

@@ -2,7 +2,8 @@
 //! pointer and a length, a reference to an array is a pointer.
 
 use crate::call_words::{AnswerWords, CallWords};
-use crate::{RequestFields, RequestMarks, RowFields, SlotBits};
+use crate::layout::PAIRS;
+use crate::{PairMarks, RequestFields, RequestMarks, RowFields, SlotBits};
 
 /// Both runs, the bytes and the lent reply, each a pointer and a length.
 pub type EntryPoint = unsafe extern "C" fn(
@@ -44,6 +45,12 @@ extern "C" {
         chain: *mut u32,
         chain_len: usize,
     ) -> usize;
+    pub fn kernel_mark_pairs(
+        t: *const u32,
+        t_len: usize,
+        requests: *const [u32; PAIRS],
+        marks: *mut PairMarks,
+    );
 
     // rights.rt
     pub fn kernel_rights_empty(a: u32) -> bool;

@@ -1,7 +1,8 @@
 //! The functions that only read the lent words.
 
+use crate::layout::PAIRS;
 use crate::raw;
-use crate::{RequestFields, RowFields};
+use crate::{PairMarks, RequestFields, RowFields};
 
 pub fn rows_in(tables: &[u32]) -> usize {
     unsafe { raw::kernel_rows_in(tables.as_ptr(), tables.len()) }
@@ -88,4 +89,10 @@ pub fn lent(tables: &[u32], slot: usize) -> bool {
 pub fn first_chain(tables: &[u32], slot: usize, chain: &mut [u32]) -> usize {
     let (t, t_len, length) = (tables.as_ptr(), tables.len(), chain.len());
     unsafe { raw::kernel_first_chain(t, t_len, slot, chain.as_mut_ptr(), length) }
+}
+
+/// Marks every row for the requests of sixteen pairs; nothing for words of another length.
+#[inline]
+pub fn mark_pairs(tables: &[u32], requests: &[u32; PAIRS], marks: &mut PairMarks) {
+    unsafe { raw::kernel_mark_pairs(tables.as_ptr(), tables.len(), requests, marks) }
 }

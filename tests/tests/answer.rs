@@ -3,12 +3,12 @@
 
 mod common;
 
-use common::entries::Entry;
+use common::entries::{entries, refuse, Entry};
 use common::performed::{Perform, UNSAID};
 use common::{small, words, Lent};
-use kernel::call_words::{said, ANSWER, DONE, REFUSED};
+use kernel::call_words::{said, ANSWER, CALL_WORDS, DONE, REFUSED};
 use kernel::plain::closing_tables::{call, opened};
-use kernel::{entry, performing, plain};
+use kernel::{performing, plain};
 use model::random::{sound_state, Rng};
 use model::relations::request_on;
 use model::tables::{Kind, Place, Row};
@@ -30,12 +30,6 @@ fn fetched() -> Tables {
     let mut tables = asked();
     call(&mut tables, "(2 fetch 6)");
     tables
-}
-
-/// The proved entry points, and those in plain Rust.
-fn entries() -> [Entry; 2] {
-    let plainly = Entry::new(plain::entry::open, plain::entry::call);
-    [Entry::new(entry::open, entry::call), plainly]
 }
 
 /// What is answered to the line, and the words after.
@@ -148,15 +142,8 @@ const REFUSED_LINES: [(u32, &[&str]); 6] = [
 #[test]
 fn forms_that_are_refused() {
     let lent = words(&fetched());
-    for entry in entries() {
-        for (refusal, lines) in REFUSED_LINES {
-            for line in lines {
-                let (said, after) = called(&entry, &lent, line);
-                assert_eq!(said, format!("(no {refusal})\n"), "{line}");
-                assert!(after == lent, "{line}");
-                entry.calls_as_model(&lent, format!("{line}\n").as_bytes());
-            }
-        }
+    for (refusal, lines) in REFUSED_LINES {
+        refuse(&lent, refusal, lines);
     }
 }
 
@@ -245,7 +232,7 @@ fn the_last_number_in_words() {
     for perform in [performing::perform as Perform, plain::calls::perform] {
         let made = |last: u32| {
             let (mut after, mut answer) = (lent.clone(), UNSAID);
-            let mut call = [0; 11];
+            let mut call = [0; CALL_WORDS];
             call[..4].copy_from_slice(&[ANSWER, 2, 6, last]);
             perform(&mut after.0, &mut after.1, &call, &mut answer);
             (after, answer)

@@ -4,22 +4,19 @@
 mod common;
 
 use common::built::built;
-use common::entries::Entry;
+use common::entries::{answer, entries, refuse, shown, Entry};
 use common::performed::{Perform, UNSAID};
-use common::{at_the_end, full, small, words, Lent};
-use kernel::call_words::{answer_words, CHAIN, LONGEST_CHAIN};
+use common::{altered, at_the_end, full, small, words, Lent};
+use kernel::call_words::{answer_words, CALL_WORDS, CHAIN, LONGEST_CHAIN};
 use kernel::fuller::{with_deep_rows, with_numbers_left, with_rows};
 use kernel::layout::{LAST_NUMBER, ROWS, SOURCE, TABLES_WORDS, VIA};
 use kernel::plain::closing_tables::{call, opened};
-use kernel::{entry, performing, plain, reading};
+use kernel::{performing, plain, reading};
 use model::call::Call;
-use model::random::aimed::{aimed, AIMS};
-use model::random::alter::{alter, alter_gently};
-use model::random::{sound_state, Rng};
+use model::random::Rng;
 use model::relations::first_chain;
 use model::session::call_sound;
 use model::tables::Row;
-use model::words::encode;
 use model::{sound, Tables};
 
 const ONE_PROCESS: &str = "(node 1)\n(process 1 1)\n(open)\n";
@@ -31,12 +28,6 @@ type Question = fn(&[u32], usize, &mut [u32]) -> usize;
 
 const QUESTIONS: [Question; 2] = [reading::first_chain, plain::questions::first_chain];
 const CALLS: [Perform; 2] = [performing::perform, plain::calls::perform];
-
-/// The proved entry points, and those in plain Rust.
-fn entries() -> [Entry; 2] {
-    let plainly = Entry::new(plain::entry::open, plain::entry::call);
-    [Entry::new(entry::open, entry::call), plainly]
-}
 
 /// What was asked: chains by their length, those of a row with a second source that they leave out,
 /// and numbers of no row.
@@ -80,7 +71,7 @@ fn call_agrees(lent: &Lent, row: u32, expected: &[u32]) {
     for perform in CALLS {
         for second in [0, row, u32::MAX] {
             let (mut after, mut answer) = (lent.clone(), UNSAID);
-            let mut call = [0; 11];
+            let mut call = [0; CALL_WORDS];
             call[..3].copy_from_slice(&[CHAIN, row, second]);
             perform(&mut after.0, &mut after.1, &call, &mut answer);
             assert_eq!(answer, expected, "chain {row}");
@@ -92,16 +83,7 @@ fn call_agrees(lent: &Lent, row: u32, expected: &[u32]) {
 /// The line, from bytes to bytes.
 fn line_agrees(entries: &[Entry], lent: &Lent, row: u32, expected: &[u8]) {
     let line = format!("(chain {row})\n");
-    for entry in entries {
-        let mut after = lent.clone();
-        let reply = entry.call(&mut after, line.as_bytes());
-        assert_eq!(shown(&reply), shown(expected), "{line}");
-        assert!(after == *lent, "words changed by {line}");
-    }
-}
-
-fn shown(bytes: &[u8]) -> String {
-    String::from_utf8_lossy(bytes).into_owned()
+    answer(entries, lent, line.as_bytes(), expected);
 }
 
 /// The call of that number as the model answers it, whose tables stay too.
@@ -170,20 +152,14 @@ fn chains_of_altered_tables() {
     let mut rng = Rng::new(51);
     let mut unsound = 0;
     for _ in 0..150 {
-        let tables = sound_state(&mut rng);
-        let mut others = vec![alter(&mut rng, &tables), alter_gently(&mut rng, &tables)];
-        others.extend(AIMS.iter().filter_map(|(c, _)| aimed(&mut rng, &tables, c)));
-        agrees(&entries, &tables, &mut seen);
-        for other in others {
-            match encode(&other) {
-                Some(_) if sound(&other) => agrees(&entries, &other, &mut seen),
-                Some(lent) => {
-                    let row = rng.pick(&other.rows).map_or(1, |row| row.number);
-                    line_agrees(&entries, &lent, row, b"(no 1)\n");
-                    unsound += 1;
-                }
-                None => {}
-            }
+        let (all, broken) = altered(&mut rng);
+        for tables in all {
+            agrees(&entries, &tables, &mut seen);
+        }
+        for (tables, lent) in broken {
+            let row = rng.pick(&tables.rows).map_or(1, |row| row.number);
+            line_agrees(&entries, &lent, row, b"(no 1)\n");
+            unsound += 1;
         }
     }
     assert!(unsound >= 2_500, "{unsound} unsound");
@@ -343,16 +319,8 @@ const REFUSED_LINES: [(u32, &[&str]); 3] = [
 #[test]
 fn lines_that_are_refused() {
     let lent = words(&through());
-    for entry in entries() {
-        for (refusal, lines) in REFUSED_LINES {
-            for line in lines {
-                let (mut after, line) = (lent.clone(), format!("{line}\n"));
-                let reply = entry.call(&mut after, line.as_bytes());
-                assert_eq!(shown(&reply), format!("(no {refusal})\n"), "{line}");
-                assert!(after == lent, "{line}");
-                entry.calls_as_model(&lent, line.as_bytes());
-            }
-        }
+    for (refusal, lines) in REFUSED_LINES {
+        refuse(&lent, refusal, lines);
     }
 }
 

@@ -129,7 +129,7 @@ fn look_ups_of_the_greatest_word() {
 #[test]
 fn rows_that_bear_the_greatest_word() {
     let mut found = 0;
-    for mut tables in at_the_end(100, 90) {
+    for mut tables in at_the_end(140, 90) {
         let Some(copy) = tables.rows.iter_mut().find(|r| r.request != 0) else {
             continue;
         };

@@ -1,4 +1,4 @@
-//! The twelve calls on sound tables: the answer and every word of both runs,
+//! The thirteen calls on sound tables: the answer and every word of both runs,
 //! against the model. A longer run, by so many rounds of the one in the gate:
 //!
 //!     ROUNDS=50 cargo test --release --offline --manifest-path tests/Cargo.toml --test performing -- --ignored

@@ -116,6 +116,7 @@ fn a_session_is_driven_line_by_line() {
     assert_eq!(ask(b"(1 hold 1)\n"), "(ok 3)\n");
     assert_eq!(ask(b"(comes 3 1)\n"), "(no 7)\n");
     assert_eq!(ask(b"(chain 3)\n"), "(ok 1 3)\n");
+    assert_eq!(ask(b"(comesall (3 1) (2 2))\n"), "(ok - -)\n");
     to.write_all(b"(1 hold 1)").expect("it reads on");
     drop(to);
     let mut rest = String::new();

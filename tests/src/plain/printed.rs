@@ -1,6 +1,7 @@
 //! Answers as the bytes of a reply.
 
 use super::calls::{Answer, Outcome};
+use crate::call_words::{NO, YES};
 
 /// A reply that grows from the front.
 pub struct Printed<'a> {
@@ -74,7 +75,21 @@ impl<'a> Printed<'a> {
                 self.numbers(&items);
             }
             Answer::Chained(rows) => self.numbers(&rows),
+            Answer::ToldAll(told) => {
+                for value in told.into_iter().filter(|value| *value != 0) {
+                    self.value(value);
+                }
+            }
         }
+    }
+
+    /// A space and what is told of a pair.
+    fn value(&mut self, told: u32) {
+        self.bytes(match told {
+            NO => b" 0",
+            YES => b" 1",
+            _ => b" -",
+        });
     }
 
     /// The refusal of an opening, with its line.

@@ -1,11 +1,12 @@
-//! Does a row come from a request, is it lent; its first chain.
+//! Does a row come from a request, is it lent; its first chain; the marks of sixteen pairs.
 
 use super::view::used;
 use crate::call_words::LONGEST_CHAIN;
 use crate::layout::{
-    CLIENT, KIND, NUMBER, Q_ITEMS, Q_NUMBER, REQUEST, REQUESTS, ROWS, SERVER, SOURCE, TABLES_WORDS,
-    VIA,
+    CLIENT, KIND, NUMBER, PAIRS, Q_ITEMS, Q_NUMBER, REQUEST, REQUESTS, ROWS, SERVER, SOURCE,
+    TABLES_WORDS, VIA,
 };
+use crate::PairMarks;
 
 /// Whether the row in the slot comes from the request; no for other lengths and slots.
 #[inline(never)]
@@ -76,4 +77,39 @@ pub fn chain_of(
     }
     chain[..length].reverse();
     length
+}
+
+/// Marks every row for the requests of sixteen pairs; nothing for words of another length.
+#[inline(never)]
+pub fn mark_pairs(tables: &[u32], requests: &[u32; PAIRS], marks: &mut PairMarks) {
+    if let Ok(words) = tables.try_into() {
+        *marks = [0; ROWS + 1];
+        let rows = used(&tables[NUMBER..NUMBER + ROWS]);
+        mark_rows(words, rows, requests, marks);
+    }
+}
+
+/// Each row by the marks of its sources, which are older.
+pub fn mark_rows(
+    words: &[u32; TABLES_WORDS],
+    rows: usize,
+    requests: &[u32; PAIRS],
+    marks: &mut PairMarks,
+) {
+    for slot in 0..rows {
+        let [source, via] = [SOURCE, VIA].map(|column| words[column + slot] as usize);
+        let own = match words[REQUEST + slot] {
+            0 => 0,
+            request => asking(requests, request),
+        };
+        marks[slot + 1] = marks[source] | marks[via] | own;
+    }
+}
+
+/// The pairs that ask of the request.
+fn asking(requests: &[u32; PAIRS], request: u32) -> u16 {
+    let pairs = requests.iter().enumerate();
+    pairs.fold(0, |bits, (k, other)| {
+        bits | u16::from(*other == request) << k
+    })
 }

@@ -16,8 +16,8 @@ const FALL: usize = 4;
 /// At its most a wave falls with the next call, so many times in 100.
 const TURN_PERCENT: u32 = 5;
 
-/// So many of 100 lines that are refused are taken, and where rows fall of `go`, `comes` and
-/// `chain`.
+/// So many of 100 lines that are refused are taken, and where rows fall of `go`, `comes`, `chain`
+/// and `comesall`.
 const ODD_PERCENT: u32 = 20;
 
 /// The calls after which another profile begins.
@@ -88,7 +88,9 @@ impl Waves {
             Some(_) if !self.falling => true,
             Some(Call::Ask { .. }) => false,
             Some(Call::Answer { .. }) => true,
-            Some(Call::Comes { .. } | Call::Chain { .. }) => self.rng.percent(ODD_PERCENT),
+            Some(Call::Comes { .. } | Call::Chain { .. } | Call::ComesAll { .. }) => {
+                self.rng.percent(ODD_PERCENT)
+            }
             Some(Call::One { word, .. }) => match word {
                 Word::Hold | Word::Register | Word::Port => false,
                 Word::Go => self.rng.percent(ODD_PERCENT),

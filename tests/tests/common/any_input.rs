@@ -87,14 +87,17 @@ pub fn any_bytes(rng: &mut Rng) -> Vec<u8> {
 }
 
 /// A call line that has so many bytes before its line feed, by the digits of
-/// a number, of answer its last or not, of chain the only one, or by its items.
+/// a number, of answer its last or not, of chain the only one, of comesall its
+/// last or not, or by its items.
 fn long_line(rng: &mut Rng, bytes: usize) -> Vec<u8> {
     let (_, word) = rng.pick(&WORDS).expect("a word");
-    let (start, end) = match rng.below(8) {
+    let (start, end) = match rng.below(10) {
         0..=2 => (format!("(1 {} ", word.text()), ")\n"),
         3 => ("(1 answer 3 ".to_string(), ")\n"),
         4 => ("(1 answer ".to_string(), " 1)\n"),
         5 => ("(chain ".to_string(), ")\n"),
+        6 => ("(comesall (3 9) (4 ".to_string(), "))\n"),
+        7 => (format!("(comesall{} (", " (3 9)".repeat(16)), " 9))\n"),
         _ => (
             "(1 ask 3 (1 1) (2 1) (3 1) (4 1) (5 1) (6 1) (".to_string(),
             " 7))\n",
@@ -116,7 +119,8 @@ pub fn any_lines(entry: &Entry, rng: &mut Rng, count: usize) {
                 1 => long_line(rng, 253 + way / 8),
                 2 => [&line[..], &line[..]].concat(),
                 3 => line[..line.len().saturating_sub(1)].to_vec(),
-                4 => many_items(rng, &tables),
+                4 if way < 20 => many_items(rng, &tables),
+                4 => many_pairs(rng, &tables),
                 _ => damage(rng, &line),
             };
             entry.calls_as_model(&lent, &line);
@@ -138,6 +142,26 @@ fn many_items(rng: &mut Rng, tables: &Tables) -> Vec<u8> {
         };
         line += &format!(" ({row} 7)");
     }
+    cut(line)
+}
+
+/// A comesall of 14 to 40 pairs, as many as there is room for, some of them out of range.
+fn many_pairs(rng: &mut Rng, tables: &Tables) -> Vec<u8> {
+    let mut line = "(comesall".to_string();
+    for _ in 0..rng.between(14, 40) {
+        let row = rng.between(1, tables.next);
+        let request = match rng.below(60) {
+            0 => 0,
+            1 => LAST_NUMBER + 1,
+            _ => rng.between(1, tables.next),
+        };
+        line += &format!(" ({row} {request})");
+    }
+    cut(line)
+}
+
+/// Without what is too long for a line, and ended.
+fn cut(mut line: String) -> Vec<u8> {
     line.truncate(253);
     let whole = line.rfind(" (").unwrap_or(line.len());
     line.truncate(whole);
@@ -238,7 +262,7 @@ pub fn lent_replies(entry: &Entry) {
 /// All conformance cases: what a session prints, what a call answers and leaves.
 pub fn conformance(entry: &Entry) {
     let sessions = conformance_inputs(usize::MAX).expect("the sessions");
-    assert_eq!(sessions.len(), 159);
+    assert_eq!(sessions.len(), 184);
     for (name, input) in sessions {
         let mut lent = (vec![3; TABLES_WORDS], vec![3; PROCESS_WORDS]);
         let mut printed = entry.open(&mut lent, &input);
@@ -254,7 +278,7 @@ pub fn conformance(entry: &Entry) {
         assert!(printed == case_file(&name, "answers"), "{name}");
     }
     let calls = conformance_calls().expect("the tables");
-    assert_eq!(calls.len(), 404);
+    assert_eq!(calls.len(), 444);
     let mut compared = 0;
     for (name, tables, line) in calls {
         let Some(mut lent) = encode(&tables) else {
@@ -266,7 +290,7 @@ pub fn conformance(entry: &Entry) {
         assert!(after.starts_with(&said), "{name}");
         compared += 1;
     }
-    assert_eq!(compared, 396, "tables that fit into words");
+    assert_eq!(compared, 436, "tables that fit into words");
 }
 
 /// The file beside a case with that ending.

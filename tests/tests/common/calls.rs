@@ -6,11 +6,14 @@ use super::performed::{Made, Pair, Perform, UNSAID};
 use super::refused::Refused;
 use super::tried::calls;
 use super::words;
-use kernel::call_words::{call_words, said, ASK, CHAIN, CHAINED, COMES, TOLD};
+use kernel::call_words::{
+    call_words, said, CallWords, ASK, CALL_WORDS, CHAIN, CHAINED, COMES, COMES_ALL, NO, NOT_TOLD,
+    TOLD, TOLD_ALL,
+};
 use kernel::fuller::{with_deep_rows, with_numbers_left, with_requests, with_rows};
 use model::call::{Call, Word};
 use model::compare::full;
-use model::limits::{LAST_NUMBER, REQUESTS, ROWS};
+use model::limits::{LAST_NUMBER, PAIRS, REQUESTS, ROWS};
 use model::random::alter::alter_gently;
 use model::random::shifted::near_limit;
 use model::random::{lines, openings, sound_state, Calls, Profile, Rng, SMALL};
@@ -202,7 +205,7 @@ pub fn others_stay(made: Perform) {
     let tables = full::with_requests(3);
     let lent = words(&tables);
     let call = call_words(&one(Word::Hold, 1)).expect("a call");
-    let asked = |t: usize, p: usize, call: [u32; 11]| {
+    let asked = |t: usize, p: usize, call: CallWords| {
         let mut after = lent.clone();
         after.0.resize(t, 0);
         after.1.resize(p, 0);
@@ -231,22 +234,25 @@ pub fn others_stay(made: Perform) {
     assert_eq!(ASK, 6);
 }
 
-/// comes and chain have no caller, and every code above chain is its own. Nothing changes.
+/// comes, chain and comesall have no caller, and every code above comesall is its own. Nothing
+/// changes.
 pub fn codes_without_caller(made: Perform) {
     let tables = full::with_requests(3);
     let lent = words(&tables);
     let request = tables.requests[0].number;
-    let chain = said(CHAINED, [1, 2, 3]);
+    let told = said(TOLD_ALL, [NO, NOT_TOLD]);
     for (code, expected) in [
         (COMES, said(TOLD, [0])),
-        (CHAIN, chain),
-        (CHAIN + 1, chain),
-        (u32::MAX, chain),
+        (CHAIN, said(CHAINED, [1, 2, 3])),
+        (COMES_ALL, told),
+        (COMES_ALL + 1, told),
+        (u32::MAX, told),
     ] {
         let mut after = lent.clone();
         let mut answer = UNSAID;
-        let mut call = [0; 11];
+        let mut call = [0; CALL_WORDS];
         call[..3].copy_from_slice(&[code, 3, request]);
+        call[1 + PAIRS] = request;
         made(&mut after.0, &mut after.1, &call, &mut answer);
         assert_eq!(answer, expected, "code {code}");
         assert!(after == lent, "code {code}");

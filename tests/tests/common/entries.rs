@@ -3,7 +3,8 @@
 
 use super::performed::{about, Asked, Made};
 use super::Lent;
-use kernel::entry::{Point, REPLY_BYTES};
+use kernel::entry::{self, Point, REPLY_BYTES};
+use kernel::plain;
 use model::words::{call_entry, open_entry};
 use model::Answer;
 use std::cell::RefCell;
@@ -20,6 +21,32 @@ pub struct Entry {
     pub open: Point,
     pub call: Point,
     pub seen: RefCell<Replies>,
+}
+
+/// The proved entry points, and those in plain Rust.
+pub fn entries() -> [Entry; 2] {
+    let plainly = Entry::new(plain::entry::open, plain::entry::call);
+    [Entry::new(entry::open, entry::call), plainly]
+}
+
+/// Every entry point answers the line so, and no word changes.
+pub fn answer(entries: &[Entry], lent: &Lent, line: &[u8], expected: &[u8]) {
+    for entry in entries {
+        let mut after = lent.clone();
+        let reply = entry.call(&mut after, line);
+        assert_eq!(shown(&reply), shown(expected), "{}", shown(line));
+        assert!(after == *lent, "words changed by {}", shown(line));
+    }
+}
+
+/// Every entry point and the model refuse lines with that number; no word changes.
+pub fn refuse(lent: &Lent, refusal: u32, lines: &[&str]) {
+    let expected = format!("(no {refusal})\n");
+    for line in lines {
+        let line = format!("{line}\n");
+        answer(&entries(), lent, line.as_bytes(), expected.as_bytes());
+        entries()[0].calls_as_model(lent, line.as_bytes());
+    }
 }
 
 impl Entry {
@@ -94,7 +121,7 @@ fn agree(ours: Said, models: Said, bytes: &[u8]) {
     );
 }
 
-fn shown(bytes: &[u8]) -> String {
+pub fn shown(bytes: &[u8]) -> String {
     String::from_utf8_lossy(bytes).into_owned()
 }
 

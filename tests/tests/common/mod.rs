@@ -15,8 +15,10 @@ pub mod tried;
 
 use model::compare::full::{with_requests, with_rows};
 use model::limits::{REQUESTS, ROWS};
+use model::random::aimed::{aimed, AIMS};
+use model::random::alter::{alter, alter_gently};
 use model::random::shifted::near_limit;
-use model::random::{self, Profile, PROFILES};
+use model::random::{self, sound_state, Profile, Rng, PROFILES};
 use model::words::encode;
 use model::{sound, Tables};
 
@@ -38,6 +40,20 @@ pub fn at_the_end(sessions: u64, calls: usize) -> impl Iterator<Item = Tables> {
     let lefts = (0..4).cycle();
     let all = small(sessions, calls).zip(lefts);
     all.map(|(tables, left)| near_limit(&tables, left))
+}
+
+/// Sound tables that no session made, with what is changed in them, aimed at each clause or not, and
+/// still sound; and the words of what is not.
+pub fn altered(rng: &mut Rng) -> (Vec<Tables>, Vec<(Tables, Lent)>) {
+    let tables = sound_state(rng);
+    let mut others = vec![alter(rng, &tables), alter_gently(rng, &tables)];
+    others.extend(AIMS.iter().filter_map(|(c, _)| aimed(rng, &tables, c)));
+    let fitting = others
+        .into_iter()
+        .filter_map(|other| encode(&other).map(|lent| (other, lent)));
+    let (still, broken): (Vec<_>, Vec<_>) = fitting.partition(|(other, _)| sound(other));
+    let still = still.into_iter().map(|(other, _)| other);
+    ([tables].into_iter().chain(still).collect(), broken)
 }
 
 /// Tables with 1,024 rows and no request, tables with 128 requests, and three

@@ -3,7 +3,7 @@
 
 use super::refused::Refused;
 use super::{words, Lent};
-use kernel::call_words::{answer_words, call_words, AnswerWords, CallWords};
+use kernel::call_words::{answer_words, call_words, AnswerWords, CallWords, ANSWER_WORDS};
 use model::call::{read_call, Call};
 use model::effects::perform;
 use model::refusals::refusal;
@@ -28,7 +28,7 @@ pub struct Asked<'a> {
 }
 
 /// What stands in the words of an answer before the call.
-pub const UNSAID: AnswerWords = [9; 13];
+pub const UNSAID: AnswerWords = [9; ANSWER_WORDS];
 
 /// A call in words, in place.
 pub type Perform = fn(&mut [u32], &mut [u32], &CallWords, &mut AnswerWords);
@@ -103,15 +103,26 @@ impl Pair {
         after
     }
 
+    /// The line read, and the call made on both; one that is too long is a bad form.
+    fn answered(
+        &self,
+        made: &dyn Made,
+        line: &[u8],
+        seen: &mut Refused,
+        lent: &mut Lent,
+    ) -> Option<Pair> {
+        if let Some(call) = read_call(line) {
+            return self.compare(made, &call, line, seen, lent);
+        }
+        made.bad_form(line, lent);
+        assert!(*lent == self.lent, "words changed by a bad form");
+        None
+    }
+
     /// One line after the others.
     pub fn line(&mut self, made: &dyn Made, line: &[u8], seen: &mut Refused) {
         let mut lent = self.lent.clone();
-        let Some(call) = read_call(line) else {
-            made.bad_form(line, &mut lent);
-            assert!(lent == self.lent, "words changed by a bad form");
-            return;
-        };
-        if let Some(after) = self.compare(made, &call, line, seen, &mut lent) {
+        if let Some(after) = self.answered(made, line, seen, &mut lent) {
             *self = after;
         }
     }
@@ -120,7 +131,7 @@ impl Pair {
     pub fn each(&self, made: &dyn Made, calls: &[Call], seen: &mut Refused) {
         let mut lent = self.lent.clone();
         for call in calls {
-            let accepted = self.compare(made, call, &call.print(), seen, &mut lent);
+            let accepted = self.answered(made, &call.print(), seen, &mut lent);
             if accepted.is_some() {
                 lent.0.copy_from_slice(&self.lent.0);
                 lent.1.copy_from_slice(&self.lent.1);

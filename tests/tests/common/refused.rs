@@ -8,7 +8,7 @@ use std::io::Write;
 /// The refusals 7 to 18 that each call has on sound tables (docs/MANUAL.md,
 /// chapter 4), by the name under which it is counted. A register has no 15:
 /// the row itself is at least as deep (rule register-15).
-const HAS: [(&str, &[usize]); 13] = [
+const HAS: [(&str, &[usize]); 14] = [
     ("go", &[7, 8]),
     ("hold", &[7, 9, 12, 15, 16, 18]),
     ("register", &[7, 8, 9, 12, 16, 18]),
@@ -22,6 +22,7 @@ const HAS: [(&str, &[usize]); 13] = [
     ("revoke", &[7]),
     ("comes", &[7]),
     ("chain", &[7]),
+    ("comesall", &[]),
 ];
 
 const FIRST: usize = 7;

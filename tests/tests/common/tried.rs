@@ -1,8 +1,9 @@
 //! Calls to try on tables: every word with every number, answer with 0 and with 1, asks with many
 //! lists.
 
-use model::call::{Call, Item, Word, WORDS};
-use model::limits::{ALL_RIGHTS, ITEMS, LAST_NUMBER, PROCESSES};
+use model::call::{Call, Item, Pair, Word, WORDS};
+use model::limits::{ALL_RIGHTS, ITEMS, LAST_NUMBER, LINE_BYTES, PAIRS, PROCESSES};
+use model::random::pairs::comesall;
 use model::random::Rng;
 use model::tables::{Kind, Place, Row};
 use model::Tables;
@@ -11,7 +12,7 @@ use model::Tables;
 const NUMBERS: usize = 60;
 
 /// Every word with the numbers of rows and requests and some others, by the
-/// process that the call fits or by another; and answers, asks, comes and chains.
+/// process that the call fits or by another; and answers, asks, comes, chains and comesalls.
 pub fn calls(rng: &mut Rng, tables: &Tables) -> Vec<Call> {
     let mut rows: Vec<&Row> = tables.rows.iter().collect();
     rng.shuffle(&mut rows);
@@ -46,6 +47,14 @@ pub fn calls(rng: &mut Rng, tables: &Tables) -> Vec<Call> {
             request,
         });
         calls.push(Call::Chain { row: *number });
+        calls.push(with_pair(
+            rng,
+            tables,
+            Pair {
+                row: *number,
+                request,
+            },
+        ));
         calls.push(ask(rng, tables, *number));
     }
     for process in listed(tables) {
@@ -97,6 +106,23 @@ fn in_node_of(rng: &mut Rng, tables: &Tables, row: &Row) -> Option<u32> {
         .into_iter()
         .filter(|p| active(p) == Some(row.place));
     rng.pick(&there.collect::<Vec<_>>())
+}
+
+/// A comesall with that pair among others, as many as there is room for.
+fn with_pair(rng: &mut Rng, tables: &Tables, pair: Pair) -> Call {
+    let mut pairs = comesall(rng, tables, false).pairs().to_vec();
+    pairs.push(pair);
+    while pairs.len() > PAIRS || print(&pairs).len() > LINE_BYTES + 1 {
+        pairs.remove(0);
+    }
+    let turn = rng.below(pairs.len());
+    pairs.rotate_left(turn);
+    Call::ComesAll { pairs }
+}
+
+fn print(pairs: &[Pair]) -> Vec<u8> {
+    let pairs = pairs.to_vec();
+    Call::ComesAll { pairs }.print()
 }
 
 /// An ask over that row, whatever it is, or over a client end of its holder.

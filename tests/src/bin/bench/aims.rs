@@ -72,7 +72,7 @@ const FULL: fn(usize) -> bool = |rows| rows == 1024;
 const SMALL: fn(usize) -> bool = |rows| (8..=10).contains(&rows);
 const LARGE: fn(usize) -> bool = |rows| rows >= 98;
 
-const AIMS: [Aim; 24] = [
+const AIMS: [Aim; 26] = [
     aim(
         "sound of full tables: at most half of 243,662 instructions",
         Layer::Rows,
@@ -100,7 +100,7 @@ const AIMS: [Aim; 24] = [
     aim(
         "comes: at most 1.2 of plain Rust",
         Layer::Rows,
-        "comes",
+        "comes,",
         ANY,
         Measure::Ratio,
         1.2,
@@ -224,6 +224,22 @@ const AIMS: [Aim; 24] = [
         LARGE,
         Measure::Ratio,
         1.0,
+    ),
+    aim(
+        "one pass for sixteen pairs: at most 1.2 of plain Rust",
+        Layer::Pairs,
+        "one pass",
+        ANY,
+        Measure::Ratio,
+        1.2,
+    ),
+    aim(
+        "comesall of sixteen pairs, whole or not: at most 1.2 of plain Rust",
+        Layer::Pairs,
+        "comesall",
+        ANY,
+        Measure::Ratio,
+        1.2,
     ),
     aim(
         "an opening: at most 1.2 of plain Rust",

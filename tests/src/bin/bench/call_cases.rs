@@ -93,11 +93,16 @@ const LINE: Start = Start {
     ],
 };
 
-/// The call's name, answer's with its last number, chain's with the depth of its row, the start, the
-/// line, its refusal or 0, and the rows that it adds.
+/// The call's name, answer's with its last number, chain's with the depth of its row, comesall's with
+/// how many pairs it has, the start, the line, its refusal or 0, and the rows that it adds.
 type Measured = (&'static str, &'static Start, &'static str, u32, usize);
 
-const CASES: [Measured; 27] = [
+/// One pair more than there may be.
+const CROWDED: &str =
+    "(comesall (1 9) (2 9) (3 9) (4 9) (5 9) (6 9) (7 9) (8 9) (9 9) (10 9) (11 9) \
+    (1 9) (2 9) (3 9) (4 9) (5 9) (6 9))";
+
+const CASES: [Measured; 29] = [
     ("go", &DIRECTORIES, "(1 go 5)", 0, 0),
     ("go", &DIRECTORIES, "(1 go 4)", 8, 0),
     ("hold", &IN_NODE, "(1 hold 3)", 0, 1),
@@ -125,6 +130,8 @@ const CASES: [Measured; 27] = [
     ("chain, depth 12", &LINE, "(chain 23)", 0, 0),
     ("chain, depth 1", &FETCHED, "(chain 1)", 0, 0),
     ("chain", &FETCHED, "(chain 9)", 7, 0),
+    ("comesall, 1 pair", &FETCHED, "(comesall (10 9))", 0, 0),
+    ("comesall, 17 pairs", &FETCHED, CROWDED, 6, 0),
 ];
 
 /// All cases at so many rows, but those that begin with more.

@@ -15,6 +15,7 @@ mod growth;
 mod measure;
 mod on_runs;
 mod operations;
+mod pairs;
 mod parts;
 mod program;
 mod removals;
@@ -40,6 +41,9 @@ fn operations(by: &mut dyn Measured) {
     closings::on_closings(by, close);
     calls::on_calls(by);
     whole::on_whole_calls(by);
+    for rows in SIZES {
+        pairs::on_tables(&tables::tables(rows), by);
+    }
 }
 
 fn main() {

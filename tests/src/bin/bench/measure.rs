@@ -22,17 +22,22 @@ pub enum Layer {
     Closing,
     Calls,
     Whole,
+    Pairs,
     Opening,
     Growth,
     Parts,
 }
 
 /// Those with a table of operations; the parts of a call have another.
-pub const LAYERS: [(Layer, &str); 6] = [
+pub const LAYERS: [(Layer, &str); 7] = [
     (Layer::Rows, "Rows: soundness, look-ups, questions, removal"),
     (Layer::Closing, "Closing"),
     (Layer::Calls, "Calls on sound tables"),
     (Layer::Whole, "Whole calls, bytes to bytes"),
+    (
+        Layer::Pairs,
+        "Sixteen pairs: comesall, and comes of each of them",
+    ),
     (Layer::Opening, "Openings"),
     (
         Layer::Growth,

@@ -9,7 +9,7 @@ use kernel::{changing, plain, reading};
 use std::hint::black_box as hidden;
 
 /// Two closures, a call each.
-struct Reads<A, B>(A, B);
+pub struct Reads<A, B>(pub A, pub B);
 
 impl<R, A: Fn() -> R, B: Fn() -> R> Operation for Reads<A, B> {
     fn proved(&mut self, calls: usize) {

@@ -3,6 +3,7 @@
 use crate::count::Counts;
 use crate::growth;
 use crate::measure::{Layer, LAYERS};
+use crate::pairs;
 use crate::timed::Line;
 
 /// An operation with its counts, if there are any.
@@ -42,9 +43,11 @@ pub fn tables(results: &[Result]) -> String {
             text += &row(result);
         }
         text += "\n";
-        if layer == Layer::Growth {
-            text += &growth::sentences(results);
-        }
+        text += &match layer {
+            Layer::Pairs => pairs::beside_each(results),
+            Layer::Growth => growth::sentences(results),
+            _ => String::new(),
+        };
     }
     text
 }

@@ -11,8 +11,9 @@ use model::words::encode;
 /// 10, 100 and 1,024 rows; the last tables are full.
 pub const SIZES: [usize; 3] = [10, 100, 1024];
 
-/// Sound tables as words, with the slots that the questions ask about.
+/// Sound tables, also as words, with the slots that the questions ask about.
 pub struct Benched {
+    pub tables: Tables,
     pub words: Vec<u32>,
     pub processes: Vec<u32>,
     pub rows: usize,
@@ -51,16 +52,18 @@ pub fn tables(rows: usize) -> Benched {
     let listed = |r: &Row| tables.requests.iter().any(|q| q.lists(r.number));
     let mut slots = tables.rows.iter();
     let end = slots.position(|r| r.kind == Kind::Client && !listed(r));
+    let end = end.expect("an end that is not on loan");
     let (words, processes) = encode(&tables).expect("they fit");
     Benched {
-        words,
-        processes,
         rows,
         requests: tables.requests.len(),
+        tables,
+        words,
+        processes,
         first: 0,
         line,
         loan,
-        end: end.expect("an end that is not on loan"),
+        end,
     }
 }
 

@@ -12,15 +12,15 @@ use model::session::open;
 use std::hint::black_box as hidden;
 
 /// The bytes of both runs, each of which decides whether the tables are sound.
-const RUNS: usize = 4 * (TABLES_WORDS + PROCESS_WORDS);
+pub const RUNS: usize = 4 * (TABLES_WORDS + PROCESS_WORDS);
 
 /// The calls whose parts are told.
 const PARTS: [&str; 5] = ["hold", "ask", "answer 1", "comes", "chain, depth 12"];
 
 /// The reply of an entry point, with its length.
-type Reply = ([u8; REPLY_BYTES], usize);
+pub type Reply = ([u8; REPLY_BYTES], usize);
 
-fn replied(point: Point, t: &mut [u32], p: &mut [u32], bytes: &[u8]) -> Reply {
+pub fn replied(point: Point, t: &mut [u32], p: &mut [u32], bytes: &[u8]) -> Reply {
     let mut reply = [0; REPLY_BYTES];
     let length = point(t, p, hidden(bytes), &mut reply);
     (reply, length)
@@ -58,7 +58,7 @@ fn grown(by: &mut dyn Measured, rows: usize, requests: usize) {
 }
 
 /// The call of a line on the tables of a case.
-fn called(by: &mut dyn Measured, layer: Layer, case: &Case, line: &str) {
+pub fn called(by: &mut dyn Measured, layer: Layer, case: &Case, line: &str) {
     let on = On {
         layer,
         name: case.name.clone(),
@@ -103,7 +103,7 @@ fn largest_text() -> Vec<u8> {
 /// What the parts of a call are told from: soundness alone; an empty line,
 /// which is refused before it is read; the line with a caller that is not
 /// listed, which is read and refused; and the whole call.
-fn parts(by: &mut dyn Measured, case: &Case) {
+pub fn parts(by: &mut dyn Measured, case: &Case) {
     let on = On {
         layer: Layer::Parts,
         name: case.name.clone(),
@@ -122,12 +122,13 @@ fn parts(by: &mut dyn Measured, case: &Case) {
 }
 
 /// The line with process 64 for its caller; comes and chain have none, so their row is one that does
-/// not stand.
+/// not stand, and comesall's first is 0.
 fn unlisted(case: &Case) -> String {
-    for word in ["(comes ", "(chain "] {
-        if let Some(numbers) = case.line.strip_prefix(word) {
+    let none = case.tables.next;
+    for (start, row) in [("(comes ", none), ("(chain ", none), ("(comesall (", 0)] {
+        if let Some(numbers) = case.line.strip_prefix(start) {
             let rest = numbers.trim_start_matches(|c: char| c.is_ascii_digit());
-            return format!("{word}{}{rest}", case.tables.next);
+            return format!("{start}{row}{rest}");
         }
     }
     format!("(64{}", &case.line[2..])

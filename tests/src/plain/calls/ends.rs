@@ -1,13 +1,15 @@
-//! The end of a loan: answer, revoke; and the questions comes and chain.
+//! The end of a loan: answer, revoke; and the questions comes, chain and comesall.
 
 use super::questions;
 use super::state::State;
-use super::{Answer, Outcome};
-use crate::call_words::LONGEST_CHAIN;
+use super::{Answer, Outcome, Pair};
+use crate::call_words::{LONGEST_CHAIN, NO, NOT_TOLD, YES};
 use crate::layout::{
-    C_LIST, ITEMS, KIND, OBJECT, PLACE, Q_ASKER, Q_FETCHED, Q_ITEMS, Q_NUMBER, REQUESTS, SERVER,
+    C_LIST, ITEMS, KIND, OBJECT, PAIRS, PLACE, Q_ASKER, Q_FETCHED, Q_ITEMS, Q_NUMBER, REQUESTS,
+    ROWS, SERVER,
 };
 use crate::plain::closing::close_request;
+use crate::PairMarks;
 
 impl State<'_> {
     /// The request open on the port of a server end of the caller, or 7, 8, 11.
@@ -84,5 +86,26 @@ impl State<'_> {
         let mut rows = [0; LONGEST_CHAIN];
         questions::chain_of(self.t, slot, &mut rows);
         Ok(Answer::Chained(rows))
+    }
+
+    pub fn comes_all(&self, pairs: &[Pair; PAIRS]) -> Outcome {
+        let requests = pairs.map(|pair| pair.request);
+        let mut marks = [0; ROWS + 1];
+        questions::mark_rows(self.t, self.rows, &requests, &mut marks);
+        let told = std::array::from_fn(|k| self.told(&marks, k, pairs[k]));
+        Ok(Answer::ToldAll(told))
+    }
+
+    /// What is told of pair k by the marks of the rows; 0 where there is none.
+    fn told(&self, marks: &PairMarks, k: usize, pair: Pair) -> u32 {
+        if pair.row == 0 {
+            return 0;
+        }
+        let request = self.find_request(pair.request);
+        match (self.find(pair.row), request) {
+            (Some(slot), Some(_)) if marks[slot + 1] >> k & 1 == 1 => YES,
+            (Some(_), Some(_)) => NO,
+            _ => NOT_TOLD,
+        }
     }
 }

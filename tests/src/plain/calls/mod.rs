@@ -1,4 +1,4 @@
-//! The twelve calls in plain Rust, in place over the words of sound tables.
+//! The thirteen calls in plain Rust, in place over the words of sound tables.
 
 mod directories;
 mod ends;
@@ -8,9 +8,10 @@ mod state;
 
 use super::questions;
 use crate::call_words::{
-    said, AnswerWords, CallWords, CHAINED, COMES, DONE, FETCHED, LONGEST_CHAIN, MADE, REFUSED, TOLD,
+    said, AnswerWords, CallWords, CHAIN, CHAINED, COMES, DONE, FETCHED, LONGEST_CHAIN, MADE,
+    REFUSED, TOLD, TOLD_ALL,
 };
-use crate::layout::{ITEMS, PROCESS_WORDS, TABLES_WORDS};
+use crate::layout::{ITEMS, PAIRS, PROCESS_WORDS, TABLES_WORDS};
 use state::State;
 
 /// The lent runs, of the right lengths.
@@ -24,8 +25,15 @@ pub struct Item {
     pub rights: u32,
 }
 
+/// A pair of a comesall; row 0 is none.
+#[derive(Clone, Copy, Default)]
+pub struct Pair {
+    pub row: u32,
+    pub request: u32,
+}
+
 /// A call: the caller, then the number it is about, and of answer whether its last number is 1;
-/// comes and chain have no caller.
+/// comes, chain and comesall have no caller.
 #[derive(Clone, Copy)]
 pub enum Call {
     Go(u32, u32),
@@ -40,6 +48,7 @@ pub enum Call {
     Revoke(u32, u32),
     Comes(u32, u32),
     Chain(u32),
+    ComesAll([Pair; PAIRS]),
 }
 
 pub enum Answer {
@@ -50,6 +59,8 @@ pub enum Answer {
     Told(bool),
     /// The rows of a chain, 0 after them.
     Chained([u32; LONGEST_CHAIN]),
+    /// What is told of each pair, 0 after them.
+    ToldAll([u32; PAIRS]),
 }
 
 /// The answer, or the refusal's number.
@@ -84,6 +95,7 @@ pub fn made(t: &mut Words, p: &mut Records, call: &Call) -> Outcome {
         Call::Revoke(p, q) => state.revoke(p, q),
         Call::Comes(e, q) => state.comes(e, q),
         Call::Chain(e) => state.chain(e),
+        Call::ComesAll(ref pairs) => state.comes_all(pairs),
     }
 }
 
@@ -107,7 +119,14 @@ fn call_of(words: &CallWords) -> Call {
         8 => Call::Answer(p, e, last == 1),
         9 => Call::Revoke(p, e),
         COMES => Call::Comes(p, e),
-        _ => Call::Chain(p),
+        CHAIN => Call::Chain(p),
+        _ => {
+            let pair = |k: usize| Pair {
+                row: words[1 + k],
+                request: words[1 + PAIRS + k],
+            };
+            Call::ComesAll(std::array::from_fn(pair))
+        }
     }
 }
 
@@ -118,6 +137,7 @@ fn answer_words(outcome: &Outcome) -> AnswerWords {
         Ok(Answer::Fetched(request, [a, b, c, d])) => said(FETCHED, [request, a, b, c, d]),
         Ok(Answer::Told(yes)) => said(TOLD, [u32::from(yes)]),
         Ok(Answer::Chained(rows)) => said(CHAINED, rows),
+        Ok(Answer::ToldAll(told)) => said(TOLD_ALL, told),
         Err(refusal) => said(REFUSED, [refusal]),
     }
 }
