@@ -1,4 +1,5 @@
-/* check.c: what tablet.h promises of lengths, short replies, bytes after an answer and the stack, each checked once. */
+/* check.c: what tablet.h promises of lengths, short replies, bytes after an answer, pairs and the stack, each checked
+ * once. */
 #include "tablet.h"
 
 #include <stdio.h>
@@ -89,12 +90,12 @@ static void calls(void) {
 }
 
 /* every call, answer with 1 and with 0, so that the stack of each is seen */
-static void twelve(void) {
+static void thirteen(void) {
     static const char *const lines[] = {
         "(1 hold 1)\n",      "(1 port 2)\n",  "(1 ask 3 (2 7))\n", "(1 fetch 4)\n",    "(1 port 6)\n",
         "(comes 7 5)\n",     "(1 revoke 5)\n", "(1 port 2)\n",      "(1 ask 9)\n",      "(1 fetch 10)\n",
         "(1 answer 10 1)\n", "(1 ask 9)\n",   "(1 answer 10 0)\n", "(1 close 9)\n",    "(1 go 0)\n",
-        "(1 register 2)\n",  "(1 hold 1)\n",  "(1 drop 14)\n",     "(chain 13)\n",
+        "(1 register 2)\n",  "(1 hold 1)\n",  "(1 drop 14)\n",     "(chain 13)\n",     "(comesall (13 5))\n",
     };
     const char *text = "(node 1 (op 1 0 7))\n(process 1 1)\n(open)\n";
     open_text(TABLET_TABLES_WORDS, TABLET_PROCESSES_WORDS, text, 256);
@@ -150,6 +151,49 @@ static void longest(void) {
     check("a chain of no row", answered(call(t, p, "(chain 1)\n", 256), "(no 7)\n") && unchanged());
 }
 
+/* sixteen pairs: the copy that request 100003 lends, twice row 1, which does not come from it, and one in the middle */
+static void sixteen(char *line, const char *middle) {
+    strcpy(line, "(comesall");
+    for (int i = 0; i < TABLET_MOST_PAIRS; i++) {
+        const char *pair = i == 3 || i == 15 ? " (1 100003)" : " (100004 100003)";
+        strcat(line, i == 8 ? middle : pair);
+    }
+    strcat(line, ")\n");
+}
+
+/* the longest line of a comesall and its longest answer, which has a - in the middle; then one digit more */
+static void most_pairs(void) {
+    const size_t t = TABLET_TABLES_WORDS, p = TABLET_PROCESSES_WORDS;
+    char line[TABLET_LINE_BYTES + 32];
+    open_text(t, p, "(node 1 (op 1 0 7))\n(process 1 1)\n(open)\n", 256);
+    tables[t - 1] = 100000; /* the next number */
+    call(t, p, "(1 hold 1)\n", 256);
+    call(t, p, "(1 port 100000)\n", 256);
+    call(t, p, "(1 ask 100001 (100000 7))\n", 256);
+    sixteen(line, " (4294967294 9)");
+    check("sixteen pairs", answered(call(t, p, line, 256), "(ok 1 1 1 0 1 1 1 1 - 1 1 1 1 1 1 0)\n") && unchanged());
+    check("of 255 bytes, answered in 37", strlen(line) == TABLET_LINE_BYTES + 1 && call(t, p, line, 256) == 37);
+    sixteen(line, " (4294967294 10)");
+    check("of 256 bytes", answered(call(t, p, line, 256), "(no 2)\n") && unchanged());
+}
+
+/* pairs of one digit: how many there may be, and which refusal comes first */
+static void pairs(void) {
+    const size_t t = TABLET_TABLES_WORDS, p = TABLET_PROCESSES_WORDS;
+    char line[TABLET_LINE_BYTES + 1] = "(comesall";
+    open_text(t, p, "(node 1 (op 1 0 7))\n(process 1 1)\n(open)\n", 256);
+    check("no pair", answered(call(t, p, "(comesall)\n", 256), "(no 2)\n") && unchanged());
+    check("a caller", answered(call(t, p, "(1 comesall (1 1))\n", 256), "(no 2)\n") && unchanged());
+    check("no request is open", answered(call(t, p, "(comesall (1 1))\n", 256), "(ok -)\n") && unchanged());
+    for (int i = 0; i < TABLET_MOST_PAIRS; i++)
+        strcat(line, " (1 1)");
+    char *end = line + strlen(line);
+    strcpy(end, " (1 1))\n");
+    check("seventeen pairs", answered(call(t, p, line, 256), "(no 6)\n") && unchanged());
+    strcpy(end, " (1 0))\n");
+    check("the last out of range", answered(call(t, p, line, 256), "(no 3)\n") && unchanged());
+}
+
 /* a stack of its own, filled with a pattern, shows how much of it was used */
 static unsigned char stack[4 * TABLET_STACK_BYTES];
 static ucontext_t here, there;
@@ -157,9 +201,11 @@ static ucontext_t here, there;
 static void on_that_stack(void) {
     openings();
     calls();
-    twelve();
+    thirteen();
     last_number();
     longest();
+    most_pairs();
+    pairs();
 }
 
 static size_t stack_used(void) {

@@ -6,11 +6,13 @@
  * Reply. Each function writes its answer, one line with its line feed, to the front of `reply` and returns its length.
  * The bytes after the answer stay as they were; there is no zero byte at its end. Lend TABLET_REPLY_BYTES or more. If
  * `reply_len` is less, 0 is returned and nothing is read or written. The longest answer is that of a chain with twelve
- * numbers of ten digits, 137 bytes.
+ * numbers of ten digits, 137 bytes; that of a comesall has 37 at most.
  *
- * Lines. A call line is (p go e), (p hold s), (p register e), (p drop e), (p port e), (p close c), (p ask c (e r) ..),
- * (p fetch v), (p answer v x) with x 1 for a request served and 0 for one declined, (p revoke q), (comes e q) or
- * (chain e).
+ * Lines. The thirteen calls are (p go e), (p hold s), (p register e), (p drop e), (p port e), (p close c),
+ * (p ask c (e r) ..), (p fetch v), (p answer v x) with x 1 for a request served and 0 for one declined, (p revoke q),
+ * (comes e q), (chain e) and (comesall (e q) ..) with one to TABLET_MOST_PAIRS pairs. A line has at most
+ * TABLET_LINE_BYTES bytes before its line feed: ten pairs always fit, sixteen if their numbers have no more than 181
+ * digits together.
  *
  * Numbers. Rows and requests have numbers from 1 to 4,294,967,294, each given once. A number in a line may have any
  * length: none wraps, and every one above the last is (no 3). When the last is given, what wants another is (no 18).
@@ -45,6 +47,9 @@
 /* a call line has at most so many bytes before its line feed */
 #define TABLET_LINE_BYTES 255
 
+/* a comesall has at most so many pairs */
+#define TABLET_MOST_PAIRS 16
+
 #ifdef __cplusplus
 extern "C" {
 #endif
@@ -55,7 +60,8 @@ size_t tablet_open(uint32_t *tables, size_t tables_len, uint32_t *processes, siz
                    size_t text_len, uint8_t *reply, size_t reply_len);
 
 /* Makes one call. `line` is one call line with its line feed, its last byte. Answers (ok n), n the new number or 0;
- * for fetch (ok q e ..), for comes (ok 1) or (ok 0), for chain (ok n ..); or (no k), k from 1 to 18. */
+ * for fetch (ok q e ..), for comes (ok 1) or (ok 0), for chain (ok n ..), for comesall (ok v ..), one v a pair in the
+ * order of the pairs: what comes answers of it, 1 or 0, or - where comes is (no 7); or (no k), k from 1 to 18. */
 size_t tablet_call(uint32_t *tables, size_t tables_len, uint32_t *processes, size_t processes_len, const uint8_t *line,
                    size_t line_len, uint8_t *reply, size_t reply_len);
 

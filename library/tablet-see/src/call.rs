@@ -33,6 +33,13 @@ pub struct Item {
     pub rights: Number,
 }
 
+/// A pair of a comesall: a row and a request.
+#[derive(Clone, Copy, PartialEq, Eq, Debug)]
+pub struct Pair {
+    pub row: Number,
+    pub request: Number,
+}
+
 /// A call of good form; its numbers may be out of range.
 #[derive(Clone, PartialEq, Eq, Debug)]
 pub enum Call {
@@ -59,57 +66,84 @@ pub enum Call {
     Chain {
         row: Number,
     },
+    ComesAll {
+        pairs: Vec<Pair>,
+    },
 }
 
 /// (rules F1, F2, F3) The call on a line, or where and why it is none.
 pub fn read_call(line: &[u8]) -> Result<Call, BadForm> {
     let parts = read_line(line)?;
     match parts.as_slice() {
-        [Part::Word(word, _), rest @ ..] if word == "comes" => {
-            let [row, request] =
-                numbers(rest, line, "comes wants a row and a request: (comes e q)")?;
-            Ok(Call::Comes { row, request })
-        }
-        [Part::Word(word, _), rest @ ..] if word == "chain" => {
-            let [row] = numbers(rest, line, "chain wants a row: (chain e)")?;
-            Ok(Call::Chain { row })
-        }
-        [Part::Number(caller), Part::Word(word, _), rest @ ..] if word == "ask" => {
-            ask(*caller, rest, line)
-        }
-        [Part::Number(caller), Part::Word(word, _), rest @ ..] if word == "answer" => {
-            let why = "answer wants a server end and 0 or 1: (p answer v x)";
-            let [end, last] = numbers(rest, line, why)?;
-            Ok(Call::Answer {
-                caller: *caller,
-                end,
-                last,
-            })
-        }
-        [Part::Number(caller), Part::Word(word, span), rest @ ..] => {
-            let verb = VERBS.into_iter().find(|(text, _)| text == word);
-            let (_, verb) = verb.ok_or_else(|| no_call(word, *span))?;
-            let why = format!("{word} wants one number: (p {word} n)");
-            let [number] = numbers(rest, line, &why)?;
-            Ok(Call::One {
-                caller: *caller,
-                verb,
-                number,
-            })
-        }
+        [Part::Word(word, span), rest @ ..] => question(word, *span, rest, line),
+        [Part::Number(caller), Part::Word(word, span), rest @ ..] => match word.as_str() {
+            "ask" => ask(*caller, rest, line),
+            "answer" => answer(*caller, rest, line),
+            _ => one(*caller, word, *span, rest, line),
+        },
         parts => Err(no_front(parts, line)),
     }
+}
+
+/// A call without a caller.
+fn question(word: &str, span: Span, parts: &[Part], line: &[u8]) -> Result<Call, BadForm> {
+    match word {
+        "comes" => {
+            let why = "comes wants a row and a request: (comes e q)";
+            let [row, request] = numbers(parts, line, why)?;
+            Ok(Call::Comes { row, request })
+        }
+        "chain" => {
+            let [row] = numbers(parts, line, "chain wants a row: (chain e)")?;
+            Ok(Call::Chain { row })
+        }
+        "comesall" if parts.is_empty() => {
+            let why = "comesall wants one pair or more: (comesall (e q) ..)";
+            Err(misfit(None, line, why))
+        }
+        "comesall" => {
+            let why = "a pair is a row and a request: (e q)";
+            let pairs = parts.iter().map(|part| two_numbers(part, line, why));
+            let pairs = pairs.map(|pair| pair.map(|[row, request]| Pair { row, request }));
+            let pairs = pairs.collect::<Result<_, _>>()?;
+            Ok(Call::ComesAll { pairs })
+        }
+        _ => {
+            let why =
+                "a call begins with the caller's number, only comes, chain and comesall do not";
+            Err(bad(span.from, span.to, "F3", why))
+        }
+    }
+}
+
+/// A call of one number.
+fn one(
+    caller: Number,
+    word: &str,
+    span: Span,
+    parts: &[Part],
+    line: &[u8],
+) -> Result<Call, BadForm> {
+    let verb = VERBS.into_iter().find(|(text, _)| *text == word);
+    let (_, verb) = verb.ok_or_else(|| no_call(word, span))?;
+    let why = format!("{word} wants one number: (p {word} n)");
+    let [number] = numbers(parts, line, &why)?;
+    Ok(Call::One {
+        caller,
+        verb,
+        number,
+    })
+}
+
+fn answer(caller: Number, parts: &[Part], line: &[u8]) -> Result<Call, BadForm> {
+    let why = "answer wants a server end and 0 or 1: (p answer v x)";
+    let [end, last] = numbers(parts, line, why)?;
+    Ok(Call::Answer { caller, end, last })
 }
 
 /// (rule F3) Parts that do not begin with a caller and a word.
 fn no_front(parts: &[Part], line: &[u8]) -> BadForm {
     match parts {
-        [Part::Word(_, span), ..] => bad(
-            span.from,
-            span.to,
-            "F3",
-            "a call begins with the caller's number, only comes and chain do not",
-        ),
         [Part::Form(_, span), ..] | [_, Part::Form(_, span), ..] => bad(
             span.from,
             span.to,
@@ -129,6 +163,7 @@ fn no_call(word: &str, span: Span) -> BadForm {
     let why = match word {
         "comes" => "comes has no caller: (comes e q)".to_string(),
         "chain" => "chain has no caller: (chain e)".to_string(),
+        "comesall" => "comesall has no caller: (comesall (e q) ..)".to_string(),
         _ => format!("'{word}' is no call"),
     };
     bad(span.from, span.to, "F3", why)
@@ -139,27 +174,23 @@ fn ask(caller: Number, parts: &[Part], line: &[u8]) -> Result<Call, BadForm> {
         let why = "ask wants a client end and items: (p ask c (e r) ..)";
         return Err(misfit(parts.first(), line, why));
     };
-    let items = items
-        .iter()
-        .map(|part| item(part, line))
-        .collect::<Result<_, _>>()?;
+    let why = "an item is a row and the rights lent: (e r)";
+    let items = items.iter().map(|part| two_numbers(part, line, why));
+    let items = items.map(|item| item.map(|[row, rights]| Item { row, rights }));
     Ok(Call::Ask {
         caller,
         client: *client,
-        items,
+        items: items.collect::<Result<_, _>>()?,
     })
 }
 
-fn item(part: &Part, line: &[u8]) -> Result<Item, BadForm> {
-    let why = "an item is a row and the rights lent: (e r)";
+/// Two numbers in brackets.
+fn two_numbers(part: &Part, line: &[u8], why: &str) -> Result<[Number; 2], BadForm> {
     let Part::Form(parts, _) = part else {
         return Err(misfit(Some(part), line, why));
     };
     match parts.as_slice() {
-        [Part::Number(row), Part::Number(rights)] => Ok(Item {
-            row: *row,
-            rights: *rights,
-        }),
+        [Part::Number(first), Part::Number(second)] => Ok([*first, *second]),
         _ => Err(misfit(Some(part), line, why)),
     }
 }
@@ -200,13 +231,13 @@ pub fn misfit(part: Option<&Part>, line: &[u8], why: &str) -> BadForm {
 }
 
 impl Call {
-    /// None for `(comes e q)` and `(chain e)`.
+    /// None for `(comes e q)`, `(chain e)` and `(comesall (e q) ..)`.
     pub fn caller(&self) -> Option<Number> {
         match self {
             Call::One { caller, .. } | Call::Ask { caller, .. } | Call::Answer { caller, .. } => {
                 Some(*caller)
             }
-            Call::Comes { .. } | Call::Chain { .. } => None,
+            Call::Comes { .. } | Call::Chain { .. } | Call::ComesAll { .. } => None,
         }
     }
 }

@@ -1,10 +1,11 @@
 //! Why a call line is refused: the lowest refusal that applies, its rule, and what stands in the way. It is read from
 //! the state by this program alone; the kernel's answer is not asked.
 
-use crate::call::{read_call, Call, Item, Verb};
+use crate::call::{read_call, Call, Item, Pair, Verb};
 use crate::form::{Number, Span};
+use crate::session::Gone;
 use crate::{grounds_ask, grounds_one};
-use tablet::layout::LAST_NUMBER;
+use tablet::layout::{ITEMS, LAST_NUMBER, MOST_PAIRS};
 use tablet::State;
 
 /// The ground of a refusal.
@@ -24,7 +25,15 @@ pub struct Ground {
 
 const LAST_PROCESS: u32 = 64;
 const ALL_RIGHTS: u32 = 7;
-const ITEMS: usize = 4;
+
+impl Ground {
+    /// `rule ask-7a: no row 9 stands: it has gone, by call 6`
+    pub fn told(&self, gone: &Gone) -> String {
+        let by = gone.get(&self.subject).filter(|_| self.number == 7);
+        let by = by.map_or(String::new(), |call| format!(", by call {call}"));
+        format!("rule {}: {}{by}", self.rule, self.text)
+    }
+}
 
 /// A ground of the state, 7 to 18.
 pub fn of_state(number: u32, rule: &'static str, subject: u32, text: String) -> Option<Ground> {
@@ -69,45 +78,39 @@ pub fn ground(state: &State, line: &[u8]) -> Option<Ground> {
 
 /// (rule F4) A number out of its range.
 fn out_of_range(call: &Call) -> Option<Ground> {
-    let caller = |p: Number| range(p, "the caller", 1, LAST_PROCESS);
-    let number = |n: Number, what| range(n, what, 1, LAST_NUMBER);
-    match call {
+    let caller = |p| range(p, "the caller", 1, LAST_PROCESS);
+    let number = |n: Number, what: &str| range(n, what, 1, LAST_NUMBER);
+    call.caller().and_then(caller).or_else(|| match call {
         Call::One {
-            caller: p,
-            verb,
-            number: n,
-        } => {
-            let (what, least) = match verb {
-                Verb::Go => ("a row (or 0)", 0),
-                Verb::Revoke => ("a request", 1),
-                _ => ("a row", 1),
-            };
-            caller(*p).or_else(|| range(*n, what, least, LAST_NUMBER))
-        }
-        Call::Ask {
-            caller: p,
-            client,
-            items,
-        } => {
+            verb, number: n, ..
+        } => match verb {
+            Verb::Go => range(*n, "a row (or 0)", 0, LAST_NUMBER),
+            Verb::Revoke => number(*n, "a request"),
+            _ => number(*n, "a row"),
+        },
+        Call::Ask { client, items, .. } => {
             let item = |i: &Item| {
                 let row = number(i.row, "an item's row");
                 row.or_else(|| range(i.rights, "an item's rights", 0, ALL_RIGHTS))
             };
-            let client = caller(*p).or_else(|| number(*client, "a client end"));
-            client.or_else(|| items.iter().find_map(item))
+            number(*client, "a client end").or_else(|| items.iter().find_map(item))
         }
-        Call::Answer {
-            caller: p,
-            end,
-            last,
-        } => caller(*p)
-            .or_else(|| number(*end, "a row"))
-            .or_else(|| range(*last, "the last number of answer", 0, 1)),
+        Call::Answer { end, last, .. } => {
+            let last = || range(*last, "the last number of answer", 0, 1);
+            number(*end, "a row").or_else(last)
+        }
         Call::Comes { row, request } => {
             number(*row, "a row").or_else(|| number(*request, "a request"))
         }
         Call::Chain { row } => number(*row, "a row"),
-    }
+        Call::ComesAll { pairs } => {
+            let pair = |(pair, at): (&Pair, u32)| {
+                let row = number(pair.row, &format!("the row of pair {at}"));
+                row.or_else(|| number(pair.request, &format!("the request of pair {at}")))
+            };
+            pairs.iter().zip(1..).find_map(pair)
+        }
+    })
 }
 
 fn range(number: Number, what: &str, least: u32, greatest: u32) -> Option<Ground> {
@@ -149,18 +152,15 @@ fn not_listed(state: &State, call: &Call) -> Option<Ground> {
     of_line(5, "F6", caller, text)
 }
 
-/// (rule F7) More than four items.
+/// (rule F7) More than four items, or more than 16 pairs. The number is the first of what is too much.
 fn too_many(call: &Call) -> Option<Ground> {
-    let Call::Ask { items, .. } = call else {
-        return None;
+    let (first, count, what, most) = match call {
+        Call::Ask { items, .. } => (items.get(ITEMS)?.row, items.len(), "items", ITEMS),
+        Call::ComesAll { pairs } => (pairs.get(MOST_PAIRS)?.row, pairs.len(), "pairs", MOST_PAIRS),
+        _ => return None,
     };
-    let fifth = items.get(ITEMS)?;
-    of_line(
-        6,
-        "F7",
-        fifth.row,
-        format!("{} items, at most {ITEMS} are allowed", items.len()),
-    )
+    let text = format!("{count} {what}, at most {most} are allowed");
+    of_line(6, "F7", first, text)
 }
 
 /// The refusals 7 to 18, chapter 4 of the manual.
@@ -199,5 +199,7 @@ fn in_state(state: &State, call: &Call) -> Option<Ground> {
         }
         Call::Comes { row, request } => grounds_ask::comes(state, row.value, request.value),
         Call::Chain { row } => grounds_one::chain(state, row.value),
+        // a pair of which comes is refused has no value
+        Call::ComesAll { .. } => None,
     }
 }

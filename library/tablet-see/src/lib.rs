@@ -13,6 +13,7 @@ mod json;
 mod list;
 pub mod opening;
 mod page;
+mod questions;
 pub mod relations;
 pub mod run;
 mod session;

@@ -3,7 +3,7 @@
 use crate::call::{read_call, Call};
 use crate::change::{change, Change};
 use crate::ground::ground;
-use crate::relations::Reasons;
+use crate::questions::answered;
 use crate::session::{Gone, Step};
 use crate::wording::*;
 use tablet::{Answer, Kind, Place, Record, Refusal, Request, Row, State};
@@ -15,13 +15,7 @@ pub fn told(step: &Step, gone: &Gone) -> Vec<String> {
             refused(step, *refusal, gone),
             refusal.remedy().trim_end_matches('.').to_string(),
         ],
-        Answer::Ok(numbers) => match read_call(&step.line) {
-            Ok(Call::Comes { row, request }) => {
-                vec![comes(&step.before, row.value, request.value, numbers)]
-            }
-            Ok(Call::Chain { .. }) => chain(&step.before, numbers),
-            _ => accepted(step),
-        },
+        Answer::Ok(values) => answered(step, values, gone).unwrap_or_else(|| accepted(step)),
     };
     lines.iter().map(|line| sentence(line)).collect()
 }
@@ -40,48 +34,13 @@ fn refused(step: &Step, refusal: Refusal, gone: &Gone) -> String {
     let number = refusal.number();
     match ground(&step.before, &step.line) {
         Some(ground) if ground.number == number => {
-            let by = gone.get(&ground.subject).filter(|_| number == 7);
-            let by = by.map_or(String::new(), |call| format!(", by call {call}"));
-            format!(
-                "refusal {number}, rule {}: {}{by}",
-                ground.rule, ground.text
-            )
+            format!("refusal {number}, {}", ground.told(gone))
         }
         _ => format!(
             "refusal {number}: {}",
             refusal.meaning().trim_end_matches('.')
         ),
     }
-}
-
-fn comes(state: &State, row: u32, request: u32, numbers: &[u32]) -> String {
-    let chain = Reasons::comes(state, request).chain(row);
-    match (numbers, chain.as_slice()) {
-        ([1], [_]) => format!("row {row} comes from request {request}: it bears its number"),
-        ([1], [_, sources @ ..]) => {
-            let last = sources.last().copied().unwrap_or_default();
-            let sources = chained(sources);
-            format!("row {row} comes from request {request}: it was made from {sources}, and {last} bears its number")
-        }
-        ([1], _) => format!("row {row} comes from request {request}"),
-        _ => format!("row {row} does not come from request {request}; nothing is changed"),
-    }
-}
-
-/// How each row that was answered came to be.
-fn chain(state: &State, numbers: &[u32]) -> Vec<String> {
-    let rows = numbers.iter().filter_map(|n| state.row(*n));
-    let told = rows.map(|row| {
-        let (at, thing, origin) = (at(row.place), thing(row), origin(state, row));
-        format!("row {}, {at}: {thing}, {origin}", row.number)
-    });
-    told.collect()
-}
-
-/// `row 9, that from row 8`
-fn chained(rows: &[u32]) -> String {
-    let rows: Vec<String> = rows.iter().map(|n| format!("row {n}")).collect();
-    rows.join(", that from ")
 }
 
 /// What a sentence about a change tells of.
@@ -164,15 +123,12 @@ fn fetched(state: &State, q: &Request) -> String {
 
 /// Of the request that the call answered, what the server did with it too.
 fn closed(step: &Step, q: &Request) -> String {
-    let answered = answered(step, q.port).unwrap_or_default();
-    format!(
-        "request {} of process {} on port {} is closed{answered}",
-        q.number, q.asker, q.port
-    )
+    let served = served(step, q.port).unwrap_or_default();
+    format!("{} is closed{served}", request(q))
 }
 
 /// `: process 2 served it`, if the call answered the request on that port.
-fn answered(step: &Step, port: u32) -> Option<String> {
+fn served(step: &Step, port: u32) -> Option<String> {
     let Ok(Call::Answer { caller, end, last }) = read_call(&step.line) else {
         return None;
     };

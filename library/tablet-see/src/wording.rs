@@ -65,6 +65,14 @@ pub fn towards(place: Place) -> String {
     }
 }
 
+/// `request 7 of process 1 on port 5`
+pub fn request(q: &Request) -> String {
+    format!(
+        "request {} of process {} on port {}",
+        q.number, q.asker, q.port
+    )
+}
+
 /// `asked by process 1, fetched`
 pub fn asked(request: &Request) -> String {
     let fetched = if request.fetched == 0 {

@@ -6,7 +6,7 @@ use common::printed;
 use model::random::{session, PROFILES};
 use model::session::Session;
 use model::words::encode;
-use tablet::{Answer, Tables, Words};
+use tablet::{Tables, Words};
 use tablet_see::relations::first_chain;
 
 /// Row 7 is held from row 4 through row 6, and registered as row 8; 12 is a copy of it, 16 a copy of 12.
@@ -46,7 +46,12 @@ fn chains_are_the_kernels_and_the_models() {
             assert_eq!(chain, modelled, "seed {seed}, row {}", row.number);
             longest = longest.max(chain.len());
             let answer = kernel.call(format!("(chain {})\n", row.number));
-            assert_eq!(answer, Answer::Ok(chain), "seed {seed}, row {}", row.number);
+            assert_eq!(
+                answer.numbers(),
+                Some(chain),
+                "seed {seed}, row {}",
+                row.number
+            );
             chains += 1;
         }
     }

@@ -50,6 +50,7 @@ fn candidates(t: &Tables, call: &Call) -> Vec<Candidate> {
         Call::Answer { end, last, .. } => answer(t, *end, *last),
         Call::Comes { row, request } => vec![("comes-7a", *row), ("comes-7b", *request)],
         Call::Chain { row } => vec![("chain-7", *row)],
+        Call::ComesAll { .. } => Vec::new(),
     }
 }
 
@@ -154,6 +155,7 @@ fn holds(t: &Tables, call: &Call, (rule, n): Candidate) -> bool {
         Call::Ask { client, .. } => *client,
         Call::Answer { end, .. } => *end,
         Call::Comes { row, .. } | Call::Chain { row } => *row,
+        Call::ComesAll { .. } => 0,
     };
     let deep = |r: u32| t.row(r).is_some_and(|r| r.depth >= 12);
     let busy = row

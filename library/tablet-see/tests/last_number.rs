@@ -71,7 +71,8 @@ fn ten_digits_are_listed() {
 fn the_end_is_explained() {
     let file = example("explained.words");
     let lines =
-        b"(1 hold 4294967285)\n(1 hold 4294967295)\n(1 hold 42949672950)\n(1 revoke 4294967291)\n";
+        b"(1 hold 4294967285)\n(1 hold 4294967295)\n(1 hold 42949672950)\n(1 revoke 4294967291)\n\
+          (comesall (4294967294 4294967291) (4294967288 4294967295))\n";
     let text = printed(&["explain", "--tables", &file], lines);
     for told in [
         "1: (1 hold 4294967285) -> (no 18)\n    Refusal 18, rule hold-18: 0 numbers are left, and 1 are wanted.\n",
@@ -80,6 +81,8 @@ fn the_end_is_explained() {
         "3: (1 hold 42949672950) -> (no 3)\n           ^^^^^^^^^^^\n",
         "4: (1 revoke 4294967291) -> (ok 0)\n    Request 4294967291 of process 1 on port 4294967289 is closed.\n",
         "row 4294967294 (server end of port 4294967293) go, out of the c-list of process 2.\n",
+        "                                             ^^^^^^^^^^\n    \
+         Refusal 3, rule F4: the range of the request of pair 2 is 1 to 4294967294.\n",
     ] {
         assert!(text.contains(told), "{told} is not in\n{text}");
     }

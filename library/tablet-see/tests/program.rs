@@ -106,7 +106,7 @@ fn explain_tells_whether_a_request_was_served() {
 }
 
 /// A line, the part of it that is underlined, and what is said.
-const WRONG_LINES: [(&str, &str, &str); 15] = [
+const WRONG_LINES: [(&str, &str, &str); 23] = [
     ("(2 reply 4)", "reply", "2, rule F3: 'reply' is no call."),
     ("(2 refuse 4)", "refuse", "2, rule F3: 'refuse' is no call."),
     (
@@ -134,7 +134,7 @@ const WRONG_LINES: [(&str, &str, &str); 15] = [
     (
         "(go 0)",
         "go",
-        "2, rule F3: a call begins with the caller's number, only comes and chain do not.",
+        "2, rule F3: a call begins with the caller's number, only comes, chain and comesall do not.",
     ),
     (
         "(2 chain 4)",
@@ -153,6 +153,30 @@ const WRONG_LINES: [(&str, &str, &str); 15] = [
         "(chain 0)",
         "0",
         "3, rule F4: the range of a row is 1 to 4294967294.",
+    ),
+    (
+        "(2 comesall (4 7))",
+        "comesall",
+        "2, rule F3: comesall has no caller: (comesall (e q) ..).",
+    ),
+    (
+        "(comesall)",
+        ")",
+        "2, rule T5: comesall wants one pair or more: (comesall (e q) ..).",
+    ),
+    (
+        "(comesall 4 7)",
+        "4",
+        "2, rule T5: a pair is a row and a request: (e q).",
+    ),
+    ("(comesall (4 7) 9)", "9", "2, rule T5: a pair is"),
+    ("(comesall (4 7) (9))", "(9)", "2, rule T5: a pair is"),
+    ("(comesall (4 7 9))", "(4 7 9)", "2, rule T5: a pair is"),
+    ("(comesall (4 -))", "-", "2, rule T3: a number has no sign."),
+    (
+        "(comesall (4 7) (5 0))",
+        "0",
+        "3, rule F4: the range of the request of pair 2 is 1 to 4294967294.",
     ),
 ];
 
@@ -203,7 +227,8 @@ fn what_if_changes_nothing_and_tells_what_would() {
     let text = shown(&["what-if", "(comes 9 7)\n", "--after", "5"]);
     assert!(
         text.contains(
-            "Row 9 comes from request 7: it was made from row 8, and 8 bears its number."
+            "Row 9 (client end of port 9) comes from request 7 of process 1 on port 5: \
+             it was made from row 8, and 8 bears its number."
         ),
         "{text}"
     );
@@ -359,10 +384,11 @@ fn well_formed(json: &str) -> bool {
 
 #[test]
 fn no_input_makes_it_panic() {
-    let commands: [&[&str]; 9] = [
+    let commands: [&[&str]; 10] = [
         &["explain"],
         &["what-if", "(1 revoke 9)"],
         &["what-if", "(chain 9)"],
+        &["what-if", "(comesall (9 12) (3 4))"],
         &["draw"],
         &["draw", "--dot", "--row", "3"],
         &["draw", "--request", "12"],
@@ -434,5 +460,5 @@ fn conformance_sessions_are_answered_as_told() {
             sessions += 1;
         }
     }
-    assert!(sessions >= 133, "{sessions} sessions");
+    assert!(sessions >= 184, "{sessions} sessions");
 }

@@ -1,4 +1,4 @@
-//! An answer: accepted with its numbers, or a refusal; and the printed line that it is read from.
+//! An answer: accepted with its values, or a refusal; and the printed line that it is read from.
 
 use crate::refusal::Refusal;
 use std::fmt;
@@ -7,8 +7,10 @@ use std::fmt;
 #[derive(Clone, PartialEq, Eq, Debug)]
 pub enum Answer {
     /// (rule K4) Accepted: the new number, or 0 if none is made; for `fetch` the request's number, then its items; for
-    /// `comes` 1 or 0; for `chain` the rows from one of the text to the row asked about.
-    Ok(Vec<u32>),
+    /// `comes` 1 or 0; for `chain` the rows from one of the text to the row asked about; for `comesall` 1, 0 or, as
+    /// `None`, `-` for each pair.
+    // read from the printed line, which does not say what was called: so one type for the values of all calls
+    Ok(Vec<Option<u32>>),
     /// (rule K5) Refused: nothing was changed.
     No(Refusal),
 }
@@ -29,7 +31,23 @@ impl Answer {
     /// ```
     pub fn number(&self) -> Option<u32> {
         match self {
-            Answer::Ok(numbers) => numbers.first().copied(),
+            Answer::Ok(values) => values.first().copied().flatten(),
+            Answer::No(_) => None,
+        }
+    }
+
+    /// All numbers of an accepted call; none if a value is `-`, which only a `comesall` has.
+    ///
+    /// ```
+    /// # use tablet::Tables;
+    /// let mut tables = Tables::open("(node 1 (op 1 0 7))\n(process 1 1)\n(open)\n").unwrap();
+    /// assert_eq!(tables.call("(chain 1)\n").numbers(), Some(vec![1]));
+    /// assert_eq!(tables.call("(chain 2)\n").numbers(), None);
+    /// assert_eq!(tables.call("(comesall (1 2))\n").numbers(), None);
+    /// ```
+    pub fn numbers(&self) -> Option<Vec<u32>> {
+        match self {
+            Answer::Ok(values) => values.iter().copied().collect(),
             Answer::No(_) => None,
         }
     }
@@ -46,36 +64,48 @@ impl Answer {
     ///
     /// ```
     /// use tablet::Answer;
-    /// assert_eq!(Answer::read(b"(ok 7 8)\n"), Some(Answer::Ok(vec![7, 8])));
+    /// assert_eq!(Answer::read(b"(ok 7 8)\n"), Some(Answer::Ok(vec![Some(7), Some(8)])));
+    /// assert_eq!(Answer::read(b"(ok 1 -)\n"), Some(Answer::Ok(vec![Some(1), None])));
     /// assert_eq!(Answer::read(b"(no 4 2)\n").unwrap().refusal().unwrap().line(), Some(2));
     /// assert_eq!(Answer::read(b"(no 19)\n"), None);
+    /// assert_eq!(Answer::read(b"(no -)\n"), None);
     /// ```
     pub fn read(line: &[u8]) -> Option<Answer> {
         let text = std::str::from_utf8(line).ok()?;
         let mut parts = text.strip_prefix('(')?.strip_suffix(")\n")?.split(' ');
         let word = parts.next()?;
-        let numbers: Vec<u32> = parts.map(|n| n.parse().ok()).collect::<Option<_>>()?;
-        match (word, numbers.as_slice()) {
-            ("ok", [_, ..]) => Some(Answer::Ok(numbers)),
-            ("no", [k]) => Refusal::new(*k, None).map(Answer::No),
-            ("no", [k, line]) => Refusal::new(*k, Some(*line)).map(Answer::No),
+        let values: Vec<Option<u32>> = parts.map(value).collect::<Option<_>>()?;
+        match (word, values.as_slice()) {
+            ("ok", [_, ..]) => Some(Answer::Ok(values)),
+            ("no", [Some(k)]) => Refusal::new(*k, None).map(Answer::No),
+            ("no", [Some(k), Some(line)]) => Refusal::new(*k, Some(*line)).map(Answer::No),
             _ => None,
         }
     }
 }
 
-/// As it is printed, without the line feed: `(ok 7 8)`, `(no 9)`.
+/// A number or `-`; none for any other text.
+fn value(text: &str) -> Option<Option<u32>> {
+    match text {
+        "-" => Some(None),
+        number => number.parse().ok().map(Some),
+    }
+}
+
+/// As it is printed, without the line feed: `(ok 7 8)`, `(ok 1 -)`, `(no 9)`.
 impl fmt::Display for Answer {
     fn fmt(&self, f: &mut fmt::Formatter) -> fmt::Result {
-        match self {
-            Answer::Ok(numbers) => {
-                write!(f, "(ok")?;
-                for number in numbers {
-                    write!(f, " {number}")?;
-                }
-                write!(f, ")")
+        let values = match self {
+            Answer::Ok(values) => values,
+            Answer::No(refusal) => return write!(f, "{refusal}"),
+        };
+        write!(f, "(ok")?;
+        for value in values {
+            match value {
+                Some(number) => write!(f, " {number}")?,
+                None => write!(f, " -")?,
             }
-            Answer::No(refusal) => write!(f, "{refusal}"),
         }
+        write!(f, ")")
     }
 }

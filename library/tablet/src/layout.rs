@@ -10,6 +10,8 @@ pub const PROCESSES_WORDS: usize = 192;
 pub const REPLY_BYTES: usize = 256;
 /// (rule X3) A line has at most so many bytes before its line feed.
 pub const LINE_BYTES: usize = 255;
+/// (rule X15) A `comesall` has at most so many pairs.
+pub const MOST_PAIRS: usize = 16;
 
 /// (rules R5, X9) The last number of a row or a request; the next number is at most one more.
 pub const LAST_NUMBER: u32 = 4_294_967_294;

@@ -4,18 +4,22 @@
 //! docs/MANUAL.md of the repository says what to write and what is answered.
 //!
 //! ```
-//! use tablet::{Answer, Tables};
+//! use tablet::Tables;
 //!
 //! let text = "(node 1 (op 2 5 7))\n(process 1 1)\n(process 2 1)\n(open)\n";
 //! let mut tables = Tables::open(text)?;
 //!
-//! assert_eq!(tables.call("(1 hold 1)\n"), Answer::Ok(vec![2]));
-//! assert_eq!(tables.call("(1 port 2)\n"), Answer::Ok(vec![3]));
+//! assert_eq!(tables.call("(1 hold 1)\n").number(), Some(2));
+//! assert_eq!(tables.call("(1 port 2)\n").number(), Some(3));
 //! assert_eq!(tables.call("(1 ask 3 (2 3))\n").to_string(), "(ok 5)");
 //! assert_eq!(tables.call("(2 fetch 4)\n").to_string(), "(ok 5 6)");
 //!
 //! // how row 6, the copy that was lent, came to be: held from row 1 of the text, then lent
-//! assert_eq!(tables.call("(chain 6)\n"), Answer::Ok(vec![1, 2, 6]));
+//! assert_eq!(tables.call("(chain 6)\n").numbers(), Some(vec![1, 2, 6]));
+//!
+//! // which rows go with request 5, in one line: the copy does, the lender's row stays, no row 7 stands
+//! assert_eq!(tables.comesall(&[(6, 5), (2, 5), (7, 5)])?, [Some(true), Some(false), None]);
+//! assert_eq!(tables.call("(comesall (6 5) (2 5) (7 5))\n").to_string(), "(ok 1 0 -)");
 //!
 //! // a refusal has its number and its meaning
 //! let answer = tables.call("(2 ask 3)\n");

@@ -41,8 +41,8 @@ const MEANINGS: [(&str, &str); 18] = [
         "Add the form that is missing.",
     ),
     (
-        "More than 16 entries or 4 items.",
-        "Use a second node; ask over a second port.",
+        "More than 16 entries, 4 items or 16 pairs.",
+        "Use a second node; ask over a second port; ask of the other pairs in a second line.",
     ),
     (
         "What is named is not the caller's: not in its c-list, not in its active node (hold), not its own open request \

@@ -138,6 +138,34 @@ impl<'a> Tables<'a> {
         Answer::read(reply.line()).expect("the kernel prints an answer")
     }
 
+    /// (rules comesall-ok-1, comesall-ok-2) Whether each row comes from the request beside it, asked in one line; `None`
+    /// where no such row stands or no such request is open. Changes nothing. The kernel refuses with 2 no pair and pairs
+    /// that one line has no room for (of ten digits each it has room for ten), with 3 a number that no row and no request
+    /// can have, with 6 more than [`MOST_PAIRS`](crate::layout::MOST_PAIRS).
+    ///
+    /// ```
+    /// # use tablet::Tables;
+    /// let text = "(node 1 (op 2 5 7))\n(process 1 1)\n(process 2 1)\n(open)\n";
+    /// let mut tables = Tables::open(text)?;
+    /// tables.call("(1 hold 1)\n");
+    /// tables.call("(1 port 2)\n");
+    /// tables.call("(1 ask 3 (2 3))\n"); // request 5, and 6, a copy of row 2
+    /// assert_eq!(tables.comesall(&[(6, 5), (7, 5), (2, 5)])?, [Some(true), None, Some(false)]);
+    ///
+    /// let refused = |no: Result<_, tablet::Refusal>| no.err().map(|no| no.number());
+    /// assert_eq!(refused(tables.comesall(&[])), Some(2));
+    /// assert_eq!(refused(tables.comesall(&[(0, 5)])), Some(3));
+    /// assert_eq!(refused(tables.comesall(&[(6, 5); 17])), Some(6));
+    /// # Ok::<(), tablet::Refusal>(())
+    /// ```
+    pub fn comesall(&mut self, pairs: &[(u32, u32)]) -> Result<Vec<Option<bool>>, Refusal> {
+        let pairs: String = pairs.iter().map(|(e, q)| format!(" ({e} {q})")).collect();
+        match self.call(format!("(comesall{pairs})\n")) {
+            Answer::Ok(values) => Ok(values.iter().map(|v| v.map(|n| n == 1)).collect()),
+            Answer::No(refusal) => Err(refusal),
+        }
+    }
+
     /// The state that the words say, to be read.
     pub fn state(&self) -> State {
         let state = State::read(self.tables.words(), self.processes.words());

@@ -1,12 +1,17 @@
 //! The wrapper beside the independent model: answers, words, states, saved bytes, unsound words.
 
+use model::answer::Answer;
+use model::call::{Call, Pair};
+use model::limits::LAST_NUMBER;
+use model::random::pairs::comesall;
 use model::random::{alter, session, Rng, SMALL};
 use model::relations::first_chain;
-use model::session::Session;
+use model::session::{call_sound, Session};
 use model::tables::Kind as ModelKind;
 use model::words::{decode, encode};
-use tablet::layout::NEXT_AT;
-use tablet::{Answer, Kind, LoadError, Place, State, Tables, Words};
+use std::collections::{BTreeMap, BTreeSet};
+use tablet::layout::{LINE_BYTES, MOST_PAIRS, NEXT_AT};
+use tablet::{Kind, LoadError, Place, State, Tables, Words};
 
 /// The opening text at the front of a session, through the line `(open)`.
 fn opening(input: &[u8]) -> &[u8] {
@@ -70,6 +75,7 @@ fn same(state: &State, tables: &model::Tables) -> bool {
 
 #[test]
 fn sessions_are_answered_as_by_the_model() {
+    let mut comesalls = 0;
     for seed in 0..20 {
         let profile = SMALL[seed % SMALL.len()];
         let input = session(seed as u64, profile, 60);
@@ -84,11 +90,13 @@ fn sessions_are_answered_as_by_the_model() {
                 String::from_utf8_lossy(line)
             );
             assert_eq!(tables.words(), words_of(&model.tables), "seed {seed}");
+            comesalls += usize::from(answer.accepted() && line.starts_with(b"(comesall "));
         }
         assert!(same(&tables.state(), &model.tables), "seed {seed}");
         let again = Tables::load(&tables.save()).expect("sound tables are loaded");
         assert_eq!(again.words(), tables.words());
     }
+    assert!(comesalls >= 20, "{comesalls}");
 }
 
 /// (rules chain-7, chain-ok) Of every row, and of a request's number.
@@ -103,7 +111,12 @@ fn chains_are_those_of_the_model() {
             let chain = first_chain(&tables, row.number);
             longest = longest.max(chain.len());
             let answer = kernel.call(format!("(chain {})\n", row.number));
-            assert_eq!(answer, Answer::Ok(chain), "seed {seed}, row {}", row.number);
+            assert_eq!(
+                answer.numbers(),
+                Some(chain),
+                "seed {seed}, row {}",
+                row.number
+            );
         }
         for request in &tables.requests {
             let answer = kernel.call(format!("(chain {})\n", request.number));
@@ -133,8 +146,69 @@ fn the_longest_answer_is_a_chain() {
         assert_eq!(registered.number(), Some(row + 2));
     }
     let answer = tables.call("(chain 4294967294)\n");
-    assert_eq!(answer, Answer::Ok(chain));
+    assert_eq!(answer.numbers(), Some(chain));
     assert_eq!(format!("{answer}\n").len(), 137);
+}
+
+/// The value of each pair, or the refusal.
+fn told(tables: &mut Tables, pairs: &[(u32, u32)]) -> Result<Vec<Option<bool>>, u32> {
+    tables.comesall(pairs).map_err(|no| no.number())
+}
+
+/// (rules comesall-ok-1, comesall-ok-2, comesall-ok-3, F4, F7) Random pairs, by the method and as a line: the values, or
+/// the refusal; and nothing changes.
+#[test]
+fn comesalls_are_those_of_the_model() {
+    let (mut values, mut refusals) = (BTreeMap::new(), BTreeSet::new());
+    for seed in 0..30 {
+        let tables = model::random::tables(seed, SMALL[seed as usize % SMALL.len()], 80);
+        let words = words_of(&tables);
+        let mut kernel = Tables::from_words(words.clone()).expect("tables of a session");
+        let mut rng = Rng::new(seed);
+        for _ in 0..40 {
+            let call = comesall(&mut rng, &tables, seed % 3 == 0);
+            let (line, pairs) = (call.print(), call.pairs().iter());
+            let answer = call_sound(&mut tables.clone(), &line);
+            let expected = match &answer {
+                Answer::Values(values) => Ok(values.clone()),
+                no => Err(no.refusal().expect("refused")),
+            };
+            let pairs: Vec<(u32, u32)> = pairs.map(|p| (p.row, p.request)).collect();
+            let told = told(&mut kernel, &pairs);
+            assert_eq!(told, expected, "{}", String::from_utf8_lossy(&line));
+            let printed = format!("{}\n", kernel.call(&line)).into_bytes();
+            assert_eq!(printed, answer.print());
+            for value in told.iter().flatten() {
+                *values.entry(*value).or_insert(0) += 1;
+            }
+            refusals.extend(answer.refusal());
+        }
+        assert_eq!(kernel.words(), words, "seed {seed}");
+    }
+    assert!(
+        values.len() == 3 && values.values().all(|n| *n > 100),
+        "{values:?}"
+    );
+    assert_eq!(refusals, BTreeSet::from([2, 3, 6]));
+}
+
+/// (rules K4, T1, X15) The most that a line has room for: 16 pairs in 255 bytes, answered in 37; ten pairs of ten digits.
+#[test]
+fn the_longest_comesall() {
+    let mut tables = Tables::open("(open)\n").expect("opened");
+    let mut pairs = [(100_000, 10_000); MOST_PAIRS];
+    pairs[7] = (1_000_000_000, 100_000);
+    let line = Call::ComesAll {
+        pairs: pairs.map(|(row, request)| Pair { row, request }).to_vec(),
+    };
+    assert_eq!(line.print().len(), LINE_BYTES + 1);
+    assert_eq!(format!("{}\n", tables.call(line.print())).len(), 37);
+    assert_eq!(told(&mut tables, &pairs), Ok(vec![None; MOST_PAIRS]));
+    pairs[7] = (1_000_000_000, 1_000_000);
+    assert_eq!(told(&mut tables, &pairs), Err(2));
+    let last = [(LAST_NUMBER, LAST_NUMBER); 11];
+    assert_eq!(told(&mut tables, &last[1..]), Ok(vec![None; 10]));
+    assert_eq!(told(&mut tables, &last), Err(2));
 }
 
 #[test]
@@ -216,8 +290,9 @@ fn sizes_are_those_of_the_model() {
         limits::REQUESTS,
         limits::ITEMS,
         limits::LINE_BYTES,
+        limits::PAIRS,
     ];
-    assert_eq!([ROWS, REQUESTS, ITEMS, LINE_BYTES], limits);
+    assert_eq!([ROWS, REQUESTS, ITEMS, LINE_BYTES, MOST_PAIRS], limits);
     assert_eq!(PROCESSES, limits::PROCESSES as usize);
     assert_eq!(LAST_NUMBER, limits::LAST_NUMBER);
 }
