@@ -20,7 +20,7 @@ use Rattle.rows.specs.Layout.{requestAt}
 use Rattle.rows.specs.contracts.Sizes.{ROWS, REQUESTS, PROCESSES}
 use Rattle.rows.specs.contracts.Represents.{Represents}
 use Rattle.rows.specs.Setters.{withRequests, withPlace, withItems}
-use Rattle.rows.proofs.Bools.{clash, and-l, and-r, or-false, pos-some, all-mono}
+use Rattle.rows.proofs.Bools.{clash, and-l, and-r, or-false, or-swap, pos-some, all-mono}
 use Rattle.rows.proofs.Keyed.{first-there, keys-map, rises-rest, rises-first}
 use Rattle.tables.proofs.Sound.{Sound, sound-open}
 use Rattle.rows.proofs.Slots.{rises-old, request-of-words, request-words-at}
@@ -77,12 +77,6 @@ module _ (st : State) (s : Sound st) (new : List Request) (v : Request) (old : L
   requests-rise = rises-old (λ v. v .number) new (v ∷ old) (subst (λ (l : List Request). rises (λ v. v .number) l ≡ true) cut (s .numbers .requests-rise))
 
 -- ---- one request, over the older ones
-or-swap : (a b : Bool) → a || b ≡ b || a
-or-swap true true = refl
-or-swap true false = refl
-or-swap false true = refl
-or-swap false false = refl
-
 pub returned-number : (f : Request → Bool) (vs : List Request) (r : Row) → returned f vs r .number ≡ r .number
 returned-number = returned-keeps (λ r. r .number) (λ p r. unfold withPlace in refl)
 

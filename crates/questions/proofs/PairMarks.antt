@@ -21,7 +21,7 @@ use Rattle.rows.specs.Sound.{sound}
 use Rattle.rows.specs.Layout.{rowSlot}
 use Rattle.rows.specs.contracts.Sizes.{SOURCE, VIA, REQUEST}
 use Rattle.rows.specs.contracts.Represents.{Represents}
-use Rattle.rows.proofs.Bools.{or-false, eqb-sym, some-pos}
+use Rattle.rows.proofs.Bools.{and-true, and-false, or-false, or-swap, eqb-sym, some-pos}
 use Rattle.rows.proofs.Slots.{represented-well, row-found, row-none, row-words, source-of, via-of}
 use Rattle.tables.proofs.Sound.{sound-open}
 use Rattle.changes.specs.contracts.Bits.{bit}
@@ -55,18 +55,10 @@ asked-turn qs q k bits room a =
     let more : (j : ℕ) → bit (bitOr bits ((boolByte b * 2 ^ k) % 2 ^ PAIRS)) j ≡ bit bits j || (b && eqb j k) = λ j. bit-with PAIRS bits k j room b in
     record {
       asked = below-more (λ (j : ℕ). bit (bitOr bits ((boolByte b * 2 ^ k) % 2 ^ PAIRS)) j ≡ eqb (getD qs j 0) q) k
-          (λ j h. more j ∙ rw (ne-eqb j k (λ e. omega arith)) (ap (λ (c : Bool). bit bits j || c) (and-no b) ∙ or-false (bit bits j) ∙ a .asked j h))
-          (more k ∙ rw (eq-eqb k k refl, a .clear k (le-refl k)) (and-yes b));
-      clear = λ j h. more j ∙ rw (ne-eqb j k (λ e. omega arith), a .clear j (omega arith)) (and-no b);
+          (λ j h. more j ∙ rw (ne-eqb j k (λ e. omega arith)) (ap (λ (c : Bool). bit bits j || c) (and-false b) ∙ or-false (bit bits j) ∙ a .asked j h))
+          (more k ∙ rw (eq-eqb k k refl, a .clear k (le-refl k)) (and-true b));
+      clear = λ j h. more j ∙ rw (ne-eqb j k (λ e. omega arith), a .clear j (omega arith)) (and-false b);
     }
-  where
-    and-no : (b : Bool) → b && false ≡ false
-    and-no true = refl
-    and-no false = refl
-
-    and-yes : (b : Bool) → b && true ≡ b
-    and-yes true = refl
-    and-yes false = refl
 
 -- ---- the marks of a row
 module _ (t : List ℕ) (i : ℕ) (qs marks : List ℕ) (right : MarksPairs t i qs marks) (st : State) (n : ℕ) (so : sound st ≡ true) (rep : Represents t st) (at : RowAt i n st) where
@@ -112,14 +104,8 @@ module _ (t : List ℕ) (i : ℕ) (qs marks : List ℕ) (right : MarksPairs t i 
     pub by-request : (b : ℕ) → BitsOfAsking qs (getD t (REQUEST + i) 0) b → bit (bitOr (bitOr s v) b) k ≡ comesFrom (st .rows) q n
     by-request b asking =
         bit-or (bitOr s v) b k ∙ ap₂ (λ x y. x || y) from-sources (asking k few ∙ eqb-sym q (getD t (REQUEST + i) 0) ∙ sym bears-word)
-        ∙ turned (comesFrom (st .rows) q (rowOf (st .rows) n .source) || comesFrom (st .rows) q (rowOf (st .rows) n .via)) (bears q (rowOf (st .rows) n))
+        ∙ or-swap (comesFrom (st .rows) q (rowOf (st .rows) n .source) || comesFrom (st .rows) q (rowOf (st .rows) n .via)) (bears q (rowOf (st .rows) n))
         ∙ sym (step q)
-      where
-        turned : (a b : Bool) → a || b ≡ b || a
-        turned true true = refl
-        turned true false = refl
-        turned false true = refl
-        turned false false = refl
 
 -- ---- the pass
 -- no row: nothing comes from a request

@@ -95,6 +95,12 @@ pub or-false : (a : Bool) → a || false ≡ a
 or-false true = refl
 or-false false = refl
 
+pub or-swap : (a b : Bool) → a || b ≡ b || a
+or-swap true true = refl
+or-swap true false = refl
+or-swap false true = refl
+or-swap false false = refl
+
 -- ---- numbers
 pub eqb-sym-f : (m n : ℕ) → eqb m n ≡ false → eqb n m ≡ false
 eqb-sym-f m n e = ne-eqb n m (λ p. eqb-false m n e (sym p))

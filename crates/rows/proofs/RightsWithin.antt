@@ -10,14 +10,10 @@ use lib.Bits.{bitAnd, and-mod}
 use borrow.Author.Tests.{leb-true, le-leb, eqb-true, eq-eqb}
 use Rattle.rows.specs.Codes.{mayHold, mayTransfer, mayRegister, within}
 use Rattle.rows.specs.Sound.{same}
-use Rattle.rows.proofs.Bools.{bool-eq, and-l, and-r}
+use Rattle.rows.proofs.Bools.{bool-eq, and-l, and-r, and-true}
 
 bit : (x : ℕ) → x < 2 → leb 1 x ≡ eqb x 1
 bit x h = bool-eq (leb 1 x) (eqb x 1) (λ e. eq-eqb x 1 (let lo = leb-true 1 x e in omega arith)) (λ e. le-leb 1 x (let one = eqb-true x 1 e in omega arith))
-
-and-true : (b : Bool) → b && true ≡ b
-and-true true = refl
-and-true false = refl
 
 -- ---- bits
 below : (ℕ → Bool) → ℕ → Bool

@@ -28,8 +28,7 @@ ghost use Rattle.text.specs.contracts.Groups.{headOf, JudgesGroups, grou
 
 const MOST_ITEMS: usize = 4;
 
-// the pairs of a comesall at most
-const PAIRS: usize = 16;
+const MOST_PAIRS: usize = 16;
 
 // groups in brackets: more than any line has
 pub const GROUPS: usize = 64;
@@ -284,7 +283,7 @@ fn judge_pairs(g: Groups) -> Reading
     if !g.pairs {
         return Reading::Refused(3);
     }
-    if PAIRS < g.count {
+    if MOST_PAIRS < g.count {
         return Reading::Refused(6);
     }
     Reading::Asks(first_sixteen(g))
