@@ -1,6 +1,8 @@
 // The entry points under the names that C calls: each run and each text as a pointer and a length.
 use crate::calling;
 use crate::opening;
+use page::lines::write_lines;
+use rows::layout::TABLES;
 use text::REPLY;
 use text::Reply;
 ghost use mathlib.Core.Path.{_≡_};
@@ -8,7 +10,7 @@ ghost use Prim.Native.Nat.{_≤_};
 ghost use lib.ListN.{length};
 ghost use Rattle.text.specs.Entry.{openEntry, callEntry};
 ghost use Rattle.text.specs.contracts.Sizes.{REPLY};
-ghost use Rattle.entry.specs.contracts.Entries.{HandsOut, Exports};
+ghost use Rattle.entry.specs.contracts.Entries.{HandsOut, Exports, ExportsLines};
 
 // Writes a reply to the front of the run lent for it, and gives its length; the bytes after it stay.
 fn hand_out(r: Reply, out: &mut [u8]) -> usize
@@ -63,4 +65,17 @@ pub extern "C" fn tablet_call(
     }
     let r = calling::call(tables, processes, line);
     hand_out(r, reply)
+}
+
+// The holders' page from the row at slot `from` on, whatever the tables hold: as many whole lines as `page` has room
+// for. It gives their bytes, 0 where no row is left; in tables of another length no row stands.
+// Ruled out: a part of a line; a page of tables that are one word short.
+#[no_mangle]
+pub extern "C" fn tablet_page(tables: &[u32], from: usize, page: &mut [u8]) -> usize
+    ensures { λ n. ⌜ ExportsLines (now (tables .entry)) from (now (page .entry)) (now (page .exit)) n ⌝ }
+{
+    if tables.len() != TABLES {
+        return 0;
+    }
+    write_lines(tables, from, page)
 }

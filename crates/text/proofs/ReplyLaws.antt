@@ -51,11 +51,11 @@ puts-more o u n t k h room f =
     puts-as (take k t ++ (b ∷ [])) (take (k + 1) t) (sym (rw add-one (take-suc t k 0 h))) (rw there at more)
 
 -- ---- the digits of a number
-decimal-more : (d n : ℕ) → 10 ≤ n → decimal (suc d) n ≡ decimal d (n / 10) ++ ((48 + n % 10) ∷ [])
+pub decimal-more : (d n : ℕ) → 10 ≤ n → decimal (suc d) n ≡ decimal d (n / 10) ++ ((48 + n % 10) ∷ [])
 unfolding decimal
 decimal-more d n h = rw (le-ltb n 10 h)
 
-decimal-one : (d n : ℕ) → n < 10 → decimal (suc d) n ≡ (48 + n % 10) ∷ []
+pub decimal-one : (d n : ℕ) → n < 10 → decimal (suc d) n ≡ (48 + n % 10) ∷ []
 unfolding decimal
 decimal-one d n h = let r : n % 10 ≡ n = omega arith in rw (lt-ltb n 10 h, r) refl
 
@@ -68,7 +68,7 @@ decimal-first (suc d) n none = elim (decLt n 10) [
   | no h ↦ clash (and-i (leb 10 n) (ltb 1 (suc (suc d))) (le-leb 10 n (omega arith)) (lt-ltb 1 (suc (suc d)) (omega arith))) none
 ]
 
-drop-stored : (l : List ℕ) (i x : ℕ) → i < length l → drop i (set l i x) ≡ x ∷ drop (suc i) l
+pub drop-stored : (l : List ℕ) (i x : ℕ) → i < length l → drop i (set l i x) ≡ x ∷ drop (suc i) l
 drop-stored [] i x h = absurd (not-suc-le-zero h)
 drop-stored (y ∷ l) zero x h = refl
 drop-stored (y ∷ l) (suc i) x h = drop-stored l i x (le-of-suc-le-suc h)

@@ -37,8 +37,8 @@ fn put_text(o: &mut [u8; REPLY], at: usize, t: &[u8]) -> usize
 }
 
 // ---- numbers
-// The byte of a number's last digit.
-fn last_digit(n: u64) -> u8
+// The byte of a number's last digit. Ruled out: the first digit; the digit itself for its byte.
+pub fn last_digit(n: u64) -> u8
     ensures { λ r. ⌜ r ≡ 48 + n % 10 ⌝ }
 {
     48 + (n % 10) as u8

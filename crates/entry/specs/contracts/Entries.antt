@@ -7,6 +7,7 @@ use lib.ListN.{length, drop, take}
 use Rattle.rows.specs.Tables.{State}
 use Rattle.rows.specs.Sound.{sound}
 use Rattle.rows.specs.Layout.{recordsIn}
+use Rattle.rows.specs.contracts.Sizes.{IsTables}
 use Rattle.rows.specs.contracts.Represents.{Represents}
 use Rattle.calls.specs.declared.Answer.{Answer}
 use Rattle.calls.specs.declared.Call.{Call}
@@ -18,6 +19,7 @@ use Rattle.text.specs.declared.Reply.{Reply}
 use Rattle.text.specs.Entry.{Replied, callerUnlisted, answered}
 use Rattle.text.specs.contracts.Replies.{inReply}
 use Rattle.text.specs.contracts.Sizes.{REPLY}
+use Rattle.page.specs.contracts.Columns.{WritesLines}
 
 -- ---- on sound tables
 -- the sound tables t with the records p become u with the records v, and r is answered, as f says
@@ -62,3 +64,8 @@ AllStay t p out u v after n = (n ≡ 0) × (after ≡ out) × (u ≡ t) × (v �
 pub record Exports (o : Replied) (t p out u v after : List ℕ) (n : ℕ) : Type 0 where
   pub answered : REPLY ≤ length out → Given o out u v after n
   pub short : length out < REPLY → AllStay t p out u v after n
+
+-- lines of the holders' page of the tables t, from the slot `from` on; none of tables of another length
+pub record ExportsLines (t : List ℕ) (from : ℕ) (out after : List ℕ) (n : ℕ) : Type 0 where
+  pub lines : IsTables t → WritesLines t from out after n
+  pub misfit : (IsTables t → ⊥) → (n ≡ 0) × (after ≡ out)

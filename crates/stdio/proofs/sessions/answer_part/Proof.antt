@@ -1,4 +1,4 @@
--- `answer_part` meets its contract: the session is ready after each piece of the part.
+-- `sessions::answer_part` meets its contract: the session is ready after each piece of the part.
 use borrow.Author.Needs.{needs}
 use Prim.Native.Nat.{_≤_, _-_}
 use native.Mathlib.Omega.{arith}
@@ -6,16 +6,16 @@ use mathlib.Core.Path.{_≡_, _∙_}
 use lib.ListN.{length}
 use borrow.Author.Tests.{ltb-true}
 use Rattle.feed.specs.contracts.Buffers.{Ready}
-use Rattle.tablet.proofs.answer_part.Statement.{statement}
-use Rattle.tablet.proofs.answer_part.Tie as tie
+use Rattle.stdio.proofs.sessions.answer_part.Statement.{statement}
+use Rattle.stdio.proofs.sessions.answer_part.Tie as tie
 
 abbrev Inv-loop : tie.InvT-loop
-Inv-loop tables₀ processes₀ kept₀ part out₀ here₀ at₀ written₀ tables processes kept out here at written =
+Inv-loop tables₀ processes₀ kept₀ part out₀ prints here₀ at₀ written₀ tables processes kept out here at written =
     (at ≤ length part) × Ready here kept tables processes
     × (length tables ≡ length tables₀) × (length processes ≡ length processes₀) × (length kept ≡ length kept₀) × (length out ≡ length out₀)
 
 abbrev μ-loop : tie.MeasureT-loop
-μ-loop tables₀ processes₀ kept₀ part out₀ here₀ at₀ written₀ tables processes kept out here at written = length part - at
+μ-loop tables₀ processes₀ kept₀ part out₀ prints here₀ at₀ written₀ tables processes kept out here at written = length part - at
 
 loop-holds : tie.Need-loop-holds Inv-loop μ-loop
 loop-holds c =
@@ -29,8 +29,8 @@ feed-requires c κs =
     let same = l .inv .5 in
     (l .inv .1, (l .inv .0, omega arith))
 
-write-out-requires : tie.Need-write-out-requires Inv-loop μ-loop
-write-out-requires c κs = c .before .before .before .before .before .before .before .before .before .feed .ensures .1 .1 .1
+print-requires : tie.Need-print-requires Inv-loop μ-loop
+print-requires c κs = c .before .before .before .before .before .before .before .before .before .feed .ensures .1 .1 .1
 
 loop-less : tie.Need-loop-less Inv-loop μ-loop
 loop-less c =
@@ -50,6 +50,9 @@ loop-again c =
 goes-on-requires : tie.Need-goes-on-requires Inv-loop μ-loop
 goes-on-requires c κs = search needs
 
+end-of-requires : tie.Need-end-of-requires Inv-loop μ-loop
+end-of-requires c κs = search needs
+
 same-length : tie.Need-same-length Inv-loop μ-loop
 same-length c = search needs
 
@@ -63,7 +66,7 @@ same-length-4 : tie.Need-same-length-4 Inv-loop μ-loop
 same-length-4 c = search needs
 
 returns : tie.Need-returns Inv-loop μ-loop
-returns c = c .before .before .loop .inv .1
+returns c = c .before .before .before .loop .inv .1
 
 pub answer-part-spec : {M : Type 1} → statement M
-answer-part-spec = tie.close (tie.spec Inv-loop μ-loop loop-holds feed-requires write-out-requires loop-less loop-again goes-on-requires same-length same-length-2 same-length-3 same-length-4 returns)
+answer-part-spec = tie.close (tie.spec Inv-loop μ-loop loop-holds feed-requires print-requires loop-less loop-again goes-on-requires end-of-requires same-length same-length-2 same-length-3 same-length-4 returns)

@@ -1,4 +1,4 @@
--- `session` meets its contract: a turn leaves a session ready, or is the last.
+-- `sessions::run` meets its contract: a turn leaves a session ready, or is the last.
 use borrow.Author.Needs.{needs}
 use native.Mathlib.Omega.{arith}
 use mathlib.Core.Bool.{true}
@@ -6,16 +6,16 @@ use mathlib.Core.Path.{_≡_, _∙_}
 use lib.ListN.{length}
 use borrow.Author.Tests.{ltb-true}
 use Rattle.feed.specs.contracts.Buffers.{Ready}
-use Rattle.tablet.proofs.session.Statement.{statement}
-use Rattle.tablet.proofs.session.Tie as tie
+use Rattle.stdio.proofs.sessions.run.Statement.{statement}
+use Rattle.stdio.proofs.sessions.run.Tie as tie
 
 abbrev Inv-loop : tie.InvT-loop
-Inv-loop tables₀ processes₀ kept₀ part₀ out₀ here₀ going₀ turns₀ tables processes kept part out here going turns =
+Inv-loop tables₀ processes₀ kept₀ part₀ out₀ prints here₀ end₀ going₀ turns₀ tables processes kept part out here end going turns =
     (going ≡ true → Ready here kept tables processes)
     × (length tables ≡ length tables₀) × (length processes ≡ length processes₀) × (length kept ≡ length kept₀) × (length part ≡ length part₀) × (length out ≡ length out₀)
 
 abbrev μ-loop : tie.MeasureT-loop
-μ-loop tables₀ processes₀ kept₀ part₀ out₀ here₀ going₀ turns₀ tables processes kept part out here going turns = turns
+μ-loop tables₀ processes₀ kept₀ part₀ out₀ prints here₀ end₀ going₀ turns₀ tables processes kept part out here end going turns = turns
 
 begin-requires : tie.Need-begin-requires Inv-loop μ-loop
 begin-requires c κs = search needs
@@ -83,5 +83,5 @@ same-length-10 c = search needs
 returns-2 : tie.Need-returns-2 Inv-loop μ-loop
 returns-2 c = search needs
 
-pub session-spec : {M : Type 1} → statement M
-session-spec = tie.close (tie.spec Inv-loop μ-loop begin-requires loop-holds read-once-requires sub-turns loop-less loop-again same-length same-length-2 same-length-3 same-length-4 same-length-5 returns same-length-6 same-length-7 same-length-8 same-length-9 same-length-10 returns-2)
+pub run-spec : {M : Type 1} → statement M
+run-spec = tie.close (tie.spec Inv-loop μ-loop begin-requires loop-holds read-once-requires sub-turns loop-less loop-again same-length same-length-2 same-length-3 same-length-4 same-length-5 returns same-length-6 same-length-7 same-length-8 same-length-9 same-length-10 returns-2)
