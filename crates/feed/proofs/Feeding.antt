@@ -17,7 +17,8 @@ use Rattle.text.specs.Entry.{replyWith, callEntry, openedBy, openEntry}
 use Rattle.feed.specs.declared.Stage.{Stage}
 use Rattle.feed.specs.declared.Stage.the-variants.{Opening, Calls, Over}
 use Rattle.feed.specs.Feeding.{keptOfLine, cut, Session, lineStart, withLine, Step, silent, stageAfter, opened, openingLine, callLine, lineFed, byteFed, finished}
-use Rattle.feed.proofs.Lines.{plain, plain-byte, plain-kept, cut-all, cut-length, line-goes-on, line-ends, KeptLine, line-kept, lines-left}
+use Rattle.text.proofs.Lines.{plain, plain-byte, line-ends}
+use Rattle.feed.proofs.Lines.{plain-kept, cut-all, cut-length, line-goes-on, KeptLine, line-kept, lines-left}
 use Rattle.feed.proofs.Openings.{Waiting, Goes, Stops, withRest, lines-with, line-goes, last-stops, bad-stops, refused-stops, ends-whole, ends-begun}
 use Rattle.feed.proofs.Replies.{answersTo, repliesOn, opening-fits}
 

@@ -14,6 +14,7 @@ use Rattle.rows.proofs.Bools.{and-l, and-r, and-i, not-t}
 use Rattle.text.specs.declared.Reading.the-variants.{Refused}
 use Rattle.text.specs.CallLines.{readingOf}
 use Rattle.text.specs.Opening.{withByte, linesOf, lineOf, badLine}
+use Rattle.text.proofs.Lines.{plain, headOf, tailOf, with-byte, lines-plain, plain-append, plain-take, line-ends, plain-one}
 use Rattle.feed.specs.Feeding.{keptOfLine, cut}
 
 -- ---- what is kept of a line
@@ -60,48 +61,10 @@ reading-cut l = cut-same readingOf (Refused 2) reading-long l
 pub line-cut : (l : List ℕ) → lineOf (cut l) ≡ lineOf l
 line-cut l = cut-same lineOf badLine line-long l
 
--- ---- bytes without a line feed belong to the first line of what follows
-unfoldable pub plain : List ℕ → Bool
-plain l = all (λ b. not (eqb b 10)) l
-
-headOf : List (List ℕ) → List ℕ
-headOf [] = []
-headOf (l ∷ ls) = l
-
-tailOf : List (List ℕ) → List (List ℕ)
-tailOf [] = []
-tailOf (l ∷ ls) = ls
-
-with-byte : (b : ℕ) → not (eqb b 10) ≡ true → (ls : List (List ℕ)) → withByte b ls ≡ (b ∷ headOf ls) ∷ tailOf ls
-unfolding withByte headOf tailOf
-with-byte b e [] = refl
-with-byte b e (l ∷ ls) = rw (not-t (eqb b 10) e)
-
-lines-plain : (b : ℕ) (l y : List ℕ) → plain (b ∷ l) ≡ true → linesOf ((b ∷ l) ++ y) ≡ ((b ∷ l) ++ headOf (linesOf y)) ∷ tailOf (linesOf y)
-unfolding linesOf plain all headOf tailOf
-lines-plain b [] y e = with-byte b (and-l (not (eqb b 10)) true e) (linesOf y)
-lines-plain b (c ∷ l) y e =
-    let older = lines-plain c l y (and-r (not (eqb b 10)) (plain (c ∷ l)) e) in
-    ap (withByte b) older ∙ with-byte b (and-l (not (eqb b 10)) (plain (c ∷ l)) e) (((c ∷ l) ++ headOf (linesOf y)) ∷ tailOf (linesOf y))
-
-plain-append : (l m : List ℕ) → plain l ≡ true → plain m ≡ true → plain (l ++ m) ≡ true
-unfolding plain all
-plain-append [] m e f = f
-plain-append (b ∷ l) m e f = and-i (not (eqb b 10)) (plain (l ++ m)) (and-l (not (eqb b 10)) (plain l) e) (plain-append l m (and-r (not (eqb b 10)) (plain l) e) f)
-
-plain-take : (n : ℕ) (l : List ℕ) → plain l ≡ true → plain (take n l) ≡ true
-unfolding plain all
-plain-take zero l e = refl
-plain-take (suc n) [] e = refl
-plain-take (suc n) (b ∷ l) e = and-i (not (eqb b 10)) (plain (take n l)) (and-l (not (eqb b 10)) (plain l) e) (plain-take n l (and-r (not (eqb b 10)) (plain l) e))
-
+-- ---- what is kept of bytes without a line feed has none
 pub plain-kept : (l m : List ℕ) → plain l ≡ true → plain m ≡ true → plain (cut (l ++ m)) ≡ true
 unfolding cut
 plain-kept l m e f = plain-take keptOfLine (l ++ m) (plain-append l m e f)
-
-pub plain-byte : (b : ℕ) → not (eqb b 10) ≡ true → plain (b ∷ []) ≡ true
-unfolding plain all
-plain-byte b e = and-i (not (eqb b 10)) true e refl
 
 -- ---- a byte that is no line feed: the lines kept are the same, whether the line has room for it or not
 -- of a full line nothing more is kept
@@ -125,28 +88,10 @@ line-goes-on l y b e h n = pick (ltb (length l) keptOfLine) refl
         rw (cut-full l (b ∷ []) full) (full-first l y e full ∙ sym (full-first l (b ∷ y) e full ∙ ap (λ ls. l ∷ map cut (tailOf ls)) (with-byte b n (linesOf y))))
 
 -- ---- a line feed ends the line
-feed-first : (y : List ℕ) → linesOf (10 ∷ y) ≡ (10 ∷ []) ∷ linesOf y
-unfolding linesOf withByte
-feed-first y = pick (linesOf y)
-  where
-    pick : (ls : List (List ℕ)) → withByte 10 ls ≡ (10 ∷ []) ∷ ls
-    pick [] = refl
-    pick (l ∷ ls) = refl
-
-pub line-ends : (l y : List ℕ) → plain l ≡ true → linesOf (l ++ (10 ∷ y)) ≡ (l ++ (10 ∷ [])) ∷ linesOf y
-unfolding headOf tailOf
-line-ends [] y e = feed-first y
-line-ends (c ∷ l) y e = rw (lines-plain c l (10 ∷ y) e, feed-first y)
-
 -- a line that is kept when it has ended, whole or cut
 pub record KeptLine (l : List ℕ) : Type 0 where
   pub one : linesOf l ≡ l ∷ []
   pub ends : length l ≤ suc mostBytes → (z : List ℕ) → linesOf (l ++ z) ≡ l ∷ linesOf z
-
-plain-one : (l : List ℕ) → plain l ≡ true → 0 < length l → linesOf l ≡ l ∷ []
-unfolding linesOf headOf tailOf
-plain-one [] e h = absurd (omega arith)
-plain-one (c ∷ l) e h = ap linesOf (sym (append-nil (c ∷ l))) ∙ lines-plain c l [] e ∙ ap (λ m. m ∷ []) (append-nil (c ∷ l))
 
 pub line-kept : (l : List ℕ) → plain l ≡ true → length l ≤ keptOfLine → KeptLine (cut (l ++ (10 ∷ [])))
 unfolding keptOfLine linesOf

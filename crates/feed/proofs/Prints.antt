@@ -16,7 +16,7 @@ use Rattle.feed.specs.declared.Stage.{Stage}
 use Rattle.feed.specs.declared.Stage.the-variants.{Opening, Calls, Over}
 use Rattle.feed.specs.Feeding.{Session, begun, Step, silent, followed, byteFed, fed, partsFed, finished, printedOn}
 use Rattle.feed.specs.Prints.{mostText, Prints}
-use Rattle.feed.proofs.Lines.{plain}
+use Rattle.text.proofs.Lines.{plain}
 use Rattle.feed.proofs.Openings.{waiting-starts, waiting-short}
 use Rattle.feed.proofs.Replies.{replies-session, replies-cut}
 use Rattle.feed.proofs.Feeding.{AtStage, Under, left, Does, byte-does, end-does}

@@ -44,10 +44,13 @@ unfolding leftIn
 left-long w t = length-take-le w (t ++ spaces w) (omega (arith, length-append t (spaces w), spaces-long w))
 
 -- the text, and as many spaces as there is room for
+pub take-spaced : (w : ℕ) (t : List ℕ) (k m : ℕ) → length t + k ≡ w → k ≤ m → take w (t ++ spaces m) ≡ t ++ spaces k
+take-spaced w t k m e h =
+    ap (λ (n : ℕ). take n (t ++ spaces m)) (sym e) ∙ take-append-add t (spaces m) k ∙ ap (λ (l : List ℕ). t ++ l) (spaces-take k m h)
+
 pub left-fits : (w : ℕ) (t : List ℕ) (k : ℕ) → length t + k ≡ w → leftIn w t ≡ t ++ spaces k
 unfolding leftIn
-left-fits w t k e =
-    ap (λ (n : ℕ). take n (t ++ spaces w)) (sym e) ∙ take-append-add t (spaces w) k ∙ ap (λ (l : List ℕ). t ++ l) (spaces-take k w (omega arith))
+left-fits w t k e = take-spaced w t k w e (omega arith)
 
 pub left-none : (w : ℕ) → leftIn w [] ≡ spaces w
 left-none w = left-fits w [] w (zero-add w)
@@ -155,10 +158,17 @@ before-more l j left t h e =
     ap (λ (r : List ℕ). before j (left / 10) ++ r) (drop-stored l j (digitOrSpace left) h)
     ∙ sym (append-assoc (before j (left / 10)) (digitOrSpace left ∷ []) (drop (suc j) l)) ∙ e
 
--- a text as long as its columns
-pub right-whole : (w : ℕ) (t : List ℕ) → length t ≡ w → rightIn w t ≡ t
+-- as many spaces as there is room for, and the text
+pub right-fits : (w : ℕ) (t : List ℕ) (k : ℕ) → length t + k ≡ w → rightIn w t ≡ spaces k ++ t
 unfolding rightIn
-right-whole w t e = drop-at (spaces w) t (length t) (spaces-long w ∙ sym e)
+right-fits w t k e =
+    ap (λ (l : List ℕ). drop (length t) (l ++ t)) (ap spaces (sym e) ∙ sym (spaces-join (length t) k))
+    ∙ ap (drop (length t)) (append-assoc (spaces (length t)) (spaces k) t)
+    ∙ drop-at (spaces (length t)) (spaces k ++ t) (length t) (spaces-long (length t))
+
+pub right-whole : (w : ℕ) (t : List ℕ) → length t ≡ w → rightIn w t ≡ t
+unfolding spaces
+right-whole w t e = right-fits w t 0 (omega arith)
 
 -- ---- a field over spaces
 -- what f makes of w columns from a on, where s stands before them and spaces from a on

@@ -35,6 +35,8 @@ pub mod GroupLaws
 pub mod GroupHeads
 -- replies: one byte more, one text after another, the digits of a number
 pub mod ReplyLaws
+-- a text cut into lines at its line feeds
+pub mod Lines
 -- the lines of an opening text, the entries of a node form, what is given
 pub mod OpeningLaws
 -- the first pass over an opening text
