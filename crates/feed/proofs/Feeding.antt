@@ -1,4 +1,4 @@
--- A byte more: what is printed at it, and then, is what is still printed before it.
+-- A byte more: what is printed at it, and then, is what is still printed before it; and the words at the end are the same.
 use Prim.Native.Nat.{ℕ, _≤_}
 use native.Mathlib.Omega.{arith}
 use mathlib.Core.Bool.{Bool, true, false, not, cond}
@@ -13,14 +13,14 @@ use Rattle.rows.proofs.LayoutColumns.{list-same}
 use Rattle.text.specs.Opening.{Form, Line, lastLine, formLine, badLine, Opening as Verdict, opens, refusedAt, linesOf, lineOf, formRefusal, openingOf}
 use Rattle.calls.specs.Answers.{num}
 use Rattle.text.specs.Answers.{okText, noText}
-use Rattle.text.specs.Entry.{replyWith, callEntry, openedBy, openEntry}
+use Rattle.text.specs.Entry.{Replied, replyWith, callEntry, openedBy, openEntry}
 use Rattle.feed.specs.declared.Stage.{Stage}
 use Rattle.feed.specs.declared.Stage.the-variants.{Opening, Calls, Over}
-use Rattle.feed.specs.Feeding.{keptOfLine, cut, Session, lineStart, withLine, Step, silent, stageAfter, opened, openingLine, callLine, lineFed, byteFed, finished}
+use Rattle.feed.specs.Feeding.{keptOfLine, cut, Session, lineStart, withLine, Step, silent, stageAfter, opened, openingLine, callLine, lineFed, byteFed, unsaid, finished}
 use Rattle.text.proofs.Lines.{plain, plain-byte, line-ends}
 use Rattle.feed.proofs.Lines.{plain-kept, cut-all, cut-length, line-goes-on, KeptLine, line-kept, lines-left}
 use Rattle.feed.proofs.Openings.{Waiting, Goes, Stops, withRest, lines-with, line-goes, last-stops, bad-stops, refused-stops, ends-whole, ends-begun}
-use Rattle.feed.proofs.Replies.{answersTo, repliesOn, opening-fits}
+use Rattle.feed.proofs.Replies.{saying, saying-last, answersTo, repliesOn, opening-fits}
 
 -- ---- a session under way
 pub record OpenAt (s : Session) : Type 0 where
@@ -38,16 +38,16 @@ pub record Under (s : Session) : Type 0 where
   pub short-line : length (s .line) ≤ keptOfLine
   pub at-stage : AtStage (s .stage) s
 
--- what is still printed if y is all that follows
-unfoldable pub left : Stage → Session → List ℕ → List ℕ
+-- what is still printed if y is all that follows, and both runs then
+unfoldable pub left : Stage → Session → List ℕ → Replied
 left Opening s y = repliesOn (openingOf (linesOf (s .text) ++ map cut (linesOf (s .line ++ y))))
 left Calls s y = answersTo (s .tables) (s .processes) (map cut (linesOf (s .line ++ y)))
-left Over s y = []
+left Over s y = unsaid s
 
 -- x is the step of a session, at the stage g, on the bytes bs
 pub record Does (g : Stage) (s : Session) (bs : List ℕ) (x : Step) : Type 0 where
   pub under : Under (x .after)
-  pub prints : (y : List ℕ) → x .printed ++ left (x .after .stage) (x .after) y ≡ left g s (bs ++ y)
+  pub prints : (y : List ℕ) → saying (x .printed) (left (x .after .stage) (x .after) y) ≡ left g s (bs ++ y)
 
 -- ---- a byte of a line
 module _ (s : Session) (u : Under s) (b : ℕ) (other : not (eqb b 10) ≡ true) where
@@ -61,13 +61,13 @@ module _ (s : Session) (u : Under s) (b : ℕ) (other : not (eqb b 10) ≡ true)
   same-stage Over o = o
 
   same-left : (g : Stage) (y : List ℕ) → left g (withLine line s) y ≡ left g s (b ∷ y)
-  unfolding left line
+  unfolding left unsaid line
   same-left Opening y = ap (λ ls. repliesOn (openingOf (linesOf (s .text) ++ ls))) (line-goes-on (s .line) y b (u .plain-line) (u .short-line) other)
   same-left Calls y = ap (answersTo (s .tables) (s .processes)) (line-goes-on (s .line) y b (u .plain-line) (u .short-line) other)
   same-left Over y = refl
 
   byte-kept : Does (s .stage) s (b ∷ []) (silent (withLine line s))
-  unfolding silent line
+  unfolding silent saying line
   byte-kept =
       record {
         under = record { plain-line = plain-kept (s .line) (b ∷ []) (u .plain-line) (plain-byte b other); short-line = cut-length (s .line ++ (b ∷ [])); at-stage = same-stage (s .stage) (u .at-stage) };
@@ -89,7 +89,7 @@ module _ (s : Session) (u : Under s) where
   lines-kept y = ap (map cut) (line-ends (s .line) y (u .plain-line))
 
   call-does : Does Calls s (10 ∷ []) (callLine s ended)
-  unfolding callLine left answersTo AtStage plain all
+  unfolding callLine left answersTo saying AtStage plain all
   call-does =
       record {
         under = record { plain-line = refl; short-line = omega arith; at-stage = refl };
@@ -97,7 +97,7 @@ module _ (s : Session) (u : Under s) where
       }
 
   over-does : Does Over s (10 ∷ []) (silent (lineStart Over [] (s .tables) (s .processes)))
-  unfolding silent left AtStage plain all
+  unfolding silent left unsaid saying AtStage plain all
   over-does = record { under = record { plain-line = refl; short-line = omega arith; at-stage = refl }; prints = λ y. refl }
 
   -- an opening goes on, or is decided
@@ -106,7 +106,7 @@ module _ (s : Session) (u : Under s) where
     lines-all y = ap (λ ls. linesOf (s .text) ++ ls) (lines-kept y) ∙ sym (lines-with (s .text) (o .forms) (o .waiting) ended kept-line (map cut (linesOf y)))
 
     goes-does : (fs : List Form) → Goes (s .text) ended fs → Does Opening s (10 ∷ []) (openingLine s ended)
-    unfolding openingLine silent left AtStage plain all
+    unfolding openingLine silent left saying AtStage plain all
     goes-does fs k =
         rw (k .waits)
         (record {
@@ -117,7 +117,7 @@ module _ (s : Session) (u : Under s) where
     -- by the opening that is decided
     verdict-does : (v : Verdict) → openEntry (s .tables) (s .processes) (s .text ++ ended) ≡ openedBy v
         → ((ls : List (List ℕ)) → openingOf (linesOf (s .text ++ ended) ++ ls) ≡ withRest ls v) → Does Opening s (10 ∷ []) (opened s (s .text ++ ended))
-    unfolding opened openedBy replyWith stageAfter left withRest repliesOn AtStage plain all noText okText bytes sameList
+    unfolding opened openedBy replyWith stageAfter left unsaid saying withRest repliesOn AtStage plain all noText okText bytes sameList
     verdict-does (opens fs rest) e more =
         rw e
         (rw (list-same (okText (num 0 ∷ [])))
@@ -129,7 +129,7 @@ module _ (s : Session) (u : Under s) where
         rw e
         (record {
           under = record { plain-line = refl; short-line = omega arith; at-stage = refl };
-          prints = λ y. append-nil (noText (k ∷ n ∷ [])) ∙ sym (ap (λ ls. repliesOn (openingOf ls)) (lines-all y) ∙ ap repliesOn (more (map cut (linesOf y))));
+          prints = λ y. saying-last (openedBy (refusedAt k n)) ∙ sym (ap (λ ls. repliesOn (openingOf ls)) (lines-all y) ∙ ap repliesOn (more (map cut (linesOf y))));
         })
 
     stops-does : Stops (s .text) ended → Does Opening s (10 ∷ []) (openingLine s ended)
@@ -170,9 +170,9 @@ byte-does s b u = pick (eqb b 10) refl
 
 -- ---- the end of the input
 -- lines that no line follows
-rest-none : (v : Verdict) → v ≡ withRest [] v → openedBy v .reply ≡ repliesOn v
-unfolding withRest repliesOn openedBy replyWith answersTo
-rest-none (opens fs rest) e = sym (ap repliesOn e ∙ append-nil (okText (num 0 ∷ [])))
+rest-none : (v : Verdict) → v ≡ withRest [] v → openedBy v ≡ repliesOn v
+unfolding withRest repliesOn openedBy answersTo
+rest-none (opens fs rest) e = sym (ap repliesOn e ∙ saying-last (openedBy (opens fs rest)))
 rest-none (refusedAt k n) e = refl
 
 module _ (s : Session) (u : Under s) where
@@ -195,8 +195,8 @@ module _ (s : Session) (u : Under s) where
   opening-ends : OpenAt s → finished Opening s ≡ left Opening s []
   unfolding finished left withRest
   opening-ends o =
-      ap (λ w. w .reply) (opening-fits (s .tables) (s .processes) (s .text ++ s .line) (o .fits))
-      ∙ ap (λ ls. openedBy (openingOf ls) .reply) (o .waiting .joins (s .line))
+      opening-fits (s .tables) (s .processes) (s .text ++ s .line) (o .fits)
+      ∙ ap (λ ls. openedBy (openingOf ls)) (o .waiting .joins (s .line))
       ∙ rest-none (openingOf (linesOf (s .text) ++ linesOf (s .line))) (pick (eqb (length (s .line)) 0) refl)
       ∙ sym (ap (λ ls. repliesOn (openingOf (linesOf (s .text) ++ ls))) begun-kept)
     where
@@ -211,12 +211,12 @@ module _ (s : Session) (u : Under s) where
       pick false q = subst Ends (ap (λ ls. linesOf (s .text) ++ ls) (sym (begun-one (eqb-false (length (s .line)) 0 q)))) (ends-begun (s .text) (o .forms) (o .waiting) (s .line))
 
   calls-end : finished Calls s ≡ left Calls s []
-  unfolding finished left answersTo
+  unfolding finished left unsaid answersTo
   calls-end = pick (eqb (length (s .line)) 0) refl ∙ sym (ap (answersTo (s .tables) (s .processes)) begun-kept)
     where
-      pick : (q : Bool) → eqb (length (s .line)) 0 ≡ q → cond q [] (callEntry (s .tables) (s .processes) (s .line) .reply) ≡ answersTo (s .tables) (s .processes) (linesOf (s .line))
+      pick : (q : Bool) → eqb (length (s .line)) 0 ≡ q → cond q (unsaid s) (callEntry (s .tables) (s .processes) (s .line)) ≡ answersTo (s .tables) (s .processes) (linesOf (s .line))
       pick true q = rw (begun-none (s .line) (eqb-true (length (s .line)) 0 q))
-      pick false q = rw (begun-one (eqb-false (length (s .line)) 0 q)) (sym (append-nil (callEntry (s .tables) (s .processes) (s .line) .reply)))
+      pick false q = rw (begun-one (eqb-false (length (s .line)) 0 q)) (sym (saying-last (callEntry (s .tables) (s .processes) (s .line))))
 
   pub end-does : (g : Stage) → AtStage g s → finished g s ≡ left g s []
   unfolding AtStage finished left

@@ -14,12 +14,12 @@ use Rattle.feed.specs.declared.Stage.{Stage}
 use Rattle.feed.specs.declared.Stage.the-variants.{Opening, Calls, Over}
 use Rattle.feed.specs.declared.Kept.{Kept}
 use Rattle.feed.specs.declared.Moved.{Moved}
-use Rattle.feed.specs.Feeding.{Session, withLine, silent, undecided, opened, openingLine, callLine, lineFed, byteFed, finished}
+use Rattle.feed.specs.Feeding.{Session, withLine, silent, undecided, opened, openingLine, callLine, lineFed, byteFed, unsaid, finished}
 use Rattle.feed.specs.contracts.Buffers.{sessionIn, Stands, KeepsByte, withByte, Writes, StageOf, Takes, atLineStart, Moves, lineEnded}
 use Rattle.feed.proofs.Buffers.{line-long}
 
 -- ---- a reply
-given-writes : (o : Replied) (out u v after : List ℕ) (n : ℕ) → Given o out u v after n → Writes (o .reply) out after n
+pub given-writes : (o : Replied) (out u v after : List ℕ) (n : ℕ) → Given o out u v after n → Writes (o .reply) out after n
 given-writes o out u v after n e = (e .0, e .1 ∙ ap (λ m. o .reply ++ drop m out) (sym (e .0)))
 
 -- ---- a line has ended
@@ -88,33 +88,35 @@ module _ (k : Kept) (b t p out : List ℕ) (stands : Stands k b) where
   ended-over e = rw e (record { session = refl; stands = omega arith; writes = (refl, refl) })
 
   -- the input has ended
-  pub finish-opening : k .stage ≡ Opening → (u v after : List ℕ) (n : ℕ) → Given (openEntry t p (take (k .text + k .line) b)) out u v after n → Writes (finished (k .stage) s) out after n
+  pub finish-opening : k .stage ≡ Opening → (u v after : List ℕ) (n : ℕ) → Given (openEntry t p (take (k .text + k .line) b)) out u v after n
+      → Given (finished (k .stage) s) out u v after n
   unfolding finished sessionIn
   finish-opening e u v after n g =
-      let o = openEntry t p (take (k .text + k .line) b) in
-      subst (λ x. Writes (finished x s) out after n) (sym e) (subst (λ l. Writes (openEntry t p l .reply) out after n) text-in (given-writes o out u v after n g))
+      subst (λ x. Given (finished x s) out u v after n) (sym e) (subst (λ l. Given (openEntry t p l) out u v after n) text-in g)
 
-  finish-calls : (text after : List ℕ) (n : ℕ) → k .stage ≡ Calls → cond (eqb (length (s .line)) 0) [] (callEntry t p (s .line) .reply) ≡ text → Writes text out after n
-      → Writes (finished (k .stage) s) out after n
+  finish-calls : (o : Replied) (u v after : List ℕ) (n : ℕ) → k .stage ≡ Calls → cond (eqb (length (s .line)) 0) (unsaid s) (callEntry t p (s .line)) ≡ o
+      → Given o out u v after n → Given (finished (k .stage) s) out u v after n
   unfolding finished sessionIn
-  finish-calls text after n e is w = subst (λ x. Writes (finished x s) out after n) (sym e) (subst (λ l. Writes l out after n) (sym is) w)
+  finish-calls o u v after n e is g =
+      subst (λ x. Given (finished x s) out u v after n) (sym e) (subst (λ w. Given w out u v after n) (sym is) g)
 
-  pub finish-none : k .stage ≡ Calls → k .text ≡ k .text + k .line → Writes (finished (k .stage) s) out out 0
-  unfolding sessionIn
-  finish-none e none = let long = line-long k b stands in finish-calls [] out 0 e (rw (eq-eqb (length (s .line)) 0 (omega arith))) (refl, refl)
+  pub finish-none : k .stage ≡ Calls → k .text ≡ k .text + k .line → Given (finished (k .stage) s) out t p out 0
+  unfolding sessionIn unsaid
+  finish-none e none =
+      let long = line-long k b stands in
+      finish-calls (unsaid s) t p out 0 e (rw (eq-eqb (length (s .line)) 0 (omega arith))) (refl, refl, refl, refl)
 
   pub finish-call : k .stage ≡ Calls → (k .text ≡ k .text + k .line → ⊥) → (u v after : List ℕ) (n : ℕ)
-      → Given (callEntry t p (take ((k .text + k .line) - k .text) (drop (k .text) b))) out u v after n → Writes (finished (k .stage) s) out after n
+      → Given (callEntry t p (take ((k .text + k .line) - k .text) (drop (k .text) b))) out u v after n → Given (finished (k .stage) s) out u v after n
   unfolding sessionIn
   finish-call e some u v after n g =
-      let o = callEntry t p (take ((k .text + k .line) - k .text) (drop (k .text) b)) in
       let long = line-long k b stands in
-      finish-calls (callEntry t p (s .line) .reply) after n e (rw (ne-eqb (length (s .line)) 0 (omega arith)))
-      (subst (λ l. Writes (callEntry t p l .reply) out after n) line-in (given-writes o out u v after n g))
+      finish-calls (callEntry t p (s .line)) u v after n e (rw (ne-eqb (length (s .line)) 0 (omega arith)))
+      (subst (λ l. Given (callEntry t p l) out u v after n) line-in g)
 
-  pub finish-over : k .stage ≡ Over → Writes (finished (k .stage) s) out out 0
-  unfolding finished
-  finish-over e = subst (λ x. Writes (finished x s) out out 0) (sym e) (refl, refl)
+  pub finish-over : k .stage ≡ Over → Given (finished (k .stage) s) out t p out 0
+  unfolding finished unsaid sessionIn
+  finish-over e = subst (λ x. Given (finished x s) out t p out 0) (sym e) (refl, refl, refl, refl)
 
 -- ---- a byte
 -- what a line does when it has ended is told by the line that is handed over

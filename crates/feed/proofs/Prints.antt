@@ -1,4 +1,4 @@
--- However the input is cut into parts, what is printed is the session of the whole input.
+-- However the input is cut into parts, what is printed is the session of the whole input, and both runs are those of its end.
 use Prim.Native.Nat.{ℕ, _≤_}
 use native.Mathlib.Omega.{arith}
 use mathlib.Core.Bool.{true, cond}
@@ -8,30 +8,34 @@ use lib.Dec.{eqb}
 use lib.ListN.{length}
 use Rattle.rows.specs.Lists.{all}
 use Rattle.rows.specs.Layout.{rightLengths}
-use Rattle.text.specs.Opening.{linesOf}
-use Rattle.text.specs.Entry.{callEntry}
-use Rattle.text.specs.Session.{session}
+use Rattle.text.specs.Opening.{linesOf, openingOf}
+use Rattle.text.specs.Entry.{Replied, callEntry}
+use Rattle.text.specs.Session.{session, sessionEnd}
 use Rattle.history.specs.Kept.{joined}
 use Rattle.feed.specs.declared.Stage.{Stage}
 use Rattle.feed.specs.declared.Stage.the-variants.{Opening, Calls, Over}
-use Rattle.feed.specs.Feeding.{Session, begun, Step, silent, followed, byteFed, fed, partsFed, finished, printedOn}
-use Rattle.feed.specs.Prints.{mostText, Prints}
+use Rattle.feed.specs.Feeding.{Session, begun, Step, silent, followed, byteFed, fed, partsFed, unsaid, finished, endedOn, printedOn}
+use Rattle.feed.specs.Prints.{mostText, Leaves, Prints}
 use Rattle.text.proofs.Lines.{plain}
 use Rattle.feed.proofs.Openings.{waiting-starts, waiting-short}
-use Rattle.feed.proofs.Replies.{replies-session, replies-cut}
+use Rattle.feed.proofs.Replies.{saying, repliesOn, replies-session, replies-end, replies-cut}
 use Rattle.feed.proofs.Feeding.{AtStage, Under, left, Does, byte-does, end-does}
 
 -- ---- steps one after the other
 silent-does : (s : Session) → Under s → Does (s .stage) s [] (silent s)
-unfolding silent
+unfolding silent saying
 silent-does s u = record { under = u; prints = λ y. refl }
 
+said-twice : (a b : List ℕ) (w : Replied) → saying (a ++ b) w ≡ saying a (saying b w)
+unfolding saying
+said-twice a b w = λ j. record { reply = append-assoc a b (w .reply) j; tables = w .tables; processes = w .processes }
+
 followed-does : (s : Session) (bs cs : List ℕ) (x y : Step) → Does (s .stage) s bs x → Does (x .after .stage) (x .after) cs y → Does (s .stage) s (bs ++ cs) (followed x y)
-unfolding followed
+unfolding followed saying
 followed-does s bs cs x y a b =
     record {
       under = b .under;
-      prints = λ z. append-assoc (x .printed) (y .printed) (left (y .after .stage) (y .after) z) ∙ ap (λ r. x .printed ++ r) (b .prints z) ∙ a .prints (cs ++ z)
+      prints = λ z. said-twice (x .printed) (y .printed) (left (y .after .stage) (y .after) z) ∙ ap (saying (x .printed)) (b .prints z) ∙ a .prints (cs ++ z)
           ∙ ap (left (s .stage) s) (sym (append-assoc bs cs z));
     }
 
@@ -65,21 +69,30 @@ module _ (t p : List ℕ) (fits : rightLengths t p ≡ true) where
     unfolding x begun
     does = parts-do parts (begun t p) under-begun
 
+    -- all that is said and left is what the entry points reply and leave
+    all-said : saying (x .printed) (endedOn t p parts) ≡ repliesOn (openingOf (linesOf (joined parts)))
+    unfolding endedOn x left linesOf begun
+    all-said =
+        ap (saying (x .printed)) (end-does (x .after) (does .under) (x .after .stage) (does .under .at-stage)) ∙ does .prints []
+        ∙ ap (left Opening (begun t p)) (append-nil (joined parts)) ∙ replies-cut (linesOf (joined parts))
+
     prints-whole : printedOn t p parts ≡ session (joined parts)
-    unfolding printedOn x left linesOf begun
-    prints-whole =
-        ap (λ r. x .printed ++ r) (end-does (x .after) (does .under) (x .after .stage) (does .under .at-stage)) ∙ does .prints []
-        ∙ ap (left Opening (begun t p)) (append-nil (joined parts)) ∙ replies-cut (linesOf (joined parts)) ∙ replies-session t p fits (joined parts)
+    unfolding printedOn x saying
+    prints-whole = ap (λ w. w .reply) all-said ∙ replies-session t p fits (joined parts)
+
+    ends-there : Leaves (endedOn t p parts) (sessionEnd (joined parts))
+    unfolding saying
+    ends-there = let e = replies-end (joined parts) in (ap (λ w. w .tables) all-said ∙ e .0, ap (λ w. w .processes) all-said ∙ e .1)
 
     -- at the start of a line nothing is left to print at the end
     prompt : (x .after .stage ≡ Opening → ⊥) → x .after .line ≡ [] → x .printed ≡ session (joined parts)
-    unfolding x printedOn finished
+    unfolding x printedOn endedOn finished unsaid
     prompt answered none = sym (append-nil (x .printed)) ∙ ap (λ r. x .printed ++ r) (sym (nothing-left (x .after .stage) answered)) ∙ prints-whole
       where
         call-left : List ℕ → List ℕ
-        call-left l = cond (eqb (length l) 0) [] (callEntry (x .after .tables) (x .after .processes) l .reply)
+        call-left l = cond (eqb (length l) 0) (unsaid (x .after)) (callEntry (x .after .tables) (x .after .processes) l) .reply
 
-        nothing-left : (g : Stage) → (g ≡ Opening → ⊥) → finished g (x .after) ≡ []
+        nothing-left : (g : Stage) → (g ≡ Opening → ⊥) → finished g (x .after) .reply ≡ []
         nothing-left Opening h = absurd (h refl)
         nothing-left Calls h = ap call-left none
         nothing-left Over h = refl
@@ -101,6 +114,7 @@ unfolding x
 prints =
     record {
       whole = prints-whole;
+      ends = ends-there;
       reads = λ t p fits parts. record {
         prompt = prompt t p fits parts;
         text-kept = text-kept t p fits parts;

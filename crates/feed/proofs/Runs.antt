@@ -1,13 +1,22 @@
--- Along every run of begin, feed and finish all that is printed is the session of all that was read.
+-- Along every run of begin, feed and finish all that is printed is the session of all that was read, and the page is that of its end.
 use Prim.Native.Nat.{ℕ}
 use mathlib.Core.List.{List, [], _∷_, _++_, map}
 use mathlib.Core.Path.{_≡_, refl, sym, ap, subst, _∙_}
 use lib.ListN.{take, drop}
 use lib.Seq.{take-at}
+use Rattle.rows.specs.Tables.{State}
+use Rattle.rows.specs.Layout.{wordsOf, recordsOf, rowsIn}
+use Rattle.tables.proofs.Sound.{Sound}
+use Rattle.tables.proofs.Words.{state-words}
+use Rattle.text.specs.Session.{sessionEnd}
+use Rattle.page.specs.Page.{page, linesFrom}
+use Rattle.page.proofs.Promises.{page-promises}
 use Rattle.history.specs.Kept.{joined}
-use Rattle.feed.specs.Feeding.{Session, begun, silent, followed, fed, partsFed, finished, printedOn}
+use Rattle.feed.specs.Feeding.{Session, begun, silent, followed, fed, partsFed, finished, endedOn, printedOn}
 use Rattle.feed.specs.contracts.Buffers.{sessionIn, Writes}
 use Rattle.feed.specs.Runs.{Held, Feed, Runs, heldAfter, bytesRead, bytesPrinted, EveryFeeding}
+use Rattle.feed.proofs.Replies.{end-sound}
+use Rattle.feed.proofs.Moves.{given-writes}
 use Rattle.feed.proofs.Prints.{prints}
 use Rattle.feed.proofs.Parts.{lengths-right}
 
@@ -36,12 +45,28 @@ run-fed (f ∷ fs) h r =
       after = rest .after;
     }
 
+-- the page of the words of a sound state; a session ends in one
+page-of : (st : State) → Sound st → linesFrom (wordsOf st) 0 (rowsIn (wordsOf st)) ≡ page (st .rows)
+page-of st s = page-promises .of-words (wordsOf st) (recordsOf (st .processes)) ∙ ap (λ (x : State). page (x .rows)) (state-words st s)
+
 pub every-feeding : EveryFeeding
-unfolding EveryFeeding printedOn sessionIn
-every-feeding h begins long tables processes fs r out written n w =
+unfolding EveryFeeding printedOn endedOn sessionIn
+every-feeding h begins long tables processes fs r out t p written n w =
     let start = begins (h .buffer) (h .tables) (h .processes) long tables processes .0 in
     let run = subst (FedSo h fs) start (run-fed fs h r) in
-    ap (λ l. joined (map bytesPrinted fs) ++ l) (front (finished (heldAfter h fs .kept .stage) (sessionOf (heldAfter h fs))) out written n w)
-    ∙ ap (λ l. l ++ finished (sessionOf (heldAfter h fs) .stage) (sessionOf (heldAfter h fs))) (run .printed)
-    ∙ ap (λ s. partsFed (begun (h .tables) (h .processes)) (map bytesRead fs) .printed ++ finished (s .stage) s) (run .after)
-    ∙ prints .whole (h .tables) (h .processes) (lengths-right (h .tables) (h .processes) tables processes) (map bytesRead fs)
+    let last = sessionOf (heldAfter h fs) in
+    let read = map bytesRead fs in
+    let fits = lengths-right (h .tables) (h .processes) tables processes in
+    let same : finished (last .stage) last ≡ endedOn (h .tables) (h .processes) read = ap (λ s. finished (s .stage) s) (run .after) in
+    let ends = prints .ends (h .tables) (h .processes) fits read in
+    let there : t ≡ wordsOf (sessionEnd (joined read)) = w .2 ∙ ap (λ o. o .tables) same ∙ ends .0 in
+    record {
+      printed-whole =
+          ap (λ l. joined (map bytesPrinted fs) ++ l) (front (finished (last .stage) last .reply) out written n (given-writes (finished (last .stage) last) out t p written n w))
+          ∙ ap (λ l. l ++ finished (last .stage) last .reply) (run .printed)
+          ∙ ap (λ o. partsFed (begun (h .tables) (h .processes)) read .printed ++ o .reply) same
+          ∙ prints .whole (h .tables) (h .processes) fits read;
+      tables-end = there;
+      processes-end = w .3 ∙ ap (λ o. o .processes) same ∙ ends .1;
+      page-end = ap (λ (u : List ℕ). linesFrom u 0 (rowsIn u)) there ∙ page-of (sessionEnd (joined read)) (end-sound (joined read));
+    }

@@ -9,7 +9,7 @@ use Rattle.rows.specs.Limits.{mostBytes}
 use Rattle.text.specs.Opening.{FirstPass, readTo, stoppedBy, linesOf, firstPass}
 use Rattle.calls.specs.Answers.{num}
 use Rattle.text.specs.Answers.{okText}
-use Rattle.text.specs.Entry.{openEntry, callEntry}
+use Rattle.text.specs.Entry.{Replied, openEntry, callEntry}
 use Rattle.feed.specs.declared.Stage.{Stage}
 use Rattle.feed.specs.declared.Stage.the-variants.{Opening, Calls, Over}
 
@@ -111,14 +111,20 @@ unfoldable pub partsFed : Session → List (List ℕ) → Step
 partsFed s [] = silent s
 partsFed s (part ∷ parts) = let x = fed s part in followed x (partsFed (x .after) parts)
 
--- (rules K10, O11, O12) the input ends: an opening that is not decided is, and a line begun is a call without its line feed
-unfoldable pub finished : Stage → Session → List ℕ
-finished Opening s = openEntry (s .tables) (s .processes) (s .text ++ s .line) .reply
-finished Calls s = if eqb (length (s .line)) 0 then [] else callEntry (s .tables) (s .processes) (s .line) .reply
-finished Over s = []
+-- (rule K11) nothing more is printed, and both runs stay
+unfoldable pub unsaid : Session → Replied
+unsaid s = record { reply = []; tables = s .tables; processes = s .processes }
 
--- (rules K9, K12) all that is printed on an input that comes in these parts, in the words lent
+-- (rules K10, O11, O12) the input ends: an opening that is not decided is, and a line begun is a call without its line feed
+unfoldable pub finished : Stage → Session → Replied
+finished Opening s = openEntry (s .tables) (s .processes) (s .text ++ s .line)
+finished Calls s = if eqb (length (s .line)) 0 then unsaid s else callEntry (s .tables) (s .processes) (s .line)
+finished Over s = unsaid s
+
+-- (rules K12, G1) what is printed at the end of an input that comes in these parts, in the words lent, and both runs then
+unfoldable pub endedOn : List ℕ → List ℕ → List (List ℕ) → Replied
+endedOn t p parts = let s = partsFed (begun t p) parts .after in finished (s .stage) s
+
+-- (rules K9, K12) all that is printed
 unfoldable pub printedOn : List ℕ → List ℕ → List (List ℕ) → List ℕ
-printedOn t p parts =
-    let x = partsFed (begun t p) parts in
-    x .printed ++ finished (x .after .stage) (x .after)
+printedOn t p parts = partsFed (begun t p) parts .printed ++ endedOn t p parts .reply

@@ -4,12 +4,15 @@ use mathlib.Core.List.{List, [], _∷_, _++_, map}
 use mathlib.Core.Path.{_≡_}
 use lib.ListN.{length, take}
 use Rattle.rows.specs.contracts.Sizes.{IsTables, IsRecords}
-use Rattle.text.specs.Session.{session}
+use Rattle.rows.specs.Layout.{wordsOf, recordsOf, rowsIn}
+use Rattle.text.specs.Session.{session, sessionEnd}
+use Rattle.page.specs.Page.{page, linesFrom}
+use Rattle.entry.specs.contracts.Entries.{Given}
 use Rattle.history.specs.Kept.{joined}
 use Rattle.feed.specs.declared.Kept.{Kept}
 use Rattle.feed.specs.declared.Fed.{Fed}
 use Rattle.feed.specs.Feeding.{finished}
-use Rattle.feed.specs.contracts.Buffers.{KEPT, sessionIn, Writes, bytesOf, Feeds, Begins}
+use Rattle.feed.specs.contracts.Buffers.{KEPT, sessionIn, bytesOf, Feeds, Begins}
 
 -- ---- a run
 -- (rule K12) what a session is kept in
@@ -53,11 +56,21 @@ abbrev pub bytesPrinted : Feed → List ℕ
 bytesPrinted f = take (f .result .printed) (f .written)
 
 -- ---- what holds
--- (rule P13) from begin on, any feeds and then finish: all that is printed is the session of all that was read
+-- all that was printed and what both runs hold, by all that was read
+pub record RunsSession (read printed t p : List ℕ) : Type 0 where
+  -- (rule P13) what is printed is the session
+  pub printed-whole : printed ≡ session read
+  -- (rule P35) both runs are those of the session's end
+  pub tables-end : t ≡ wordsOf (sessionEnd read)
+  pub processes-end : p ≡ recordsOf (sessionEnd read .processes)
+  -- (rule P35) and so is the page that the tables give
+  pub page-end : linesFrom t 0 (rowsIn t) ≡ page (sessionEnd read .rows)
+
+-- (rules P13, P35) from begin on, any feeds and then finish
 unfoldable pub EveryFeeding : Type 0
 EveryFeeding =
     (h : Held) → Begins (h .kept) → length (h .buffer) ≡ KEPT → IsTables (h .tables) → IsRecords (h .processes)
-    → (fs : List Feed) → Runs h fs → (out written : List ℕ) (n : ℕ)
+    → (fs : List Feed) → Runs h fs → (out t p written : List ℕ) (n : ℕ)
     → (let last = heldAfter h fs in
-    Writes (finished (last .kept .stage) (sessionIn (last .kept) (last .buffer) (last .tables) (last .processes))) out written n
-    → joined (map bytesPrinted fs) ++ take n written ≡ session (joined (map bytesRead fs)))
+    Given (finished (last .kept .stage) (sessionIn (last .kept) (last .buffer) (last .tables) (last .processes))) out t p written n
+    → RunsSession (joined (map bytesRead fs)) (joined (map bytesPrinted fs) ++ take n written) t p)

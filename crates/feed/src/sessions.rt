@@ -13,8 +13,9 @@ ghost use mathlib.Core.Path.{_≡_};
 ghost use Prim.Native.Nat.{_≤_};
 ghost use lib.ListN.{length};
 ghost use Rattle.text.specs.contracts.Sizes.{REPLY};
+ghost use Rattle.entry.specs.contracts.Entries.{Given};
 ghost use Rattle.feed.specs.Feeding.{openingLine, callLine, byteFed, finished};
-ghost use Rattle.feed.specs.contracts.Buffers.{sessionIn, Stands, HasRoom, Ready, Writes, Moves};
+ghost use Rattle.feed.specs.contracts.Buffers.{sessionIn, Stands, HasRoom, Ready, Moves};
 ghost use Rattle.feed.specs.contracts.Buffers.{atLineStart, lineEnded, ReadsOn, Feeds, Begins};
 
 // ---- a line has ended
@@ -178,9 +179,9 @@ pub fn finish(
 ) -> usize
     requires { ⌜ Stands k (now kept) × (REPLY ≤ length (now out)) ⌝ }
     ensures within { λ r. ⌜ r ≤ length (now (out .exit)) ⌝ }
-    ensures writes { λ r. ⌜ Writes
+    ensures given { λ r. ⌜ Given
         (finished (k .stage) (sessionIn k (now (kept .entry)) (now (tables .entry)) (now (processes .entry))))
-        (now (out .entry)) (now (out .exit)) r ⌝ }
+        (now (out .entry)) (now (tables .exit)) (now (processes .exit)) (now (out .exit)) r ⌝ }
 {
     let at = k.text;
     let end = k.text + k.line;

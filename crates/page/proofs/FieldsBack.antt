@@ -99,9 +99,9 @@ unfolding isOperation isSubdirectory isClient isServer operation subdirectory cl
 kind-back k is = elim (or-cases (eqb k 1) _ is) [
   | inl op ↦ known 1 (eqb-true k 1 op) refl
   | inr more ↦ elim (or-cases (eqb k 2) _ more) [
-      | inl dir ↦ known 2 (eqb-true k 2 dir) refl
-      | inr ends ↦ elim (or-cases (eqb k 3) (eqb k 4) ends) [ inl client ↦ known 3 (eqb-true k 3 client) refl | inr server ↦ known 4 (eqb-true k 4 server) refl ]
-    ]
+    | inl dir ↦ known 2 (eqb-true k 2 dir) refl
+    | inr ends ↦ elim (or-cases (eqb k 3) (eqb k 4) ends) [ inl client ↦ known 3 (eqb-true k 3 client) refl | inr server ↦ known 4 (eqb-true k 4 server) refl ]
+  ]
 ]
   where
     known : (n : ℕ) → k ≡ n → kindIn (leftIn 6 (kindText n)) ≡ n → kindIn (leftIn 6 (kindText k)) ≡ k

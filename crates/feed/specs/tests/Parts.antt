@@ -28,7 +28,7 @@ pub record Case : Type 0 where
   pub end : String
 
 unfoldable pub passesFrom : Session → List Part → String → Bool
-passesFrom s [] end = sameList (finished (s .stage) s) (bytes end)
+passesFrom s [] end = sameList (finished (s .stage) s .reply) (bytes end)
 passesFrom s (p ∷ ps) end = let x = fed s (p .read) in sameList (x .printed) (p .printed) && passesFrom (x .after) ps end
 
 unfoldable pub passes : Case → Bool

@@ -5,7 +5,7 @@ use mathlib.Core.Path.{sym}
 use lib.Seq.{length-take-le}
 use Rattle.feed.specs.Feeding.{finished}
 use Rattle.feed.specs.contracts.Buffers.{sessionIn}
-use Rattle.feed.proofs.Moves.{finish-opening, finish-none, finish-call, finish-over}
+use Rattle.feed.proofs.Moves.{given-writes, finish-opening, finish-none, finish-call, finish-over}
 use Rattle.feed.proofs.Parts.{writes-within}
 use Rattle.feed.proofs.sessions.finish.Statement.{statement}
 use Rattle.feed.proofs.sessions.finish.Tie as tie
@@ -61,8 +61,8 @@ returns-2 c =
     let s = c .before .before .before .before .before .before .before .before .before .before .before .before .before .before .before .before .before .before in
     let n = c .before .before .before .before .before .before .tablet-open in
     let w = finish-opening (s .args .k) (s .args .kept .now) (s .args .tables .now) (s .args .processes .now) (s .args .out .now) (s .pre .0) (c .before .before .before .before .before .before .before .before .before .before .before .enum-told .given .1) _ _ _ (n .result) (n .ensures .answered (s .pre .1)) in
-    let text = finished (s .args .k .stage) (sessionIn (s .args .k) (s .args .kept .now) (s .args .tables .now) (s .args .processes .now)) in
-    (writes-within text (s .args .out .now) _ (n .result) w (c .before .out .given), w)
+    let o = finished (s .args .k .stage) (sessionIn (s .args .k) (s .args .kept .now) (s .args .tables .now) (s .args .processes .now)) in
+    (writes-within (o .reply) (s .args .out .now) _ (n .result) (given-writes o _ _ _ _ _ w) (c .before .out .given), w)
 
 same-length-4 : tie.Need-same-length-4
 same-length-4 c = search needs
@@ -78,8 +78,8 @@ returns-3 c =
     let s = c .before .before .before .before .before .before .before .before .before .before .before .before .before .before .before .before .before .before .before in
     let n = c .before .before .before .before .before .before .tablet-call in
     let w = finish-call (s .args .k) (s .args .kept .now) (s .args .tables .now) (s .args .processes .now) (s .args .out .now) (s .pre .0) (c .before .before .before .before .before .before .before .before .before .before .before .before .enum-told2 .given .1) (c .before .before .before .before .before .before .before .before .before .before .before .if1 .left) _ _ _ (n .result) (n .ensures .answered (s .pre .1)) in
-    let text = finished (s .args .k .stage) (sessionIn (s .args .k) (s .args .kept .now) (s .args .tables .now) (s .args .processes .now)) in
-    (writes-within text (s .args .out .now) _ (n .result) w (c .before .out2 .given), w)
+    let o = finished (s .args .k .stage) (sessionIn (s .args .k) (s .args .kept .now) (s .args .tables .now) (s .args .processes .now)) in
+    (writes-within (o .reply) (s .args .out .now) _ (n .result) (given-writes o _ _ _ _ _ w) (c .before .out2 .given), w)
 
 returns-4 : tie.Need-returns-4
 returns-4 c =
