@@ -17,6 +17,7 @@ pub mod manual;
 pub mod moment;
 pub mod notes;
 pub mod opening;
+pub mod page;
 pub mod random;
 pub mod refusals;
 pub mod relations;

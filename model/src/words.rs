@@ -8,16 +8,19 @@ use crate::tables::{Kind, Place, Process, Request, Row, Tables};
 
 /// The columns of the rows, 1,024 words each, in this order.
 pub const ROW_COLUMNS: usize = 10;
-const NUMBER: usize = 0;
-const KIND: usize = 1;
+pub const NUMBER: usize = 0;
+pub const KIND: usize = 1;
 const OBJECT: usize = 2;
 const OPERATION: usize = 3;
-const RIGHTS: usize = 4;
-const PLACE: usize = 5;
+pub const RIGHTS: usize = 4;
+pub const PLACE: usize = 5;
 const SOURCE: usize = 6;
 const VIA: usize = 7;
-const DEPTH: usize = 8;
+pub const DEPTH: usize = 8;
 const REQUEST: usize = 9;
+
+/// The words of a row's slot, column by column.
+pub type RowWords = [u32; ROW_COLUMNS];
 
 /// The columns of the requests, 128 words each: number, port, asker, fetched
 /// and the items.
@@ -36,7 +39,7 @@ pub const PROCESS_WORDS: usize = 3 * PROCESSES as usize;
 const C_LIST: u32 = 100;
 const SYSTEM: u32 = 200;
 
-const KINDS: [(u32, Kind); 4] = [
+pub const KINDS: [(u32, Kind); 4] = [
     (1, Kind::Operation),
     (2, Kind::Subdirectory),
     (3, Kind::Client),
@@ -78,7 +81,7 @@ pub fn place_word(place: Place) -> Option<u32> {
 }
 
 /// The words of a row's slot, column by column.
-pub fn row_words(tables: &Tables, row: &Row) -> Option<[u32; ROW_COLUMNS]> {
+pub fn row_words(tables: &Tables, row: &Row) -> Option<RowWords> {
     let (kind, _) = KINDS.into_iter().find(|(_, kind)| *kind == row.kind)?;
     let mut words = [0; ROW_COLUMNS];
     words[NUMBER] = row.number;
@@ -144,18 +147,29 @@ pub fn decode(words: &[u32], processes: &[u32]) -> Option<Tables> {
 /// The slots in use, each with its columns. A slot is in use if its number is
 /// not 0; all slots after the first unused one must be all 0.
 fn used_slots<const N: usize>(words: &[u32], slots: usize) -> Option<Vec<[u32; N]>> {
-    let slot = |at: usize| std::array::from_fn(|column| words[column * slots + at]);
-    let all: Vec<[u32; N]> = (0..slots).map(slot).collect();
+    let all: Vec<[u32; N]> = (0..slots).map(|at| slot(words, slots, at)).collect();
     let used = all.iter().take_while(|fields| fields[NUMBER] != 0).count();
     let rest_is_0 = all[used..].iter().all(|fields| *fields == [0; N]);
     rest_is_0.then(|| all[..used].to_vec())
 }
 
-fn decode_row(
-    slots: &[[u32; ROW_COLUMNS]],
-    slot: usize,
-    fields: &[u32; ROW_COLUMNS],
-) -> Option<Row> {
+/// The columns of a slot.
+fn slot<const N: usize>(words: &[u32], slots: usize, at: usize) -> [u32; N] {
+    std::array::from_fn(|column| words[column * slots + at])
+}
+
+/// (rule W6) The slots of rows before the first whose number is 0, whatever the words hold; none if
+/// the run has another length.
+pub fn slots_in_use(words: &[u32]) -> Option<Vec<RowWords>> {
+    if words.len() != TABLES_WORDS {
+        return None;
+    }
+    let slots = (0..ROWS).map(|at| slot(words, ROWS, at));
+    let used = slots.take_while(|row: &RowWords| row[NUMBER] != 0);
+    Some(used.collect())
+}
+
+fn decode_row(slots: &[RowWords], slot: usize, fields: &RowWords) -> Option<Row> {
     let (_, kind) = KINDS.into_iter().find(|(code, _)| *code == fields[KIND])?;
     let place = match fields[PLACE] {
         SYSTEM => Place::System,
@@ -180,7 +194,7 @@ fn decode_row(
 
 /// The number of the row that a source word names, which must be among the
 /// older slots.
-fn source_number(older: &[[u32; ROW_COLUMNS]], word: u32) -> Option<u32> {
+fn source_number(older: &[RowWords], word: u32) -> Option<u32> {
     match (word as usize).checked_sub(1) {
         None => Some(0),
         Some(slot) => older.get(slot).map(|fields| fields[NUMBER]),

@@ -1,7 +1,8 @@
 //! The cases of cases/, of docs/MANUAL.md and of conformance/, on the model: sessions,
-//! tables, and words at its two entry points.
+//! tables, and words at its two entry points; pages.
 
 use model::cases::{self, run, Case, Entries, Step};
+use model::page::{page, session_page, words_page};
 use model::session::{call, dump_session};
 use model::words::{call_entry, open_entry};
 use model::{run_session, Tables};
@@ -12,6 +13,7 @@ use std::path::Path;
 const MODEL: Entries = Entries {
     open: open_entry,
     call: call_entry,
+    page: words_page,
 };
 
 fn text(bytes: &[u8]) -> String {
@@ -50,6 +52,7 @@ fn cases_on_tables() {
         if case.is_session() {
             let (input, output) = case.session();
             assert_eq!(text(&run_session(&input)), text(&output), "{}", case.at);
+            told_page(case, &session_page(&input));
             compared += 1;
         }
     }
@@ -72,7 +75,15 @@ fn on_tables(case: &Case) -> bool {
     if let Some(after) = &case.after {
         assert_eq!(tables, after.tables, "{}", case.at);
     }
+    told_page(case, &page(&tables));
     true
+}
+
+/// The page is the one told, where one is.
+fn told_page(case: &Case, page: &[u8]) {
+    if let Some(told) = &case.page {
+        assert_eq!(text(page), text(told), "{}", case.at);
+    }
 }
 
 /// The dumps of conformance/: the tables after each call.
@@ -101,8 +112,11 @@ fn cases_are_read() {
     let of = |part: &str| names.iter().filter(|n| n.starts_with(part)).count();
     assert_eq!(of("conformance/sessions/"), 184);
     assert_eq!(of("conformance/tables/"), 444);
+    assert_eq!(of("conformance/pages/"), 26);
     let by_hand = cases::by_hand().unwrap();
-    assert!(by_hand.len() >= 525, "{} cases", by_hand.len());
+    assert!(by_hand.len() >= 550, "{} cases", by_hand.len());
+    let paged = by_hand.iter().filter(|c| c.page.is_some()).count();
+    assert!(paged >= 24, "{paged} pages");
     assert!(by_hand.iter().all(|c| !c.rules.is_empty()));
 }
 
@@ -116,6 +130,9 @@ fn files_are_read_as_told() {
     let read = |text: &str| cases::read_text("file", text, &Default::default());
     let good = "case: a\nrule: K1\n(open) -> (ok 0)\n(1 go 0)[cut] -> (no 2)\n";
     assert_eq!(read(good).unwrap()[0].steps[1].text(), b"(1 go 0)");
+    let paged = format!("case: a\nrule: G1\n(open) -> (ok 0)\npage:\n|{:64}|\n", "x");
+    let page = read(&paged).unwrap().remove(0).page.unwrap();
+    assert_eq!((page.len(), page[64]), (65, b'\n'));
     for bad in [
         "case: a\n(open) -> (ok 0)\n",
         "case: a\nrule: K1\n(open)\n",
@@ -123,12 +140,15 @@ fn files_are_read_as_told() {
         "case: a\nrule: K1\nnext 1\n(1 go 0)\n",
         "case: a\nrule: K1\nnxt 1\n(1 go 0) -> (no 5)\n",
         "rule: K1\n(open) -> (ok 0)\n",
+        &paged.replace('x', ""),
+        &paged.replace('|', ""),
+        &(paged.clone() + "next 1\n"),
     ] {
         assert!(read(bad).is_err(), "{bad}");
     }
 }
 
-/// The runner can fail: another answer, other words, words that a refused call changed.
+/// The runner can fail: another answer, other words, words that a refused call changed, another page.
 #[test]
 fn a_wrong_kernel_is_found() {
     let case = |text: &str| {
@@ -148,10 +168,16 @@ fn a_wrong_kernel_is_found() {
             tables[7] = 1;
             b"(no 5)\n".to_vec()
         },
+        page: words_page,
     };
     assert!(run(&refused, MODEL).is_ok() && run(&opened, MODEL).is_ok());
     assert!(run(&refused, writes).is_err() && run(&opened, writes).is_err());
     let other = case("case: a\nrule: K5\nnext 1\n(1 go 0) -> (no 4)\n");
     assert!(run(&other, MODEL).is_err());
+    let paged = case("case: a\nrule: G1\n(open) -> (ok 0)\npage:\n");
+    let pages = |page| Entries { page, ..MODEL };
+    assert!(run(&paged, MODEL).is_ok());
+    assert!(run(&paged, pages(|_| b"\n".to_vec())).is_err());
+    assert!(run(&opened, pages(|_| b"\n".to_vec())).is_err());
     assert_eq!(Tables::empty().next, 1);
 }

@@ -22,6 +22,7 @@ const SIZES: Sizes = Sizes {
     words: 10,
     histories: 5,
     lent: 3,
+    pages: 8,
 };
 
 /// Names are different, the numbers of cases are as asked, and the same seed
@@ -38,6 +39,7 @@ fn cases_of_a_seed() {
         ("sound", 52),
         ("words", 10),
         ("lent", 3),
+        ("page", 34),
     ] {
         assert_eq!(all.iter().filter(|c| c.sort() == sort).count(), count);
     }

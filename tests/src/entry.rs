@@ -1,5 +1,6 @@
 //! The product's two entry points: both lent runs of words, any bytes, and a
 //! lent reply. They answer the reply's length, 0 if too few bytes are lent for it.
+//! And its function that writes the page of the tables.
 
 use crate::raw::{self, EntryPoint};
 
@@ -17,6 +18,28 @@ pub fn open(t: &mut [u32], p: &mut [u32], text: &[u8], reply: &mut [u8]) -> usiz
 #[inline]
 pub fn call(t: &mut [u32], p: &mut [u32], line: &[u8], reply: &mut [u8]) -> usize {
     entered(raw::tablet_call, t, p, line, reply)
+}
+
+/// Whole lines of the page of these tables from the row at a slot on, as many as `lent` has room
+/// for; answers their bytes.
+pub fn lines_from(t: &[u32], from: usize, lent: &mut [u8]) -> usize {
+    unsafe { raw::tablet_page(t.as_ptr(), t.len(), from, lent.as_mut_ptr(), lent.len()) }
+}
+
+/// The bytes of a line of the page, with its line feed.
+pub const LINE_BYTES: usize = 65;
+
+/// The page of these tables, so many lines at a time.
+pub fn page(t: &[u32], lines: usize) -> Vec<u8> {
+    let mut lent = vec![0; lines * LINE_BYTES];
+    let mut page = Vec::new();
+    loop {
+        let count = lines_from(t, page.len() / LINE_BYTES, &mut lent);
+        if count == 0 {
+            return page;
+        }
+        page.extend(&lent[..count]);
+    }
 }
 
 #[inline]

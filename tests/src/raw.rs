@@ -103,4 +103,11 @@ extern "C" {
         reply: *mut u8,
         reply_len: usize,
     ) -> usize;
+    pub fn tablet_page(
+        tables: *const u32,
+        tables_len: usize,
+        from: usize,
+        page: *mut u8,
+        page_len: usize,
+    ) -> usize;
 }

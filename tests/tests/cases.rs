@@ -1,5 +1,5 @@
 //! The cases of cases/, of docs/MANUAL.md and of conformance/, on the entry points of the
-//! static library: every answer, and every word afterwards.
+//! static library: every answer, every word afterwards, and their page.
 
 use kernel::entry::{self, Point, REPLY_BYTES};
 use model::cases::{self, run, Entries};
@@ -14,7 +14,11 @@ fn replied(entry: Point, tables: &mut [u32], records: &mut [u32], text: &[u8]) -
 const KERNEL: Entries = Entries {
     open: |tables, records, text| replied(entry::open, tables, records, text),
     call: |tables, records, line| replied(entry::call, tables, records, line),
+    page: |tables| entry::page(tables, LINES),
 };
+
+/// The lines of a page that are asked for at a time.
+const LINES: usize = 7;
 
 #[test]
 fn cases_on_the_entry_points() {
@@ -27,7 +31,7 @@ fn cases_on_the_entry_points() {
             Err(said) => panic!("{said}"),
         }
     }
-    assert!(cases.len() >= 1_090, "{} cases", cases.len());
+    assert!(cases.len() >= 1_140, "{} cases", cases.len());
     assert!(
         steps >= 25_000 && without == 10,
         "{steps} steps, {without} without words"

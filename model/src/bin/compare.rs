@@ -62,6 +62,7 @@ fn written(directory: &str, cases: &[Case]) -> Outcome {
 fn claim(sort: &str) -> Claim {
     match sort {
         "history" => Claim::History,
+        "page" => Claim::Page,
         _ => Claim::Output,
     }
 }
@@ -89,6 +90,7 @@ fn sizes(options: &[&str]) -> Result<Sizes, Box<dyn std::error::Error>> {
         words: number("--words")?,
         histories: number("--histories")?,
         lent: number("--lent")?,
+        pages: number("--pages")?,
     })
 }
 

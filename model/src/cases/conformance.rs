@@ -3,7 +3,7 @@
 use super::lent::Lent;
 use super::{Case, Step};
 use crate::form::split_lines;
-use crate::session::open;
+use crate::session::{open, run_session};
 use crate::tables::Tables;
 use std::fs;
 use std::io;
@@ -32,6 +32,7 @@ pub fn session(at: String, input: Vec<u8>, output: &[u8]) -> Case {
         start: None,
         steps,
         after: None,
+        page: None,
     };
     assert!(
         answers.next().is_none(),
@@ -67,6 +68,20 @@ pub fn read(directory: &Path) -> io::Result<Vec<Case>> {
     Ok(cases)
 }
 
+/// The sessions with their pages. Nothing is told of their answers, which are the model's.
+pub fn pages(directory: &Path) -> io::Result<Vec<Case>> {
+    let mut cases = Vec::new();
+    for path in files(&directory.join("pages"), "session")? {
+        let input = fs::read(&path)?;
+        let output = run_session(&input);
+        cases.push(Case {
+            page: Some(fs::read(path.with_extension("page"))?),
+            ..session(name(&path), input, &output)
+        });
+    }
+    Ok(cases)
+}
+
 fn name(path: &Path) -> String {
     let parts: Vec<_> = path
         .iter()
@@ -89,6 +104,7 @@ fn tables_case(path: &Path, tables: String, line: Vec<u8>, after: String) -> Opt
         start: Some(lent(&tables)?),
         steps: vec![Step::Call { line, answer }],
         after: Some(lent(rest.strip_suffix(".\n")?)?),
+        page: None,
     })
 }
 

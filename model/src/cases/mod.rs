@@ -21,7 +21,7 @@ pub enum Step {
     Call { line: Vec<u8>, answer: Vec<u8> },
 }
 
-/// A case: what is lent, what is said and answered, what is lent afterwards.
+/// A case: what is lent, what is said and answered, what is there afterwards, and its page.
 #[derive(Clone, Debug)]
 pub struct Case {
     /// Where it stands, and what it is called.
@@ -35,6 +35,8 @@ pub struct Case {
     pub steps: Vec<Step>,
     /// None: nothing is said of it.
     pub after: Option<Lent>,
+    /// The page of what is there afterwards; none: nothing is said of it.
+    pub page: Option<Vec<u8>>,
 }
 
 impl Step {
@@ -101,10 +103,16 @@ pub fn of_conformance() -> io::Result<Vec<Case>> {
     conformance::read(&root().join("model/conformance"))
 }
 
+/// The sessions with their pages of conformance/, as cases.
+pub fn of_pages() -> io::Result<Vec<Case>> {
+    conformance::pages(&root().join("model/conformance"))
+}
+
 /// All of them.
 pub fn all() -> io::Result<Vec<Case>> {
     let mut cases = by_hand()?;
     cases.extend(of_manual()?);
     cases.extend(of_conformance()?);
+    cases.extend(of_pages()?);
     Ok(cases)
 }

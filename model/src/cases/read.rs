@@ -2,6 +2,7 @@
 
 use super::lent::Lent;
 use super::{Case, Step};
+use crate::page::WIDTH;
 use crate::tables::Tables;
 use std::collections::BTreeMap;
 use std::fs;
@@ -123,6 +124,7 @@ fn read_case(at: &str, lines: &[&str], named: &Named) -> Result<Case, String> {
         start: None,
         steps: Vec::new(),
         after: None,
+        page: None,
     };
     let mut reading = Reading {
         named,
@@ -148,6 +150,10 @@ fn read_case(at: &str, lines: &[&str], named: &Named) -> Result<Case, String> {
 
 impl Reading<'_> {
     fn line(&mut self, line: &str) -> Result<(), String> {
+        if let Some(page) = &mut self.case.page {
+            page.extend(page_line(line).ok_or("no line of a page")?);
+            return Ok(());
+        }
         if let Some(rules) = line.strip_prefix("rule: ") {
             self.case.rules = rules.split(", ").map(str::to_string).collect();
             return Ok(());
@@ -174,6 +180,10 @@ impl Reading<'_> {
         }
         if line == "after:" {
             self.case.after = Some(Lent::of(Tables::empty()));
+            return Ok(());
+        }
+        if line == "page:" {
+            self.case.page = Some(Vec::new());
             return Ok(());
         }
         if line.starts_with('(') || line.contains(" -> ") {
@@ -236,6 +246,12 @@ impl Reading<'_> {
             .iter()
             .any(|s| matches!(s, Step::Open { .. }))
     }
+}
+
+/// A line of a page stands between two `|`; its line feed is added.
+fn page_line(line: &str) -> Option<Vec<u8>> {
+    let line = line.strip_prefix('|')?.strip_suffix('|')?;
+    (line.len() == WIDTH).then(|| format!("{line}\n").into_bytes())
 }
 
 /// `S4, S5`: clauses of soundness.

@@ -1,20 +1,22 @@
-//! Runs a case on a kernel's two entry points.
+//! Runs a case on a kernel's two entry points and its function that writes pages.
 
 use super::lent::any_words;
 use super::{Case, Step};
+use crate::page::words_page;
 
 /// An entry point: it changes the two lent runs and gives the answer.
 pub type Entry = fn(&mut [u32], &mut [u32], &[u8]) -> Vec<u8>;
 
-/// The two entry points of a kernel.
+/// The two entry points of a kernel, and the page of words.
 #[derive(Clone, Copy)]
 pub struct Entries {
     pub open: Entry,
     pub call: Entry,
+    pub page: fn(&[u32]) -> Vec<u8>,
 }
 
 /// Every answer is the one told, a refused call leaves every word (rule K5), and the words
-/// afterwards are those told. Answers the number of steps; 0 where what the case
+/// afterwards and their page are those told (a page that is not told is the model's). Answers the number of steps; 0 where what the case
 /// lends has no words.
 pub fn run(case: &Case, kernel: Entries) -> Result<usize, String> {
     let lent = match &case.start {
@@ -42,12 +44,20 @@ pub fn run(case: &Case, kernel: Entries) -> Result<usize, String> {
             ));
         }
     }
+    let page = (kernel.page)(&tables);
+    let told_page = case.page.clone().unwrap_or_else(|| words_page(&tables));
     match case.after.as_ref().map(|after| after.words()) {
         Some(told) if told.as_ref() != Some(&(tables.clone(), records.clone())) => {
             Err(differs(case, told, (tables, records)))
         }
+        _ if page != told_page => Err(other_page(case, &page)),
         _ => Ok(case.steps.len()),
     }
+}
+
+fn other_page(case: &Case, page: &[u8]) -> String {
+    let page = String::from_utf8_lossy(page);
+    format!("{} ({}): the page is\n{page}", case.at, case.name)
 }
 
 fn text(bytes: &[u8]) -> String {

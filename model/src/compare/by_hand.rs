@@ -2,7 +2,7 @@
 
 use super::antt::{bytes, list, runs, state, state_numbers};
 use super::case::{name, same, Case};
-use super::histories;
+use super::{histories, pages};
 use crate::cases::{self, Lent, Step};
 use crate::session::{call, open};
 use crate::tables::Tables;
@@ -64,12 +64,34 @@ fn chosen(test: impl Fn(&cases::Case) -> bool) -> std::io::Result<Vec<Case>> {
     Ok(found)
 }
 
-/// What is told of answers and tables; and where it is told which clauses break, that these do and no others.
+/// What is told of answers and tables; and where it is told, of the page and of the clauses that break.
 fn claim(case: &cases::Case) -> Option<String> {
-    let told = told(case)?;
-    if case.breaks.is_empty() {
-        return Some(told);
+    let mut parts = vec![told(case)?];
+    if let Some(page) = &case.page {
+        parts.push(page_told(case, page)?);
     }
+    if !case.breaks.is_empty() {
+        parts.push(clauses_told(case)?);
+    }
+    Some(parts.join(" && "))
+}
+
+/// The page is that of the session's end; else of the tables, or the words, that the case leaves.
+fn page_told(case: &cases::Case, page: &[u8]) -> Option<String> {
+    match &case.start {
+        None => Some(pages::of_session(&case.session().0, page)),
+        Some(lent) if lent.changes.is_empty() && all_calls(case) => {
+            pages::of_tables(&after(case, lent.tables.clone())?, page)
+        }
+        Some(lent) => {
+            let (tables, records) = words_after(case, lent.words()?);
+            Some(pages::of_words(&tables, &records, page))
+        }
+    }
+}
+
+/// These clauses break in what is lent, and no others.
+fn clauses_told(case: &cases::Case) -> Option<String> {
     let lent = case.start.as_ref()?;
     let state = match lent.changes.is_empty() {
         true => state(&lent.tables)?,
@@ -78,7 +100,7 @@ fn claim(case: &cases::Case) -> Option<String> {
             format!("(stateOf {} {})", runs(&tables), runs(&records))
         }
     };
-    Some(format!("{told} && {}", clauses_alone(&state, &case.breaks)))
+    Some(clauses_alone(&state, &case.breaks))
 }
 
 /// These clauses break in the state, and no others.

@@ -27,7 +27,7 @@ impl Case {
 /// Everything is unfolded, so that the claim computes.
 const UNFOLDING: &str = "unfolding Rattle.rows.specs.Computes.computes \
 Rattle.closing.specs.Computes.computes Rattle.calls.specs.Computes.computes \
-Rattle.text.specs.Computes.computes Rattle.history.specs.Computes.computes \
+Rattle.text.specs.Computes.computes Rattle.page.specs.Computes.computes Rattle.history.specs.Computes.computes \
 Rattle.compare.specs.Help.helps";
 
 /// The name of the case of a sort with a number, from 1.

@@ -11,6 +11,7 @@ pub mod full;
 pub mod histories;
 pub mod lent;
 pub mod limits;
+pub mod pages;
 pub mod pieces;
 pub mod random_tables;
 pub mod sessions;
@@ -52,6 +53,8 @@ pub struct Sizes {
     pub words: usize,
     /// Histories of conformance sessions, and of chosen ones.
     pub histories: usize,
+    /// Random pages; 0: none of conformance/ either.
+    pub pages: usize,
 }
 
 /// All cases of a seed.
@@ -84,5 +87,6 @@ pub fn cases(seed: u64, sizes: Sizes) -> std::io::Result<Vec<Case>> {
         sizes.histories,
     )?);
     cases.extend(lent::lent(&mut rng, sizes.lent));
+    cases.extend(pages::pages(&mut rng, sizes.pages)?);
     Ok(cases)
 }

@@ -1,7 +1,7 @@
 //! Smaller sessions, to find the shortest that still shows a difference.
 
 use super::case::{name, Case};
-use super::{histories, sessions};
+use super::{histories, pages, sessions};
 use crate::call::read_call;
 use crate::form::split_lines;
 use crate::opening::{read_opening, Form};
@@ -13,6 +13,7 @@ use std::collections::BTreeSet;
 pub enum Claim {
     Output,
     History,
+    Page,
 }
 
 /// A case for each of the sessions, the shortest first.
@@ -24,6 +25,7 @@ pub fn cases(claim: Claim, sessions: Vec<Vec<u8>>) -> Vec<Case> {
         match claim {
             Claim::Output => sessions::case(name, about, s),
             Claim::History => histories::case(name, about, s),
+            Claim::Page => pages::case(name, about, s),
         }
     });
     each.collect()

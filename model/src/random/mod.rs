@@ -1,8 +1,9 @@
-//! Random sessions, damaged texts, altered tables and sound tables, from a seed; `shifted`
-//! raises their numbers.
+//! Random sessions, damaged texts, altered tables, sound tables and rows of any content, from a
+//! seed; `shifted` raises their numbers.
 
 pub mod aimed;
 pub mod alter;
+pub mod any_rows;
 pub mod damage;
 pub mod lines;
 pub mod openings;
