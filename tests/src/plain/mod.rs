@@ -9,6 +9,7 @@ pub mod find;
 mod holders;
 mod laid;
 mod opening;
+pub mod page;
 mod printed;
 pub mod questions;
 mod reader;

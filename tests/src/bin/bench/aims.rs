@@ -72,7 +72,7 @@ const FULL: fn(usize) -> bool = |rows| rows == 1024;
 const SMALL: fn(usize) -> bool = |rows| (8..=10).contains(&rows);
 const LARGE: fn(usize) -> bool = |rows| rows >= 98;
 
-const AIMS: [Aim; 26] = [
+const AIMS: [Aim; 27] = [
     aim(
         "sound of full tables: at most half of 243,662 instructions",
         Layer::Rows,
@@ -244,6 +244,14 @@ const AIMS: [Aim; 26] = [
     aim(
         "an opening: at most 1.2 of plain Rust",
         Layer::Opening,
+        "",
+        ANY,
+        Measure::Ratio,
+        1.2,
+    ),
+    aim(
+        "a page: at most 1.2 of plain Rust",
+        Layer::Page,
         "",
         ANY,
         Measure::Ratio,

@@ -15,6 +15,7 @@ mod growth;
 mod measure;
 mod on_runs;
 mod operations;
+mod page;
 mod pairs;
 mod parts;
 mod program;
@@ -42,7 +43,9 @@ fn operations(by: &mut dyn Measured) {
     calls::on_calls(by);
     whole::on_whole_calls(by);
     for rows in SIZES {
-        pairs::on_tables(&tables::tables(rows), by);
+        let tables = tables::tables(rows);
+        pairs::on_tables(&tables, by);
+        page::on_tables(&tables, by);
     }
 }
 

@@ -24,12 +24,13 @@ pub enum Layer {
     Whole,
     Pairs,
     Opening,
+    Page,
     Growth,
     Parts,
 }
 
 /// Those with a table of operations; the parts of a call have another.
-pub const LAYERS: [(Layer, &str); 7] = [
+pub const LAYERS: [(Layer, &str); 8] = [
     (Layer::Rows, "Rows: soundness, look-ups, questions, removal"),
     (Layer::Closing, "Closing"),
     (Layer::Calls, "Calls on sound tables"),
@@ -39,6 +40,7 @@ pub const LAYERS: [(Layer, &str); 7] = [
         "Sixteen pairs: comesall, and comes of each of them",
     ),
     (Layer::Opening, "Openings"),
+    (Layer::Page, "The holders' page"),
     (
         Layer::Growth,
         "Growth of a whole call with rows and with requests",

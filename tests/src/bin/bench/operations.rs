@@ -11,7 +11,7 @@ use std::hint::black_box as hidden;
 /// Two closures, a call each.
 pub struct Reads<A, B>(pub A, pub B);
 
-impl<R, A: Fn() -> R, B: Fn() -> R> Operation for Reads<A, B> {
+impl<R, A: FnMut() -> R, B: FnMut() -> R> Operation for Reads<A, B> {
     fn proved(&mut self, calls: usize) {
         for _ in 0..calls {
             hidden((self.0)());
