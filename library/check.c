@@ -1,5 +1,5 @@
-/* check.c: what tablet.h promises of lengths, short replies, bytes after an answer, pairs and the stack, each checked
- * once. */
+/* check.c: what tablet.h promises of lengths, short replies, bytes after an answer, pairs, pages and the stack, each
+ * checked once. */
 #include "tablet.h"
 
 #include <stdio.h>
@@ -194,6 +194,75 @@ static void pairs(void) {
     check("the last out of range", answered(call(t, p, line, 256), "(no 3)\n") && unchanged());
 }
 
+/* ---- the page */
+static uint8_t page[TABLET_PAGE_BYTES + 1];
+
+/* every kind; a node, a process of one digit and one of two, the system */
+static const char *const sheet[] = {
+    "         1 op     node 1    7  1                                \n",
+    "         2 dir    node 1    3  1                                \n",
+    "         3 op     proc 1    7  2                                \n",
+    "         4 client proc 1    0  3                                \n",
+    "         5 server proc 64   0  3                                \n",
+    "         7 op     system    3  4                                \n",
+};
+
+#define SHEET_ROWS (sizeof sheet / sizeof *sheet)
+
+static size_t page_from(size_t tables_len, size_t from, size_t page_len) {
+    memset(page, '#', sizeof page);
+    memcpy(tables_before, tables, sizeof tables);
+    return tablet_page(tables, tables_len, from, page, page_len);
+}
+
+/* the lines of the sheet from one on, so many, and every byte after them is as it was; no word is another */
+static int shows(size_t length, size_t from, size_t count) {
+    if (length != count * TABLET_PAGE_LINE_BYTES || memcmp(tables, tables_before, sizeof tables) != 0)
+        return 0;
+    for (size_t i = 0; i < count; i++)
+        if (memcmp(page + i * TABLET_PAGE_LINE_BYTES, sheet[from + i], TABLET_PAGE_LINE_BYTES) != 0)
+            return 0;
+    for (size_t i = length; i < sizeof page; i++)
+        if (page[i] != '#')
+            return 0;
+    return 1;
+}
+
+/* a sheet of six rows: at once, line by line, in room for less, from rows that are not there, of other lengths */
+static void pages(void) {
+    const size_t t = TABLET_TABLES_WORDS, p = TABLET_PROCESSES_WORDS, line = TABLET_PAGE_LINE_BYTES;
+    open_text(t, p, "(node 1 (op 64 0 7) (dir 1 3))\n(process 1 1)\n(process 64 1)\n(open)\n", 256);
+    call(t, p, "(1 hold 1)\n", 256);
+    call(t, p, "(1 port 3)\n", 256);
+    call(t, p, "(1 ask 4 (3 3))\n", 256);
+    check("a page", shows(page_from(t, 0, TABLET_PAGE_BYTES), 0, SHEET_ROWS));
+    check("in room for it alone", shows(page_from(t, 0, SHEET_ROWS * line), 0, SHEET_ROWS));
+    for (size_t i = 0; i < SHEET_ROWS; i++)
+        check("line by line", shows(page_from(t, i, line), i, 1));
+    check("no row is left", shows(page_from(t, SHEET_ROWS, line), 0, 0));
+    check("from far on", shows(page_from(t, SIZE_MAX, TABLET_PAGE_BYTES), 0, 0));
+    check("no room for a line", shows(page_from(t, 0, line - 1), 0, 0) && shows(page_from(t, 0, 0), 0, 0));
+    check("room for two and a part", shows(page_from(t, 1, 3 * line - 1), 1, 2));
+    check("tables too short", shows(page_from(t - 1, 0, TABLET_PAGE_BYTES), 0, 0));
+    check("tables too long", shows(page_from(t + 1, 0, TABLET_PAGE_BYTES), 0, 0));
+    check("no tables", shows(page_from(0, 0, TABLET_PAGE_BYTES), 0, 0));
+    open_text(t, p, "(node 1)\n(node 1)\n(open)\n", 256);
+    check("after a refused opening", shows(page_from(t, 0, TABLET_PAGE_BYTES), 0, 0));
+}
+
+/* words that are not sound, every slot in use */
+static void any_page(void) {
+    const char *widest = "4294967295                 95 95                                \n";
+    memset(tables, 0xff, sizeof tables);
+    size_t length = page_from(TABLET_TABLES_WORDS, 0, TABLET_PAGE_BYTES + 1);
+    check("the longest page", length == TABLET_PAGE_BYTES && page[length] == '#');
+    int same = 1;
+    for (size_t at = 0; at < length; at += TABLET_PAGE_LINE_BYTES)
+        same &= memcmp(page + at, widest, TABLET_PAGE_LINE_BYTES) == 0;
+    check("of words of any content", same);
+}
+
+/* ---- the stack */
 /* a stack of its own, filled with a pattern, shows how much of it was used */
 static unsigned char stack[4 * TABLET_STACK_BYTES];
 static ucontext_t here, there;
@@ -206,6 +275,8 @@ static void on_that_stack(void) {
     longest();
     most_pairs();
     pairs();
+    pages();
+    any_page();
 }
 
 static size_t stack_used(void) {

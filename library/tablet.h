@@ -1,12 +1,12 @@
-/* tablet.h: the C interface of the kernel, two functions over words that the caller owns (rules: docs/MANUAL.md).
+/* tablet.h: the C interface of the kernel, three functions over words that the caller owns (rules: docs/MANUAL.md).
  *
  * Words. The tables are TABLET_TABLES_WORDS words of 32 bits, the process records TABLET_PROCESSES_WORDS. The caller
  * owns both runs and lends them for one call. Lengths are counts of elements: words of the runs, bytes of the others.
  *
- * Reply. Each function writes its answer, one line with its line feed, to the front of `reply` and returns its length.
- * The bytes after the answer stay as they were; there is no zero byte at its end. Lend TABLET_REPLY_BYTES or more. If
- * `reply_len` is less, 0 is returned and nothing is read or written. The longest answer is that of a chain with twelve
- * numbers of ten digits, 137 bytes; that of a comesall has 37 at most.
+ * Reply. tablet_open and tablet_call write their answer, one line with its line feed, to the front of `reply` and
+ * return its length. The bytes after the answer stay as they were; there is no zero byte at its end. Lend
+ * TABLET_REPLY_BYTES or more. If `reply_len` is less, 0 is returned and nothing is read or written. The longest answer
+ * is that of a chain with twelve numbers of ten digits, 137 bytes; that of a comesall has 37 at most.
  *
  * Lines. The thirteen calls are (p go e), (p hold s), (p register e), (p drop e), (p port e), (p close c),
  * (p ask c (e r) ..), (p fetch v), (p answer v x) with x 1 for a request served and 0 for one declined, (p revoke q),
@@ -21,14 +21,22 @@
  * of another length is (no 1), and (no 1 0) of an opening, which sets that run to 0. A refused call changes no word. A
  * refused opening leaves empty tables. Equal words and equal bytes give equal answers and equal words afterwards.
  *
+ * Page. tablet_page writes the holders' page of the tables: a line a row, the oldest row first, each of
+ * TABLET_PAGE_LINE_BYTES bytes with its line feed. In a line the number stands in columns 1 to 10, right-aligned; the
+ * kind, op, dir, client or server, in 12 to 17; the place, node n, proc n or system, in 19 to 26; the rights in 28 to
+ * 29 and the depth in 31 to 32, right-aligned; all other columns up to 64 are spaces. It reads words of any content:
+ * the rows are the slots before the first whose number is 0, a code that is no kind or no place leaves its columns
+ * spaces, and of a number with more digits than columns the last ones are shown. It does not ask whether the words are
+ * sound; tablet_call does.
+ *
  * What the caller must see to. Each pointer is to as many elements as its length says (a length of 0 allows any pointer
- * that is not null); the words are aligned as uint32_t; no two of the four ranges overlap.
+ * that is not null); the words are aligned as uint32_t; no two of the ranges overlap.
  *
  * Threads. The functions keep nothing: no global state, no allocation, no lock, no input or output. Any number of
  * threads may call them at once, each on its own words. On one pair of runs one call may run at a time; nobody else
- * writes or reads these words meanwhile.
+ * writes or reads these words meanwhile. Pages of one run of tables may be written by several threads at once.
  *
- * Stack. TABLET_STACK_BYTES suffice for either function.
+ * Stack. TABLET_STACK_BYTES suffice for each function.
  */
 #ifndef TABLET_H
 #define TABLET_H
@@ -50,6 +58,10 @@
 /* a comesall has at most so many pairs */
 #define TABLET_MOST_PAIRS 16
 
+/* a line of the page with its line feed; a page of 1,024 rows, the longest */
+#define TABLET_PAGE_LINE_BYTES 65
+#define TABLET_PAGE_BYTES 66560
+
 #ifdef __cplusplus
 extern "C" {
 #endif
@@ -64,6 +76,13 @@ size_t tablet_open(uint32_t *tables, size_t tables_len, uint32_t *processes, siz
  * order of the pairs: what comes answers of it, 1 or 0, or - where comes is (no 7); or (no k), k from 1 to 18. */
 size_t tablet_call(uint32_t *tables, size_t tables_len, uint32_t *processes, size_t processes_len, const uint8_t *line,
                    size_t line_len, uint8_t *reply, size_t reply_len);
+
+/* Writes the page from the row at slot `from` on (the oldest row is at slot 0) to the front of `page`: as many whole
+ * lines as there is room for. Returns their bytes, 0 where no row is left; the bytes after them stay as they were, and
+ * no word of the tables is written. Lend TABLET_PAGE_BYTES for a whole page, or TABLET_PAGE_LINE_BYTES or more and call
+ * again, `from` raised by the lines that were written. If the tables have another length, 0 is returned and nothing is
+ * written. */
+size_t tablet_page(const uint32_t *tables, size_t tables_len, size_t from, uint8_t *page, size_t page_len);
 
 #ifdef __cplusplus
 }

@@ -1,6 +1,6 @@
 //! Proves and builds the Rattle crates `test_exports` and `entry` as static
 //! libraries, and links them; each defines its exported names alone. Proves and
-//! builds the program `tablet`, which the tests start.
+//! builds the programs `tablet` and `holders`, which the tests start.
 
 use std::path::{Path, PathBuf};
 use std::process::Command;
@@ -16,8 +16,10 @@ fn main() {
         println!("cargo:rustc-link-lib=static={library}");
     }
     println!("cargo:rustc-link-search=native={}", out.display());
-    let program = built(root, &out, ["check", "tablet"], "bin/tablet");
-    println!("cargo:rustc-env=TABLET={}", program.display());
+    for (program, name) in [("tablet", "TABLET"), ("holders", "HOLDERS")] {
+        let path = built(root, &out, ["check", program], &format!("bin/{program}"));
+        println!("cargo:rustc-env={name}={}", path.display());
+    }
     for source in ["crates", "crates.txt"] {
         println!("cargo:rerun-if-changed={}", root.join(source).display());
     }

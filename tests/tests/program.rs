@@ -3,46 +3,25 @@
 //!
 //!     cargo test --release --offline --manifest-path tests/Cargo.toml --test program -- --ignored
 
+mod common;
+
+use common::pipes::{self, from_directory, onto_full, TABLET};
 use model::random::damage::damage;
 use model::random::{session, Rng, PROFILES};
 use model::run_session;
 use std::fs;
 use std::io::{BufRead, BufReader, Read, Write};
 use std::path::Path;
-use std::process::{Child, ChildStdin, Command, Stdio};
+use std::process::Child;
 use std::thread;
 
-/// The program, which build.rs had proved and built.
-const PROGRAM: &str = env!("TABLET");
-
 fn started() -> Child {
-    Command::new(PROGRAM)
-        .stdin(Stdio::piped())
-        .stdout(Stdio::piped())
-        .stderr(Stdio::piped())
-        .spawn()
-        .expect("the program starts")
-}
-
-/// Hands the input over in parts of this size. After a refused opening the program reads no more, so a write may fail.
-fn hand_over(mut to: ChildStdin, input: &[u8], size: usize) {
-    for part in input.chunks(size) {
-        if to.write_all(part).is_err() {
-            return;
-        }
-    }
+    pipes::started(TABLET)
 }
 
 /// What the program prints on an input that comes in parts of this size.
 fn printed(input: &[u8], size: usize) -> Vec<u8> {
-    let mut program = started();
-    let to = program.stdin.take().expect("a pipe");
-    let input = input.to_vec();
-    let feeder = thread::spawn(move || hand_over(to, &input, size));
-    let output = program.wait_with_output().expect("the program ends");
-    feeder.join().expect("the input is handed over");
-    assert!(output.status.success() && output.stderr.is_empty());
-    output.stdout
+    pipes::printed(TABLET, input, size)
 }
 
 fn conformance() -> Vec<(String, Vec<u8>, Vec<u8>)> {
@@ -139,29 +118,29 @@ fn after_a_refused_opening_it_reads_no_more() {
 /// Where nothing can be written, it says so and ends.
 #[test]
 fn an_output_that_is_full_ends_it() {
-    let full = fs::OpenOptions::new().write(true).open("/dev/full");
-    let mut program = Command::new(PROGRAM)
-        .stdin(Stdio::piped())
-        .stdout(full.expect("a device"))
-        .stderr(Stdio::piped())
-        .spawn()
-        .expect("the program starts");
-    let mut to = program.stdin.take().expect("a pipe");
-    to.write_all(b"(node 1)\n(open)\n").expect("it reads");
-    let output = program.wait_with_output().expect("the program ends");
+    let output = onto_full(TABLET, b"(node 1)\n(open)\n", false);
     assert_eq!(output.stderr, b"tablet: the output cannot be written\n");
-    drop(to);
 }
 
-/// A reader that leaves ends it.
+#[test]
+fn an_input_that_cannot_be_read() {
+    let output = from_directory(TABLET);
+    assert_eq!(output.stderr, b"tablet: the input cannot be read\n");
+    assert_eq!(output.stdout, b"");
+}
+
+/// A reader that leaves ends it, at the next answer at the latest. (While another test starts a program, that one holds
+/// the reader's end for a moment too, so an answer may still find a reader.)
 #[test]
 fn an_output_that_is_closed_ends_it() {
     let mut program = started();
     drop(program.stdout.take());
     let mut to = program.stdin.take().expect("a pipe");
     to.write_all(b"(node 1)\n(open)\n").expect("it reads");
-    program.wait().expect("it ends while its input is open");
-    drop(to);
+    while program.try_wait().expect("it is known").is_none() {
+        let _ = to.write_all(b"(comes 1 1)\n");
+        thread::sleep(std::time::Duration::from_millis(1));
+    }
 }
 
 /// The kilobytes that a process has in memory, from its status.

@@ -11,6 +11,7 @@ pub enum Command {
     Draw { form: Form, focus: Focus },
     Page,
     List { what: What, json: bool },
+    Holders,
 }
 
 /// How a drawing is written.
@@ -40,7 +41,7 @@ pub struct Args {
 }
 
 /// The options of each command, and whether a value follows.
-const OPTIONS: [(&str, &[(&str, bool)]); 5] = [
+const OPTIONS: [(&str, &[(&str, bool)]); 6] = [
     ("explain", &[("--tables", true)]),
     ("what-if", &[("--tables", true), ("--after", true)]),
     (
@@ -67,6 +68,7 @@ const OPTIONS: [(&str, &[(&str, bool)]); 5] = [
             ("--json", false),
         ],
     ),
+    ("holders", &[("--tables", true), ("--after", true)]),
 ];
 
 /// Options given, each with its value, and the words that are no options.
@@ -173,6 +175,7 @@ fn command_of(name: &str, given: &Given) -> Result<Command, String> {
             Ok(Command::List { what, json })
         }
         "page" => Ok(Command::Page),
+        "holders" => Ok(Command::Holders),
         _ => Ok(Command::Explain),
     }
 }

@@ -103,6 +103,10 @@ fn show(args: &Args, session: Session, out: &mut dyn Write) -> Result<(), Proble
         }
         Command::WhatIf { line } => what_if(&played(session, args.after)?, line, out)?,
         Command::Page => page(session, out)?,
+        Command::Holders => {
+            let session = played(session, args.after)?;
+            out.write_all(session.holders().as_bytes())?;
+        }
         Command::Help | Command::Explain => {}
     }
     Ok(())

@@ -83,6 +83,11 @@ impl Session {
         &self.state
     }
 
+    /// (rule G2) The holders' page after the calls made so far, as the kernel writes it.
+    pub fn holders(&self) -> String {
+        self.tables.page()
+    }
+
     /// The calls made so far.
     pub fn calls(&self) -> usize {
         self.calls

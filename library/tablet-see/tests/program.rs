@@ -305,6 +305,21 @@ fn list_has_each_part() {
     );
 }
 
+/// The page of the example, of saved tables, and after the opening alone.
+#[test]
+fn holders_is_the_page() {
+    let page = include_str!("../../../examples/session.page");
+    assert_eq!(shown(&["holders"]), page);
+    let opened = shown(&["holders", "--after", "0"]);
+    assert_eq!(opened, page[..3 * 65]);
+    let tables = Tables::open("(node 9 (dir 9 1))\n(process 1 9)\n(open)\n").expect("opened");
+    let saved = file("page", &tables.save());
+    let text = printed(&["holders", "--tables", &saved], b"(1 hold 1)\n").expect("it runs");
+    let lines: Vec<&str> = text.lines().map(str::trim_end).collect();
+    assert_eq!(lines[0], "         1 dir    node 9    1  1");
+    assert_eq!(lines[1..], ["         2 dir    proc 1    1  2"]);
+}
+
 #[test]
 fn wrong_command_lines_and_numbers_are_told() {
     let usage = |args: &[&str], told: &str| {
@@ -384,7 +399,7 @@ fn well_formed(json: &str) -> bool {
 
 #[test]
 fn no_input_makes_it_panic() {
-    let commands: [&[&str]; 10] = [
+    let commands: [&[&str]; 11] = [
         &["explain"],
         &["what-if", "(1 revoke 9)"],
         &["what-if", "(chain 9)"],
@@ -395,6 +410,7 @@ fn no_input_makes_it_panic() {
         &["page"],
         &["list"],
         &["list", "--json"],
+        &["holders"],
     ];
     for seed in 0..150u64 {
         let mut rng = Rng::new(seed);

@@ -1,4 +1,4 @@
-//! The boundary to the proved static library, and the only `unsafe` code: the two functions of `tablet.h` on slices.
+//! The boundary to the proved static library, and the only `unsafe` code: the three functions of `tablet.h` on slices.
 
 use crate::layout::REPLY_BYTES;
 
@@ -24,6 +24,13 @@ mod raw {
             line_len: usize,
             reply: *mut u8,
             reply_len: usize,
+        ) -> usize;
+        pub fn tablet_page(
+            tables: *const u32,
+            tables_len: usize,
+            from: usize,
+            page: *mut u8,
+            page_len: usize,
         ) -> usize;
     }
 }
@@ -78,4 +85,19 @@ pub fn call(tables: &mut [u32], processes: &mut [u32], line: &[u8]) -> Reply {
         )
     };
     Reply { bytes, length }
+}
+
+/// (rule G5) Writes the page from the row at a slot on to the front of the lent bytes, whatever the words hold: as many
+/// whole lines as there is room for. Gives their bytes.
+pub fn page(tables: &[u32], from: usize, page: &mut [u8]) -> usize {
+    // Safety: as in `open`; the words are only read.
+    unsafe {
+        raw::tablet_page(
+            tables.as_ptr(),
+            tables.len(),
+            from,
+            page.as_mut_ptr(),
+            page.len(),
+        )
+    }
 }

@@ -12,6 +12,10 @@ pub const REPLY_BYTES: usize = 256;
 pub const LINE_BYTES: usize = 255;
 /// (rule X15) A `comesall` has at most so many pairs.
 pub const MOST_PAIRS: usize = 16;
+/// (rule G2) A line of the page, with its line feed.
+pub const PAGE_LINE_BYTES: usize = 65;
+/// (rules G2, X7) The longest page, of 1,024 rows.
+pub const PAGE_BYTES: usize = 66_560;
 
 /// (rules R5, X9) The last number of a row or a request; the next number is at most one more.
 pub const LAST_NUMBER: u32 = 4_294_967_294;

@@ -2,7 +2,7 @@
 
 use crate::answer::Answer;
 use crate::kernel;
-use crate::layout::{PROCESSES_WORDS, TABLES_WORDS};
+use crate::layout::{PAGE_BYTES, PROCESSES_WORDS, TABLES_WORDS};
 use crate::refusal::Refusal;
 use crate::state::State;
 use crate::words::{LoadError, Words};
@@ -164,6 +164,32 @@ impl<'a> Tables<'a> {
             Answer::Ok(values) => Ok(values.iter().map(|v| v.map(|n| n == 1)).collect()),
             Answer::No(refusal) => Err(refusal),
         }
+    }
+
+    /// (rules G2, G3) The holders' page, as the program `holders` prints it: a line of 64 columns for each row, the
+    /// oldest first, with its number, kind, place, rights and depth.
+    ///
+    /// ```
+    /// # use tablet::Tables;
+    /// let mut tables = Tables::open("(node 1 (op 2 5 7))\n(process 1 1)\n(process 2 1)\n(open)\n")?;
+    /// tables.call("(1 hold 1)\n");
+    /// tables.call("(1 port 2)\n");
+    /// let page = tables.page();
+    /// let lines: Vec<&str> = page.lines().map(str::trim_end).collect();
+    /// assert_eq!(lines, [
+    ///     "         1 op     node 1    7  1",
+    ///     "         2 op     proc 1    7  2",
+    ///     "         3 client proc 1    0  3",
+    ///     "         4 server proc 2    0  3",
+    /// ]);
+    /// assert!(page.lines().all(|line| line.len() == 64));
+    /// # Ok::<(), tablet::Refusal>(())
+    /// ```
+    pub fn page(&self) -> String {
+        let mut page = vec![0; PAGE_BYTES];
+        let length = kernel::page(self.tables.words(), 0, &mut page);
+        page.truncate(length);
+        String::from_utf8(page).expect("the kernel writes letters, digits and spaces")
     }
 
     /// The state that the words say, to be read.

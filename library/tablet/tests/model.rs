@@ -2,15 +2,17 @@
 
 use model::answer::Answer;
 use model::call::{Call, Pair};
+use model::compare::full::with_rows;
 use model::limits::LAST_NUMBER;
 use model::random::pairs::comesall;
+use model::random::shifted::near_limit;
 use model::random::{alter, session, Rng, SMALL};
 use model::relations::first_chain;
 use model::session::{call_sound, Session};
 use model::tables::Kind as ModelKind;
 use model::words::{decode, encode};
 use std::collections::{BTreeMap, BTreeSet};
-use tablet::layout::{LINE_BYTES, MOST_PAIRS, NEXT_AT};
+use tablet::layout::{LINE_BYTES, MOST_PAIRS, NEXT_AT, PAGE_LINE_BYTES, ROWS};
 use tablet::{Kind, LoadError, Place, State, Tables, Words};
 
 /// The opening text at the front of a session, through the line `(open)`.
@@ -211,6 +213,26 @@ fn the_longest_comesall() {
     assert_eq!(told(&mut tables, &last), Err(2));
 }
 
+/// (rules G2, G3, G4) The page of random sessions, of full tables with the last numbers, and of none.
+#[test]
+fn pages_are_those_of_the_model() {
+    let random = (0..40).map(|seed| model::random::tables(seed, SMALL[seed as usize % 4], 80));
+    let full = [with_rows(ROWS), model::Tables::empty()];
+    let mut lines = 0;
+    for tables in random.chain(full) {
+        for tables in [near_limit(&tables, 0), tables] {
+            let words = words_of(&tables);
+            let kernel = Tables::from_words(words.clone()).expect("sound tables");
+            let page = kernel.page();
+            assert_eq!(page.as_bytes(), model::page::page(&tables));
+            assert_eq!(page.len(), tables.rows.len() * PAGE_LINE_BYTES);
+            assert_eq!(kernel.words(), words);
+            lines += tables.rows.len();
+        }
+    }
+    assert!(lines >= 2 * ROWS + 800, "{lines}");
+}
+
 #[test]
 fn words_are_taken_if_they_are_sound() {
     let mut counts = [0, 0];
@@ -293,6 +315,10 @@ fn sizes_are_those_of_the_model() {
         limits::PAIRS,
     ];
     assert_eq!([ROWS, REQUESTS, ITEMS, LINE_BYTES, MOST_PAIRS], limits);
+    assert_eq!(
+        [PAGE_LINE_BYTES, PAGE_BYTES],
+        [model::page::LINE, ROWS * model::page::LINE]
+    );
     assert_eq!(PROCESSES, limits::PROCESSES as usize);
     assert_eq!(LAST_NUMBER, limits::LAST_NUMBER);
 }

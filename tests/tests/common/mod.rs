@@ -10,6 +10,7 @@ pub mod entries;
 pub mod entry_run;
 pub mod features;
 pub mod performed;
+pub mod pipes;
 pub mod refused;
 pub mod tried;
 
