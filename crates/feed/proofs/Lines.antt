@@ -1,19 +1,17 @@
 -- Lines across the bytes read and the bytes to come, and what is kept of them.
-use Prim.Native.Nat.{ℕ, zero, suc, _+_, _<_, _≤_}
+use Prim.Native.Nat.{ℕ, suc, _+_, _<_, _≤_}
 use native.Mathlib.Omega.{arith}
 use mathlib.Core.Bool.{Bool, true, false, not}
-use mathlib.Core.List.{List, [], _∷_, _++_, map, append-assoc, append-nil}
+use mathlib.Core.List.{List, [], _∷_, _++_, map, append-assoc}
 use mathlib.Core.Path.{_≡_, refl, sym, ap, _∙_}
 use lib.Dec.{eqb, ltb}
-use lib.ListN.{length, take, length-append, length-take}
+use lib.ListN.{length, length-append, length-take}
 use lib.Seq.{take-all, length-take-le, take-append-le}
 use borrow.Author.Tests.{lt-ltb, ltb-true, ltb-false}
-use Rattle.rows.specs.Lists.{all}
 use Rattle.rows.specs.Limits.{mostBytes}
-use Rattle.rows.proofs.Bools.{and-l, and-r, and-i, not-t}
 use Rattle.text.specs.declared.Reading.the-variants.{Refused}
 use Rattle.text.specs.CallLines.{readingOf}
-use Rattle.text.specs.Opening.{withByte, linesOf, lineOf, badLine}
+use Rattle.text.specs.Opening.{linesOf, lineOf, badLine}
 use Rattle.text.proofs.Lines.{plain, headOf, tailOf, with-byte, lines-plain, plain-append, plain-take, line-ends, plain-one}
 use Rattle.feed.specs.Feeding.{keptOfLine, cut}
 

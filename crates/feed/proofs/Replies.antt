@@ -5,7 +5,7 @@ use mathlib.Core.List.{List, [], _∷_, _++_, map, append-nil}
 use mathlib.Core.Path.{_≡_, refl, sym, ap, subst, _∙_}
 use lib.Dec.{eqb}
 use Rattle.rows.specs.Tables.{State, empty}
-use Rattle.rows.specs.Layout.{rightLengths, soundWords, stateOf, wordsOf, recordsOf}
+use Rattle.rows.specs.Layout.{rightLengths, soundWords, stateOf}
 use Rattle.tables.proofs.Sound.{Sound, sound-open}
 use Rattle.text.specs.declared.Reading.{Reading}
 use Rattle.text.specs.Opening.{Form, Line, lastLine, formLine, badLine, FirstPass, readTo, stoppedBy, Opening, opens, refusedAt, linesOf, lineOf, formRefusal, firstPass, missingAt, secondPass, openingOf}

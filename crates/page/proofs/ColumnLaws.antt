@@ -1,5 +1,5 @@
 -- Laws of columns: a text filled in from the left, a number from the right, a field written over spaces.
-use Prim.Native.Nat.{ℕ, zero, suc, _+_, _*_, _-_, _/_, _%_, _^_, _<_, _≤_}
+use Prim.Native.Nat.{ℕ, zero, suc, _+_, _-_, _/_, _%_, _^_, _<_, _≤_}
 use native.Mathlib.Numerals.{add-one}
 use native.Mathlib.Nat.{zero-add, pow-suc, lt-irrefl}
 use native.Mathlib.Decide.{decLt}
@@ -8,8 +8,8 @@ use mathlib.Core.Bool.{true}
 use lib.Dec.{leb}
 use mathlib.Core.List.{List, [], _∷_, _++_, append-nil, append-assoc}
 use mathlib.Core.Path.{_≡_, refl, sym, ap, _∙_}
-use lib.ListN.{length, getD, take, drop, set, replicate, length-append, length-drop, length-set, length-replicate, getD-replicate, replicate-append-replicate, List·getD-append}
-use lib.Seq.{paste, paste-suc, take-all, take-at, drop-at, drop-append-le, take-append-add, drop-append-add, getD-append-add, length-take-le, drop-length}
+use lib.ListN.{length, getD, take, drop, set, length-append, length-drop, length-set, length-replicate, getD-replicate, replicate-append-replicate, List·getD-append}
+use lib.Seq.{paste, paste-suc, take-at, drop-at, drop-append-le, take-append-add, getD-append-add, length-take-le, drop-length}
 use borrow.Rule.Slice.PartMut.{putMid}
 use borrow.Author.Tests.{ne-eqb, lt-ltb, le-ltb, leb-true}
 use Rattle.rows.specs.Lists.{between}
@@ -19,7 +19,7 @@ use Rattle.rows.proofs.Bools.{and-l, and-r}
 use Rattle.text.specs.Answers.{decimal, digitsOf}
 use Rattle.text.proofs.ReplyLaws.{decimal-more, decimal-one, drop-stored}
 use Rattle.page.specs.Page.{spaces, leftIn, rightIn}
-use Rattle.page.specs.contracts.Columns.{WIDTH, PLACE-COLUMNS, NAME, byteOrSpace, digitOrSpace}
+use Rattle.page.specs.contracts.Columns.{PLACE-COLUMNS, NAME, byteOrSpace, digitOrSpace}
 
 -- ---- spaces
 pub spaces-long : (n : ℕ) → length (spaces n) ≡ n

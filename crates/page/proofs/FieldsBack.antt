@@ -6,9 +6,8 @@ use native.Mathlib.Omega.{arith}
 use mathlib.Core.Bool.{Bool, true, false, cond, _||_}
 use mathlib.Core.List.{List, [], _∷_, _++_}
 use mathlib.Core.Path.{_≡_, refl, sym, ap, _∙_}
-use lib.Dec.{eqb, leb}
-use lib.ListN.{length, take, drop, length-append}
-use lib.Seq.{drop-at, take-at, drop-append-le, take-append-le, take-append-add, length-take-le}
+use lib.Dec.{eqb}
+use lib.ListN.{length, take, length-append}
 use borrow.Author.Tests.{ne-eqb, eqb-true}
 use Rattle.rows.specs.Lists.{sameList, bytes}
 use Rattle.rows.specs.Codes.{operation, subdirectory, clientEnd, serverEnd, isOperation, isSubdirectory, isClient, isServer, inNode, inClist, withSystem, isNode, isClist, isSystem, ownerOf}
@@ -17,8 +16,8 @@ use Rattle.rows.proofs.Bools.{or-cases}
 use Rattle.text.specs.Answers.{decimal, digitsOf}
 use Rattle.text.proofs.ReplyLaws.{decimal-more, decimal-one}
 use Rattle.page.specs.Page.{spaces, leftIn, rightIn, kindText, placeText}
-use Rattle.page.specs.ReadBack.{columns, worth, numberIn, kindIn, placeIn}
-use Rattle.page.proofs.ColumnLaws.{spaces-long, spaces-join, spaces-take, right-fits, take-spaced, one-digit, two-digits, node-short, clist-owner}
+use Rattle.page.specs.ReadBack.{worth, numberIn, kindIn, placeIn}
+use Rattle.page.proofs.ColumnLaws.{right-fits, take-spaced, one-digit, two-digits, node-short, clist-owner}
 
 -- ---- numbers
 worth-append : (n : ℕ) (xs ys : List ℕ) → worth n (xs ++ ys) ≡ worth (worth n xs) ys

@@ -3,11 +3,11 @@ use Prim.Native.Nat.{ℕ, zero, suc, _+_, _-_, _/_, _%_, _^_, _<_, _≤_}
 use native.Mathlib.Decide.{decLt}
 use native.Mathlib.Omega.{arith}
 use mathlib.Core.Bool.{Bool, true, false, not, cond}
-use mathlib.Core.List.{List, [], _∷_, _++_, map, append-assoc}
-use mathlib.Core.Path.{_≡_, refl, sym, ap, _∙_}
+use mathlib.Core.List.{List, [], _∷_, _++_, map}
+use mathlib.Core.Path.{_≡_, refl, ap, _∙_}
 use lib.Dec.{eqb}
-use lib.ListN.{length, take, drop, length-append, length-drop}
-use lib.Seq.{drop-at, take-at, drop-append-le, drop-append-add, take-append-le}
+use lib.ListN.{length, take, drop, length-drop}
+use lib.Seq.{take-at, drop-append-le, drop-append-add, take-append-le}
 use borrow.Author.Tests.{ne-eqb}
 use Rattle.rows.specs.Lists.{all, bytes}
 use Rattle.rows.proofs.Bools.{and-r}
@@ -19,7 +19,7 @@ use Rattle.text.proofs.Lines.{plain, plain-append, plain-take, plain-byte, line
 use Rattle.page.specs.declared.Shown.{Shown}
 use Rattle.page.specs.Page.{spaces, leftIn, rightIn, kindText, placeText, lineOf, pageOf}
 use Rattle.page.specs.ReadBack.{columns, numberIn, kindIn, placeIn, fieldsOf, readBack}
-use Rattle.page.proofs.ColumnLaws.{spaces-long, left-long, right-long}
+use Rattle.page.proofs.ColumnLaws.{left-long, right-long}
 use Rattle.page.proofs.PageLaws.{line-long}
 use Rattle.page.proofs.FieldsBack.{right-back, ten-digits, below-hundred, isKind, kind-back, isPlace, place-back}
 

@@ -6,9 +6,8 @@ use mathlib.Core.Bool.{Bool, true, false, cond, _&&_, _||_}
 use mathlib.Core.Logic.{inl, inr}
 use mathlib.Core.List.{List, [], _∷_, _++_, map, reverse, reverse-cons, reverse-reverse, append-assoc, append-nil}
 use mathlib.Core.Path.{_≡_, refl, sym, ap, _∙_}
-use lib.Dec.{eqb, leb, ltb}
-use lib.ListN.{length}
-use borrow.Author.Tests.{leb-true, ltb-true}
+use lib.Dec.{eqb, leb}
+use borrow.Author.Tests.{leb-true}
 use Rattle.rows.specs.declared.Row.{Row}
 use Rattle.rows.specs.declared.Process.{Process}
 use Rattle.rows.specs.Lists.{all, each, topOf, rises, between}
@@ -20,7 +19,7 @@ use Rattle.rows.specs.Sound.{sound, sourceOf, viaOf, rowsRise, nextInRange, obj
 use Rattle.rows.specs.Layout.{rawRow, rowsIn, rowsTo, rowAt, stateOf}
 use Rattle.rows.proofs.Bools.{and-l, and-r, or-l, or-r, or-map, or-cases}
 use Rattle.rows.proofs.Keyed.{rises-rest, rises-first}
-use Rattle.tables.proofs.Sound.{Sound, sound-open}
+use Rattle.tables.proofs.Sound.{sound-open}
 use Rattle.tables.proofs.SoundFacts.{rows-top}
 use Rattle.page.specs.declared.Shown.{Shown}
 use Rattle.page.specs.Page.{shown, lineOf, pageOf, inTableOrder, page, linesFrom}

@@ -6,7 +6,7 @@ use mathlib.Core.List.{_++_}
 use mathlib.Core.Path.{_≡_, refl, ap, _∙_}
 use denote.Ref.{now}
 use lib.ListN.{length, set, length-set}
-use lib.Seq.{paste, paste-zero}
+use lib.Seq.{paste}
 use Rattle.page.specs.Page.{spaces}
 use Rattle.page.specs.contracts.Columns.{byteOrSpace}
 use Rattle.page.proofs.ColumnLaws.{left-more, left-whole}

@@ -1,8 +1,7 @@
 -- `lines::put_place` meets its contract: an arm a sort of place.
 use borrow.Author.Needs.{needs}
-use native.Mathlib.Omega.{arith}
 use borrow.Author.Tests.{ne-eqb}
-use mathlib.Core.Path.{refl, sym, _∙_}
+use mathlib.Core.Path.{sym, _∙_}
 use Rattle.rows.specs.Lists.{bytes}
 use Rattle.rows.specs.Codes.{isSystem, withSystem, ownerOf}
 use Rattle.page.specs.Page.{placeText}

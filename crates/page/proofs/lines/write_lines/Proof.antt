@@ -1,11 +1,11 @@
 -- `lines::write_lines` meets its contract: the lines written so far stand in front.
 use borrow.Author.Needs.{needs}
-use Prim.Native.Nat.{ℕ, suc, _*_, _-_, _+_, _≤_}
+use Prim.Native.Nat.{ℕ, _*_, _-_, _+_, _≤_}
 use native.Mathlib.Omega.{arith}
-use mathlib.Core.List.{List, _++_}
+use mathlib.Core.List.{_++_}
 use mathlib.Core.Path.{_≡_, refl, sym, ap, _∙_}
 use denote.Ref.{now}
-use lib.ListN.{length, drop, length-set}
+use lib.ListN.{length, drop}
 use borrow.Author.Tests.{leb-true, leb-false}
 use Rattle.rows.specs.Layout.{rowsIn}
 use Rattle.page.specs.Page.{linesFrom}
