@@ -24,10 +24,7 @@ use Rattle.page.proofs.PageLaws.{line-long}
 use Rattle.page.proofs.FieldsBack.{right-back, ten-digits, below-hundred, isKind, kind-back, isPlace, place-back}
 
 -- ---- columns
--- a field in front, and what is after it and a space
-first-columns : (c rest : List ℕ) (w : ℕ) → length c ≡ w → take w (c ++ rest) ≡ c
-first-columns c rest w e = take-at c rest w e
-
+-- what is after a field and a space
 past-field : (c rest : List ℕ) (w n : ℕ) → length c ≡ w → drop (w + 1 + n) (c ++ (spaces 1 ++ rest)) ≡ drop n rest
 unfolding spaces
 past-field c rest w n e =
