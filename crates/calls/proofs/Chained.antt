@@ -7,6 +7,7 @@ use lib.ListN.{length, getD, drop, replicate}
 use Rattle.rows.specs.Tables.{firstChain}
 use Rattle.rows.proofs.Slots.{row-found}
 use Rattle.tables.proofs.Sound.{sound-open}
+use Rattle.rows.proofs.Lists.{same-everywhere}
 use Rattle.tables.proofs.Standing.{depth-falls}
 use Rattle.questions.specs.contracts.Questions.{WritesChain}
 use Rattle.calls.specs.declared.Four.{Four}
@@ -14,14 +15,9 @@ use Rattle.calls.specs.declared.Answer.the-variants.{Chained}
 use Rattle.calls.specs.Calls.{fourFrom, chainedAnswer}
 use Rattle.calls.specs.contracts.Performs.{ChainedAt}
 
--- where only zeros stand, 0 is read
-zeros-read : (m k : ℕ) → _≡_ {A = ℕ} (getD (replicate m 0) k 0) 0
-zeros-read zero k = refl
-zeros-read (suc m) zero = refl
-zeros-read (suc m) (suc k) = zeros-read m k
-
+-- where only zeros stand after numbers, 0 is read
 over-zeros : (ns : List ℕ) (m k : ℕ) → _≡_ {A = ℕ} (getD (ns ++ drop (length ns) (replicate m 0)) k 0) (getD ns k 0)
-over-zeros [] m k = zeros-read m k
+over-zeros [] m k = same-everywhere 0 m k
 over-zeros (n ∷ ns) zero k = ap (λ (l : List ℕ). getD l k 0) (append-nil (n ∷ ns))
 over-zeros (n ∷ ns) (suc m) zero = refl
 over-zeros (n ∷ ns) (suc m) (suc k) = over-zeros ns m k

@@ -15,6 +15,7 @@ use lib.Count.{ones, trailingZeros, under, ones-cat}
 use borrow.Author.Count.{below-more}
 use lib.ListN.{length, getD, set, replicate, length-append, length-set, List·getD-append}
 use lib.Seq.{getD-append-add, set-append-left, getD-set-same, getD-set-other, set-out}
+use Rattle.rows.proofs.Lists.{same-everywhere}
 use Rattle.changes.specs.contracts.Bits.{bit, bitsOf, marksBy, gones}
 
 -- ---- a bit of a word
@@ -305,13 +306,8 @@ word-set b some ws i w holds =
     ]
 
 -- ---- words that are all 0
-zeros : (n q : ℕ) → getD (replicate n zero) q 0 ≡ zero
-zeros zero q = refl
-zeros (suc n) zero = refl
-zeros (suc n) (suc q) = zeros n q
-
 pub none-marked : (b : ℕ) → zero < b → (n i : ℕ) → getD (marksBy b (replicate n 0)) i false ≡ false
-none-marked b some n i = mark-at b some (replicate n 0) i ∙ ap (λ (w : ℕ). bit w (i % b)) (zeros n (i / b)) ∙ bit-none (i % b)
+none-marked b some n i = mark-at b some (replicate n 0) i ∙ ap (λ (w : ℕ). bit w (i % b)) (same-everywhere 0 n (i / b)) ∙ bit-none (i % b)
 
 -- ---- marks copied one after the other: the first j are as ms has them, no other is set
 pub record Copied (ms ps : List Bool) (j : ℕ) : Type 0 where

@@ -5,7 +5,5 @@ pub mod Answered
 pub mod Entered
 -- a reply handed out byte by byte
 pub mod Handed
--- each reply has room in 256 bytes
-pub mod Short
 -- along any run, demand 3 and kept soundness hold of what the functions reply and leave
 pub mod Runs

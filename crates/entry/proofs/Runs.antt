@@ -9,6 +9,7 @@ use Rattle.text.specs.Entry.{Replied, openEntry, callEntry}
 use Rattle.text.specs.contracts.Replies.{inReply}
 use Rattle.text.specs.contracts.Sizes.{REPLY}
 use Rattle.text.proofs.GroupLaws.{take-pad}
+use Rattle.text.proofs.ShortReplies.{call-short, open-short}
 use lib.ListN.{length}
 use Prim.Native.Nat.{_≤_}
 use Rattle.history.specs.History.{History}
@@ -18,7 +19,6 @@ use Rattle.history.proofs.Demand3.{demand3}
 use Rattle.history.proofs.Kept.{kept}
 use Rattle.entry.specs.contracts.Entries.{Replies}
 use Rattle.entry.specs.Runs.{Called, Runs, tablesAfter, recordsAfter, textIn, historyOf, RevokedBy, Whole, EveryRun}
-use Rattle.entry.proofs.Short.{call-short, open-short}
 
 -- the bytes of a reply are the definition's
 text-in : (text : List ℕ) (r : Reply) → length text ≤ REPLY → r ≡ inReply text → textIn r ≡ text

@@ -1,31 +1,14 @@
 // The entry points under the names that C calls: each run and each text as a pointer and a length.
 use crate::calling;
 use crate::opening;
+use joining::JOINED;
+use joining::answers::join_texts;
 use page::lines::write_lines;
 use rows::layout::TABLES;
 use text::REPLY;
-use text::Reply;
-ghost use mathlib.Core.Path.{_≡_};
-ghost use Prim.Native.Nat.{_≤_};
-ghost use lib.ListN.{length};
+use text::replies::hand_out;
 ghost use Rattle.text.specs.Entry.{openEntry, callEntry};
-ghost use Rattle.text.specs.contracts.Sizes.{REPLY};
-ghost use Rattle.entry.specs.contracts.Entries.{HandsOut, Exports, ExportsLines};
-
-// Writes a reply to the front of the run lent for it, and gives its length; the bytes after it stay.
-fn hand_out(r: Reply, out: &mut [u8]) -> usize
-    requires { ⌜ (r .length ≤ REPLY) × (REPLY ≤ length (now out)) ⌝ }
-    ensures { λ n. ⌜ HandsOut r (now (out .entry)) (now (out .exit)) n ⌝ }
-{
-    let n = r.length;
-    let bytes = r.bytes;
-    let mut i = 0;
-    while i < n {
-        out[i] = bytes[i];
-        i += 1;
-    }
-    n
-}
+ghost use Rattle.entry.specs.contracts.Entries.{Exports, ExportsLines, ExportsJoin};
 
 // An opening text. With fewer than 256 bytes lent for the reply nothing is touched, and the length is 0.
 // Ruled out: a reply one byte short; a word changed where the reply has no room.
@@ -78,4 +61,17 @@ pub extern "C" fn tablet_page(tables: &[u32], from: usize, page: &mut [u8]) -> u
         return 0;
     }
     write_lines(tables, from, page)
+}
+
+// Two opening texts, one after the other: what the program join prints of them. With fewer than 24,832 bytes lent for
+// it nothing is touched, and the length is 0.
+// Ruled out: a joined text that is cut; a byte changed where it has no room.
+#[no_mangle]
+pub extern "C" fn tablet_join(texts: &[u8], out: &mut [u8]) -> usize
+    ensures { λ n. ⌜ ExportsJoin (now (texts .entry)) (now (out .entry)) (now (out .exit)) n ⌝ }
+{
+    if out.len() < JOINED {
+        return 0;
+    }
+    join_texts(texts, out)
 }

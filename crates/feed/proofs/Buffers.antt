@@ -1,29 +1,28 @@
 -- Laws of a session in its buffer: a byte kept, lines counted, an opening decided, and the stage after it.
-use Prim.Native.Nat.{ℕ, _+_, _≤_, _<_}
-use native.Mathlib.Numerals.{add-one}
+use Prim.Native.Nat.{ℕ, _+_, _-_, _≤_, _<_}
 use native.Mathlib.Omega.{arith}
 use mathlib.Core.Bool.{Bool, true, false, cond, _&&_}
 use mathlib.Core.List.{List, [], _∷_, _++_}
 use mathlib.Core.Path.{_≡_, refl, sym, ap, _∙_}
 use lib.Dec.{ltb}
-use lib.ListN.{length, take, drop, set, getD, length-append, length-drop, length-set, drop-of-length-le}
-use lib.Seq.{length-take-le, take-set-le, drop-set-add, take-suc-set}
+use lib.ListN.{length, take, drop, getD, length-append, length-drop, drop-of-length-le}
+use lib.Seq.{length-take-le, take-append-le, take-take, take-at, drop-at}
 use borrow.Author.Tests.{lt-ltb}
 use Rattle.rows.specs.Lists.{sameList, bytes}
 use Rattle.rows.specs.Layout.{rightLengths, clearedTables, clearedProcesses}
 use Rattle.rows.proofs.LayoutColumns.{list-same}
 use Rattle.text.specs.declared.Passed.{Passed}
-use Rattle.text.specs.Opening.{FirstPass, readTo, stoppedBy, Opening, opens, refusedAt, linesOf, openingOf}
+use Rattle.text.specs.Opening.{FirstPass, readTo, stoppedBy, Opening, opens, refusedAt, linesOf, openingOf, cut}
 use Rattle.calls.specs.Answers.{num}
 use Rattle.text.specs.Answers.{okText, noText}
 use Rattle.text.specs.Entry.{Replied, replyWith, openedBy, openEntry}
+use Rattle.text.specs.contracts.Sizes.{KEPT-LINE}
 use Rattle.text.specs.contracts.Openings.{firstLine, Ends}
 use Rattle.text.proofs.OpeningLaws.{line-split, line-some}
 use Rattle.feed.specs.declared.Stage.the-variants.{Calls, Over}
 use Rattle.feed.specs.declared.Kept.{Kept}
-use Rattle.feed.specs.Feeding.{cut, withLine, goesOn, stageAfter}
-use Rattle.feed.specs.contracts.Buffers.{LINE, feed-sizes-meant, sessionIn, Stands, HasRoom, KeepsByte}
-use Rattle.feed.proofs.Lines.{cut-all, cut-full}
+use Rattle.feed.specs.Feeding.{goesOn, stageAfter}
+use Rattle.feed.specs.contracts.Buffers.{sessionIn, Stands, HasRoom, KeepsByte}
 
 -- ---- what stands in the buffer has its length
 pub text-long : (k : Kept) (b : List ℕ) → Stands k b → length (take (k .text) b) ≡ k .text
@@ -32,49 +31,28 @@ text-long k b stands = length-take-le (k .text) b (omega arith)
 pub line-long : (k : Kept) (b : List ℕ) → Stands k b → length (take (k .line) (drop (k .text) b)) ≡ k .line
 line-long k b stands = let m = length-drop (k .text) b in length-take-le (k .line) (drop (k .text) b) (omega arith)
 
--- ---- a byte is kept
-module _ (c : ℕ) (k : Kept) (b : List ℕ) (room : HasRoom k b) where
-  begun-line : List ℕ
-  begun-line = take (k .line) (drop (k .text) b)
-
-  begun-long : length begun-line ≡ k .line
-  unfolding begun-line
-  begun-long = line-long k b (omega arith)
-
-  -- a full line stays
-  pub byte-full : k .line ≡ LINE → KeepsByte c k b k b
-  unfolding sessionIn begun-line
-  byte-full full =
-      record {
-        session = λ t p. ap (λ l. withLine l (sessionIn k b t p)) (sym (cut-full begun-line (c ∷ []) (begun-long ∙ full ∙ feed-sizes-meant .line)));
-        stands = omega arith;
-      }
-
-  -- a line with room has a byte more
-  line-more : (k .line ≡ LINE → ⊥) → take (k .line + 1) (drop (k .text) (set b (k .text + k .line) c)) ≡ cut (begun-line ++ (c ∷ []))
-  unfolding begun-line
-  line-more some =
-      let long = begun-long in
-      let m = length-drop (k .text) b in
-      let n = length-append begun-line (c ∷ []) in
-      let size = feed-sizes-meant .line in
-      ap (take (k .line + 1)) (drop-set-add (k .text) b (k .line) c)
-      ∙ rw add-one (take-suc-set (drop (k .text) b) (k .line) c (omega arith))
-      ∙ sym (cut-all (begun-line ++ (c ∷ [])) (omega arith))
-
-  pub byte-more : (k .line ≡ LINE → ⊥) → KeepsByte c k b (record { stage = k .stage; text = k .text; line = k .line + 1 }) (set b (k .text + k .line) c)
-  unfolding sessionIn begun-line
-  byte-more some =
-      record {
-        session = λ t p i. record {
-          stage = k .stage;
-          text = take-set-le (k .text) b (k .text + k .line) c (omega arith) i;
-          line = line-more some i;
-          tables = t;
-          processes = p;
-        };
-        stands = let m = length-set b (k .text + k .line) c in omega arith;
-      }
+-- ---- a byte is kept of the line begun, which stands after the text
+pub byte-kept : (c : ℕ) (k : Kept) (b u : List ℕ) (m n : ℕ) → HasRoom k b → m ≡ length b - k .text → length u ≡ m → n ≤ KEPT-LINE
+    → take n u ≡ cut (take (k .line) (take m (drop (k .text) b)) ++ (c ∷ []))
+    → KeepsByte c k b (record { stage = k .stage; text = k .text; line = n }) (take (k .text) b ++ (u ++ drop m (drop (k .text) b)))
+unfolding sessionIn
+byte-kept c k b u m n room all same short kept =
+    let before = length-take-le (k .text) b (omega arith) in
+    let left = length-drop (k .text) b in
+    let rest : List ℕ = drop m (drop (k .text) b) in
+    let line : take n (drop (k .text) (take (k .text) b ++ (u ++ rest))) ≡ cut (take (k .line) (drop (k .text) b) ++ (c ∷ [])) =
+    ap (take n) (drop-at (take (k .text) b) (u ++ rest) (k .text) before) ∙ take-append-le n u rest (omega arith) ∙ kept
+    ∙ ap (λ (l : List ℕ). cut (l ++ (c ∷ []))) (take-take (k .line) m (drop (k .text) b) (omega arith)) in
+    record {
+      session = λ t p i. record {
+        stage = k .stage;
+        text = take-at (take (k .text) b) (u ++ rest) (k .text) before i;
+        line = line i;
+        tables = t;
+        processes = p;
+      };
+      stands = let x = length-append (take (k .text) b) (u ++ rest) in let y = length-append u rest in omega arith;
+    }
 
 -- ---- lines are counted: those before a position, then those left
 pub record Counting (text : List ℕ) (at n : ℕ) : Type 0 where

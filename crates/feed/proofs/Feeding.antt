@@ -10,15 +10,15 @@ use borrow.Author.Tests.{eqb-true, eqb-false}
 use Rattle.rows.specs.Lists.{all, sameList, bytes}
 use Rattle.rows.specs.Layout.{rightLengths}
 use Rattle.rows.proofs.LayoutColumns.{list-same}
-use Rattle.text.specs.Opening.{Form, Line, lastLine, formLine, badLine, Opening as Verdict, opens, refusedAt, linesOf, lineOf, formRefusal, openingOf}
+use Rattle.text.specs.Opening.{Form, Line, lastLine, formLine, badLine, Opening as Verdict, opens, refusedAt, linesOf, lineOf, formRefusal, openingOf, keptOfLine, cut}
 use Rattle.calls.specs.Answers.{num}
 use Rattle.text.specs.Answers.{okText, noText}
 use Rattle.text.specs.Entry.{Replied, replyWith, callEntry, openedBy, openEntry}
 use Rattle.feed.specs.declared.Stage.{Stage}
 use Rattle.feed.specs.declared.Stage.the-variants.{Opening, Calls, Over}
-use Rattle.feed.specs.Feeding.{keptOfLine, cut, Session, lineStart, withLine, Step, silent, stageAfter, opened, openingLine, callLine, lineFed, byteFed, unsaid, finished}
+use Rattle.feed.specs.Feeding.{Session, lineStart, withLine, Step, silent, stageAfter, opened, openingLine, callLine, lineFed, byteFed, unsaid, finished}
 use Rattle.text.proofs.Lines.{plain, plain-byte, line-ends}
-use Rattle.feed.proofs.Lines.{plain-kept, cut-all, cut-length, line-goes-on, KeptLine, line-kept, lines-left}
+use Rattle.text.proofs.KeptLines.{plain-kept, cut-all, cut-length, line-goes-on, KeptLine, line-kept, lines-left}
 use Rattle.feed.proofs.Openings.{Waiting, Goes, Stops, withRest, lines-with, line-goes, last-stops, bad-stops, refused-stops, ends-whole, ends-begun}
 use Rattle.feed.proofs.Replies.{saying, saying-last, answersTo, repliesOn, opening-fits}
 

@@ -17,7 +17,7 @@ use Rattle.text.proofs.OpeningCount.{forms-few}
 use Rattle.feed.specs.Feeding.{goesOn, undecided}
 use Rattle.feed.specs.Prints.{mostText}
 use Rattle.text.proofs.PassLaws.{byLine, by-line, form-taken, form-refused}
-use Rattle.feed.proofs.Lines.{KeptLine, line-long}
+use Rattle.text.proofs.KeptLines.{KeptLine, line-long}
 
 -- ---- the first pass at a line, by what the line is
 pass-by : (fs : List Form) (n : ℕ) (l : List ℕ) (x : Line) → lineOf l ≡ x → (ls : List (List ℕ)) → firstPass fs n (l ∷ ls) ≡ byLine fs n ls x

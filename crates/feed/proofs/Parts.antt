@@ -12,11 +12,12 @@ use borrow.Author.Tests.{eq-eqb}
 use Rattle.rows.specs.Layout.{rightLengths, tablesLength, processesLength}
 use Rattle.rows.specs.contracts.Sizes.{IsTables, IsRecords, sizes-meant}
 use Rattle.rows.proofs.Bools.{and-i}
-use Rattle.text.specs.contracts.Sizes.{REPLY}
+use Rattle.text.specs.Opening.{keptOfLine}
+use Rattle.text.specs.contracts.Sizes.{REPLY, text-sizes-meant}
 use Rattle.feed.specs.declared.Stage.the-variants.{Opening}
 use Rattle.feed.specs.declared.Kept.{Kept}
 use Rattle.feed.specs.declared.Moved.{Moved}
-use Rattle.feed.specs.Feeding.{keptOfLine, Session, begun, Step, silent, followed, byteFed, fed, partsFed}
+use Rattle.feed.specs.Feeding.{Session, begun, Step, silent, followed, byteFed, fed, partsFed}
 use Rattle.feed.specs.Prints.{mostText}
 use Rattle.feed.specs.contracts.Buffers.{KEPT, feed-sizes-meant, sessionIn, Stands, HasRoom, Reached, Ready, Writes, Takes, Moves, bytesOf, Begins}
 use Rattle.feed.proofs.Prints.{prints}
@@ -80,7 +81,7 @@ reached-room k b t p long stands r =
     let line = subst (λ s. length (s .line) ≤ keptOfLine) (sym (r .is)) (all .line-kept) in
     let text-here = text-long k b stands in
     let line-here = line-long k b stands in
-    let size = feed-sizes-meant .line in
+    let size = text-sizes-meant .kept-line in
     let sizes = feed-sizes-meant .kept in
     (omega arith, omega arith)
 

@@ -8,7 +8,7 @@ use Rattle.rows.specs.Tables.{State, empty}
 use Rattle.rows.specs.Layout.{rightLengths, soundWords, stateOf}
 use Rattle.tables.proofs.Sound.{Sound, sound-open}
 use Rattle.text.specs.declared.Reading.{Reading}
-use Rattle.text.specs.Opening.{Form, Line, lastLine, formLine, badLine, FirstPass, readTo, stoppedBy, Opening, opens, refusedAt, linesOf, lineOf, formRefusal, firstPass, missingAt, secondPass, openingOf}
+use Rattle.text.specs.Opening.{Form, Line, lastLine, formLine, badLine, FirstPass, readTo, stoppedBy, Opening, opens, refusedAt, linesOf, lineOf, formRefusal, firstPass, missingAt, secondPass, openingOf, cut}
 use Rattle.text.specs.Answers.{okText, noText, printed}
 use Rattle.text.specs.Entry.{Replied, answered, callOn, replyWith, replyOf, callEntry, stateOpened, openedBy, openEntry}
 use Rattle.text.specs.Session.{sessionOf, session, stateAfter, endOf, sessionEnd}
@@ -18,10 +18,9 @@ use Rattle.history.specs.Demand3.{repliesTo}
 use Rattle.history.specs.Kept.{joined}
 use Rattle.history.proofs.Kept.{kept, call-on-words}
 use Rattle.history.proofs.KeptCalls.{call-kept}
-use Rattle.feed.specs.Feeding.{cut}
 use Rattle.feed.specs.Prints.{Leaves}
 use Rattle.text.proofs.PassLaws.{byLine, by-line}
-use Rattle.feed.proofs.Lines.{reading-cut, line-cut}
+use Rattle.text.proofs.KeptLines.{reading-cut, line-cut}
 
 -- ---- the replies to an input, and the words at its end
 -- a text, and then these

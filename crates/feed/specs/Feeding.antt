@@ -1,12 +1,11 @@
 -- A session fed its input byte by byte (docs/MANUAL.md, chapter 1): what is kept between two bytes, and what is printed when a line ends.
-use Prim.Native.Nat.{ℕ, suc}
+use Prim.Native.Nat.{ℕ}
 use mathlib.Core.Bool.{Bool, false}
 use mathlib.Core.List.{List, [], _∷_, _++_}
 use lib.Dec.{ltb, eqb}
-use lib.ListN.{length, take}
+use lib.ListN.{length}
 use Rattle.rows.specs.Lists.{if_then_else_, sameList}
-use Rattle.rows.specs.Limits.{mostBytes}
-use Rattle.text.specs.Opening.{FirstPass, readTo, stoppedBy, linesOf, firstPass}
+use Rattle.text.specs.Opening.{FirstPass, readTo, stoppedBy, linesOf, cut, firstPass}
 use Rattle.calls.specs.Answers.{num}
 use Rattle.text.specs.Answers.{okText}
 use Rattle.text.specs.Entry.{Replied, openEntry, callEntry}
@@ -14,14 +13,6 @@ use Rattle.feed.specs.declared.Stage.{Stage}
 use Rattle.feed.specs.declared.Stage.the-variants.{Opening, Calls, Over}
 
 -- ---- what is kept
--- (rules T1, K12) a whole line has 255 bytes and a line feed at most; one byte more is enough to know that it is too long
-unfoldable pub keptOfLine : ℕ
-keptOfLine = suc (suc mostBytes)
-
--- (rules T1, K12) what is kept of a line
-unfoldable pub cut : List ℕ → List ℕ
-cut line = take keptOfLine line
-
 -- (rules K1, K12) between two bytes: the lines of an opening that is not decided, what is kept of the line begun, and both lent runs
 pub record Session : Type 0 where
   pub stage : Stage

@@ -7,11 +7,12 @@ use lib.ListN.{length}
 use Rattle.rows.specs.Limits.{nodes, processes, mostBytes}
 use Rattle.rows.specs.Tables.{State}
 use Rattle.rows.specs.Layout.{rightLengths, wordsOf, recordsOf}
+use Rattle.text.specs.Opening.{keptOfLine}
 use Rattle.text.specs.Entry.{Replied}
 use Rattle.text.specs.Session.{session, sessionEnd}
 use Rattle.history.specs.Kept.{joined}
 use Rattle.feed.specs.declared.Stage.the-variants.{Opening}
-use Rattle.feed.specs.Feeding.{Step, keptOfLine, begun, partsFed, endedOn, printedOn}
+use Rattle.feed.specs.Feeding.{Step, begun, partsFed, endedOn, printedOn}
 
 -- (rules O14, X1) an opening that is not decided has a line for each node and each process at most
 unfoldable pub mostText : ℕ

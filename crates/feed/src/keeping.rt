@@ -1,6 +1,6 @@
 // Lines across parts: a byte is kept of the line begun; the lines of a text are counted.
 use crate::Kept;
-use crate::LINE;
+use text::kept_lines;
 use text::opening_lines::line_end;
 ghost use mathlib.Core.Path.{_≡_};
 ghost use lib.ListN.{length};
@@ -13,16 +13,13 @@ pub fn keep_byte(kept: &mut [u8], k: Kept, b: u8) -> Kept
     requires { ⌜ HasRoom k (now kept) ⌝ }
     ensures { λ r. ⌜ KeepsByte b k (now (kept .entry)) r (now (kept .exit)) ⌝ }
 {
-    if k.line == LINE {
-        return k;
-    }
-    let at = k.text + k.line;
-    kept[at] = b;
+    let at = k.text;
+    let line = kept_lines::keep_byte(&mut kept[at..], k.line, b);
     let stage = k.stage;
     Kept {
         stage,
-        text: k.text,
-        line: k.line + 1,
+        text: at,
+        line,
     }
 }
 

@@ -28,9 +28,7 @@ pub struct Fed {
     pub next: usize,
 }
 
-// the bytes kept of a line; of an opening that is not decided, and a line
-pub const LINE: usize = 257;
-
+// the bytes kept: of an opening that is not decided, and of a line
 pub const KEPT: usize = 24833;
 
 // ---- functions

@@ -1,6 +1,5 @@
 -- A line read back from its columns; it has no line feed, so a page is cut into its lines.
-use Prim.Native.Nat.{ℕ, zero, suc, _+_, _-_, _/_, _%_, _^_, _<_, _≤_}
-use native.Mathlib.Decide.{decLt}
+use Prim.Native.Nat.{ℕ, zero, suc, _+_, _^_, _<_, _≤_}
 use native.Mathlib.Omega.{arith}
 use mathlib.Core.Bool.{Bool, true, false, not, cond}
 use mathlib.Core.List.{List, [], _∷_, _++_, map}
@@ -8,14 +7,12 @@ use mathlib.Core.Path.{_≡_, refl, ap, _∙_}
 use lib.Dec.{eqb}
 use lib.ListN.{length, take, drop, length-drop}
 use lib.Seq.{take-at, drop-append-le, drop-append-add, take-append-le}
-use borrow.Author.Tests.{ne-eqb}
 use Rattle.rows.specs.Lists.{all, bytes}
 use Rattle.rows.proofs.Bools.{and-r}
 use Rattle.rows.specs.Codes.{isOperation, isSubdirectory, isClient, isServer, isNode, isClist, isSystem, ownerOf}
 use Rattle.text.specs.Opening.{linesOf}
-use Rattle.text.specs.Answers.{decimal, digitsOf}
-use Rattle.text.proofs.ReplyLaws.{decimal-more, decimal-one}
-use Rattle.text.proofs.Lines.{plain, plain-append, plain-take, plain-byte, line-ends}
+use Rattle.text.specs.Answers.{digitsOf}
+use Rattle.text.proofs.Lines.{plain, plain-append, plain-take, plain-digits, line-ends}
 use Rattle.page.specs.declared.Shown.{Shown}
 use Rattle.page.specs.Page.{spaces, leftIn, rightIn, kindText, placeText, lineOf, pageOf}
 use Rattle.page.specs.ReadBack.{columns, numberIn, kindIn, placeIn, fieldsOf, readBack}
@@ -104,21 +101,6 @@ unfolding plain all
 plain-drop zero l e = e
 plain-drop (suc n) [] e = refl
 plain-drop (suc n) (b ∷ l) e = plain-drop n l (and-r (not (eqb b 10)) (plain l) e)
-
-plain-digit : (n : ℕ) → plain ((48 + n % 10) ∷ []) ≡ true
-plain-digit n = plain-byte (48 + n % 10) (rw (ne-eqb (48 + n % 10) 10 (λ e. omega arith)) refl)
-
-plain-decimal : (d n : ℕ) → plain (decimal d n) ≡ true
-unfolding decimal plain all
-plain-decimal zero n = refl
-plain-decimal (suc d) n = elim (decLt n 10) [
-  | yes one ↦ ap plain (decimal-one d n one) ∙ plain-digit n
-  | no more ↦ ap plain (decimal-more d n (omega arith)) ∙ plain-append (decimal d (n / 10)) ((48 + n % 10) ∷ []) (plain-decimal d (n / 10)) (plain-digit n)
-]
-
-plain-digits : (n : ℕ) → plain (digitsOf n) ≡ true
-unfolding digitsOf
-plain-digits n = plain-decimal 10 n
 
 plain-kind : (k : ℕ) → plain (kindText k) ≡ true
 unfolding kindText bytes plain all

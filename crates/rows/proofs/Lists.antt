@@ -4,7 +4,7 @@ use mathlib.Core.Bool.{Bool, true, false, not, cond, _&&_, _||_}
 use mathlib.Core.List.{List, [], _∷_, _++_, map}
 use mathlib.Core.Path.{_≡_, refl, sym, ap, _∙_}
 use lib.Dec.{eqb}
-use lib.ListN.{getD, set}
+use lib.ListN.{getD, set, replicate}
 use borrow.Author.Tests.{eqb-true}
 use Rattle.rows.specs.Lists.{filter, any, all, member, distinct, some, nonzero}
 use Rattle.rows.proofs.Bools.{false-of, clash, and-l, and-r, and-i, and-rf, and-true, not-t, or-l, or-r, or-fl, or-fr, or-map, member-here, member-there}
@@ -46,6 +46,12 @@ module _ {A : Type 0} where
   unfolding any all
   none-all f [] e = refl
   none-all f (x ∷ xs) e = and-i (not (f x)) (all (λ x. not (f x)) xs) (ap not (or-fl (f x) (any f xs) e)) (none-all f xs (or-fr (f x) (any f xs) e))
+
+  -- a list of one value has it everywhere
+  pub same-everywhere : (d : A) (n k : ℕ) → getD (replicate n d) k d ≡ d
+  same-everywhere d zero k = refl
+  same-everywhere d (suc n) zero = refl
+  same-everywhere d (suc n) (suc k) = same-everywhere d n k
 
   -- a change that changes nothing
   pub map-same : (g : A → A) → ((x : A) → g x ≡ x) → (xs : List A) → map g xs ≡ xs

@@ -1,20 +1,21 @@
 -- Process records in their words, one after the other: what loops over them keep.
 use Prim.Native.Nat.{ℕ, zero, suc, _+_, _*_, _-_, _%_, _^_, _<_, _≤_}
-use mathlib.Core.Bool.{Bool, true, false, _&&_}
+use mathlib.Core.Bool.{Bool, true, false, _&&_, cond}
 use mathlib.Core.List.{List, [], _∷_}
 use mathlib.Core.Path.{_≡_, refl, ap, sym, _∙_}
 use native.Mathlib.Decide.{decLt}
 use native.Mathlib.Nat.{not-suc-le-zero, le-of-suc-le-suc}
 use native.Mathlib.Omega.{arith}
 use borrow.Author.Count.{below-more}
-use borrow.Author.Tests.{lt-ltb, le-ltb, eqb-true, eqb-false}
+use borrow.Author.Tests.{lt-ltb, le-ltb, eqb-true, eqb-false, eq-eqb, ne-eqb}
 use lib.Dec.{eqb, ltb}
 use lib.ListN.{length, getD, set, length-set, List·getD-eq-default}
 use lib.Seq.{getD-set-same, getD-set-other, ext-getD}
 use Rattle.rows.specs.declared.Process.{Process}
-use Rattle.rows.specs.Lists.{some}
+use Rattle.rows.specs.Lists.{some, if_then_else_}
 use Rattle.rows.specs.Tables.{noProcess, processAt, isListed}
 use Rattle.rows.specs.Layout.{recordsIn}
+use Rattle.rows.proofs.Bools.{bool-eq}
 use Rattle.rows.proofs.LayoutRequests.{length-records, records-words}
 
 -- the record k of the words
@@ -129,3 +130,22 @@ listed-wraps p n w e h z = elim (decLt w 64) [ yes lt ↦ near lt | no ge ↦ rw
     far : 64 ≤ w → (k : ℕ) → (w + 1) % 2 ^ 32 ≡ k → false ≡ isListed (recordsIn p) k
     far ge zero q = listed-none (recordsIn p) 0 refl
     far ge (suc k) q = listed-far 64 p (suc k) e (omega arith)
+
+-- ---- a record replaced
+at-set : (xs : List Process) (i : ℕ) (x : Process) → i < length xs → (j : ℕ) → getD (set xs i x) j noProcess ≡ (if eqb j i then x else getD xs j noProcess)
+at-set [] i x h j = absurd (omega arith)
+at-set (y ∷ xs) zero x h zero = refl
+at-set (y ∷ xs) zero x h (suc j) = rw (ne-eqb (suc j) 0 (λ z. omega arith)) refl
+at-set (y ∷ xs) (suc i) x h zero = rw (ne-eqb 0 (suc i) (λ z. omega arith)) refl
+at-set (y ∷ xs) (suc i) x h (suc j) = at-set xs i x (omega arith) j ∙ ap (λ b. cond b x (getD xs j noProcess)) (suc-eqb j i)
+  where
+    suc-eqb : (a b : ℕ) → eqb a b ≡ eqb (suc a) (suc b)
+    suc-eqb a b = bool-eq (eqb a b) (eqb (suc a) (suc b)) (λ e. let z = eqb-true a b e in eq-eqb (suc a) (suc b) (omega arith)) (λ e. let z = eqb-true (suc a) (suc b) e in eq-eqb a b (omega arith))
+
+pub set-at : (ps : List Process) (p q : ℕ) (x : Process) → 0 < p → p ≤ length ps → processAt (set ps (p - 1) x) q ≡ (if eqb q p then x else processAt ps q)
+unfolding processAt
+set-at ps p zero x lo hi = rw (ne-eqb 0 p (λ z. omega arith)) refl
+set-at ps p (suc j) x lo hi = at-set ps (p - 1) x (omega arith) j ∙ ap (λ b. cond b x (getD ps j noProcess)) same
+  where
+    same : eqb j (p - 1) ≡ eqb (suc j) p
+    same = bool-eq (eqb j (p - 1)) (eqb (suc j) p) (λ e. let z = eqb-true j (p - 1) e in eq-eqb (suc j) p (omega arith)) (λ e. let z = eqb-true (suc j) p e in eq-eqb j (p - 1) (omega arith))

@@ -1,21 +1,19 @@
 -- The homes noted are right: of every row of the tables what it names, and its home.
-use Prim.Native.Nat.{ℕ, zero, suc, _<_}
+use Prim.Native.Nat.{ℕ, suc, _<_}
 use native.Mathlib.Omega.{arith}
 use mathlib.Core.Bool.{Bool, true, false, not, cond, _&&_}
 use mathlib.Core.List.{List, [], _∷_, map}
 use mathlib.Core.Path.{_≡_, refl, sym, ap, _∙_, subst}
 use mathlib.Core.Logic.{⊎-elim}
-use lib.Dec.{eqb}
-use lib.ListN.{getD, replicate}
 use borrow.Author.Tests.{eqb-true, ne-eqb}
 use Rattle.rows.specs.declared.Row.{Row}
-use Rattle.rows.specs.Lists.{if_then_else_, all, each, firstWith, member, some}
+use Rattle.rows.specs.Lists.{if_then_else_, all, firstWith, member, some}
 use Rattle.rows.specs.Codes.{isEnd, inNode, inClist, withSystem, isNode, isSystem}
-use Rattle.rows.specs.Tables.{State, noRow, noProcess, rowOf, processAt, isListed, numbers, empty}
+use Rattle.rows.specs.Tables.{State, noRow, rowOf, processAt, isListed, numbers, empty}
 use Rattle.rows.specs.Setters.{withPlace}
 use Rattle.rows.specs.Limits.{processes}
 use Rattle.rows.proofs.Bools.{clash, false-of, all-filter, all-mono, and-l, and-r, not-t, pos-some, member-cases, true-or-false}
-use Rattle.rows.proofs.Places.{between-range, copied-no-end, system-no-node}
+use Rattle.rows.proofs.Places.{copied-no-end, system-no-node}
 use Rattle.rows.proofs.Lists.{filter-same}
 use Rattle.tables.proofs.Picked.{first-here, first-other}
 use Rattle.tables.proofs.Sound.{Sound}
@@ -34,10 +32,10 @@ use Rattle.kept.proofs.AskItems.{isItem, stacked}
 use Rattle.kept.proofs.AskFacts.{lentRows, askedRows, none-named}
 use Rattle.kept.proofs.Moved.{row-same}
 use Rattle.text.specs.declared.Entry.{Entry}
-use Rattle.text.specs.Opening.{Form, nodeForm, processForm, opens, linesOf, openingOf, entryRow, withEntries, withForm, openedFrom}
+use Rattle.text.specs.Opening.{Form, nodeForm, processForm, opens, linesOf, openingOf, primeOf, entryRow, withEntries, withForm, openedFrom}
 use Rattle.text.specs.Entry.{stateOpened}
-use Rattle.text.proofs.OpeningForms.{opening-good, formPassed, process-passed}
-use Rattle.text.proofs.OpeningRecords.{opened-length}
+use Rattle.text.proofs.OpeningForms.{opening-good}
+use Rattle.text.proofs.OpeningRecords.{prime-opened}
 use Rattle.history.specs.History.{History}
 use Rattle.history.specs.Notes.{isEndNoted, stands, lastGo, copied}
 use Rattle.history.specs.Reading.{entryCount, itemsNamed}
@@ -48,12 +46,12 @@ use Rattle.history.proofs.View.{first-through}
 use Rattle.security.specs.Sessions.{IsRow, Log, logged, Session}
 use Rattle.security.specs.Changes.{takes}
 use Rattle.security.specs.Places.{homeOf, whereabouts}
-use Rattle.security.specs.Holders.{Homed, Homes, nowhere, homedOf, withHome, entryHomes, formHomes, primeOf, nodeNow, copyHomes, noteHomes}
+use Rattle.security.specs.Holders.{Homed, Homes, nowhere, homedOf, withHome, entryHomes, formHomes, nodeNow, copyHomes, noteHomes}
 use Rattle.security.proofs.Rows.{Sort, text-row, registered-row, held-row, end-row, copy, sort-of, through-at, clist-no-system, in-prime-node}
 use Rattle.security.proofs.Opened.{opened-text}
 use Rattle.security.proofs.Sessions.{session-has}
 use Rattle.security.proofs.Effects.{Adds, holds, registers, makes, Effect, tells, moves-to, adds, asks, fetches, shuts-off, effect-of}
-use Rattle.security.proofs.Touches.{question-takes, set-at}
+use Rattle.security.proofs.Touches.{question-takes}
 use Rattle.security.proofs.NewRows.{Newly, held, registered, client, server, copied as lent-copied, first-row, adds-new, asks-new, fetched-rows, lent-number}
 use Rattle.security.proofs.Frames.{same-but-place, same-row}
 use Rattle.security.proofs.PlacesKept.{Held, held-kept, new-unlisted, home-kept}
@@ -116,28 +114,6 @@ opened-right text rest fs e =
     }
 
 -- ---- prime nodes
-none-listed : (k j : ℕ) → getD (replicate k noProcess) j noProcess ≡ noProcess
-none-listed zero j = refl
-none-listed (suc k) zero = refl
-none-listed (suc k) (suc j) = none-listed k j
-
-prime-opened : (fs : List Form) → each formPassed fs ≡ true → (p : ℕ) → processAt (openedFrom empty fs .processes) p .prime ≡ primeOf fs p
-unfolding openedFrom withForm empty primeOf each processAt noProcess
-prime-opened [] e zero = refl
-prime-opened [] e (suc j) = ap (λ x. x .prime) (none-listed processes j)
-prime-opened (nodeForm n es ∷ fs) e p = prime-opened fs (and-r (formPassed (nodeForm n es) fs) (each formPassed fs) e) p
-prime-opened (processForm r n ∷ fs) e p =
-    let k = process-passed fs r n (and-l (formPassed (processForm r n) fs) (each formPassed fs) e) in
-    let (lo, hi) = between-range 1 processes r (k .process) in
-    let l = opened-length fs in
-    ap (λ x. x .prime) (set-at (openedFrom empty fs .processes) r p (record { prime = n; active = n; through = 0 }) (omega arith) (omega arith))
-    ∙ pick (eqb p r) (prime-opened fs (and-r (formPassed (processForm r n) fs) (each formPassed fs) e) p)
-  where
-    pick : (b : Bool) → processAt (openedFrom empty fs .processes) p .prime ≡ primeOf fs p
-        → (if b then record { prime = n; active = n; through = 0 } else processAt (openedFrom empty fs .processes) p) .prime ≡ (if b then n else primeOf fs p)
-    pick true ih = refl
-    pick false ih = ih
-
 abbrev pub PrimesAre : List Form → State → Type 0
 PrimesAre fs st = (p : ℕ) → processAt (st .processes) p .prime ≡ primeOf fs p
 

@@ -1,25 +1,26 @@
 -- What each kind of effect touches: old rows and requests as they are found afterwards, the records, the numbers.
-use Prim.Native.Nat.{ℕ, zero, suc, _+_, _-_, _<_, _≤_}
+use Prim.Native.Nat.{ℕ, suc, _+_, _<_, _≤_}
 use native.Mathlib.Decide.{decLt}
 use native.Mathlib.Omega.{arith}
 use mathlib.Core.Bool.{Bool, true, false, not, cond, _&&_, _||_}
 use mathlib.Core.List.{List, [], _∷_, _++_, map}
 use mathlib.Core.Path.{_≡_, refl, sym, ap, _∙_}
 use lib.Dec.{leb, ltb, eqb}
-use lib.ListN.{length, getD, set}
-use borrow.Author.Tests.{eqb-true, eq-eqb, ne-eqb, le-leb, lt-ltb, le-ltb}
+use lib.ListN.{length}
+use borrow.Author.Tests.{eqb-true, ne-eqb, le-leb, lt-ltb, le-ltb}
 use Rattle.rows.specs.declared.Row.{Row}
 use Rattle.rows.specs.declared.Request.{Request}
 use Rattle.rows.specs.declared.Process.{Process}
 use Rattle.rows.specs.Lists.{if_then_else_, any, all, firstWith, rises, member, some}
 use Rattle.rows.specs.Codes.{isEnd, inClist, withSystem, fetchedMark}
-use Rattle.rows.specs.Tables.{State, noRow, noRequest, noProcess, rowOf, requestOf, processAt, isListed, numbers, lists}
+use Rattle.rows.specs.Tables.{State, noRow, noRequest, rowOf, requestOf, processAt, isListed, numbers, lists}
 use Rattle.rows.specs.Setters.{withPlace, withItems, withFetched, inPrimeNode}
 use Rattle.rows.specs.Sound.{requestsRise}
-use Rattle.rows.proofs.Bools.{clash, bool-eq, and-l, and-r, and-false, and-true, some-pos, any-none, none-zero, eqb-sym, member-here, member-there}
+use Rattle.rows.proofs.Bools.{clash, and-l, and-r, and-false, and-true, some-pos, any-none, none-zero, eqb-sym, member-here, member-there}
 use Rattle.rows.proofs.Agree.{Agree, keys-kept}
 use Rattle.rows.proofs.Keyed.{first-map, keys-map, rises-rest, rises-older, rises-range, olderOf}
 use Rattle.rows.proofs.Lists.{map-same}
+use Rattle.rows.proofs.ProcessRecords.{set-at}
 use Rattle.tables.proofs.Picked.{all-keys}
 use Rattle.tables.proofs.Sound.{Sound}
 use Rattle.tables.proofs.SoundFacts.{row-number, row-below, requests-top, listed-has-record}
@@ -124,24 +125,6 @@ adds-fresh st c rs (registers p e a) = rw (le-leb (st .next) (st .next) (omega a
 adds-fresh st c rs (makes p e a) = rw (le-leb (st .next) (suc (st .next)) (omega arith), le-leb (st .next) (st .next) (omega arith)) refl
 
 -- ---- a record replaced
-at-set : (xs : List Process) (i : ℕ) (x : Process) → i < length xs → (j : ℕ) → getD (set xs i x) j noProcess ≡ (if eqb j i then x else getD xs j noProcess)
-at-set [] i x h j = absurd (omega arith)
-at-set (y ∷ xs) zero x h zero = refl
-at-set (y ∷ xs) zero x h (suc j) = rw (ne-eqb (suc j) 0 (λ z. omega arith)) refl
-at-set (y ∷ xs) (suc i) x h zero = rw (ne-eqb 0 (suc i) (λ z. omega arith)) refl
-at-set (y ∷ xs) (suc i) x h (suc j) = at-set xs i x (omega arith) j ∙ ap (λ b. cond b x (getD xs j noProcess)) (suc-eqb j i)
-  where
-    suc-eqb : (a b : ℕ) → eqb a b ≡ eqb (suc a) (suc b)
-    suc-eqb a b = bool-eq (eqb a b) (eqb (suc a) (suc b)) (λ e. let z = eqb-true a b e in eq-eqb (suc a) (suc b) (omega arith)) (λ e. let z = eqb-true (suc a) (suc b) e in eq-eqb a b (omega arith))
-
-pub set-at : (ps : List Process) (p q : ℕ) (x : Process) → 0 < p → p ≤ length ps → processAt (set ps (p - 1) x) q ≡ (if eqb q p then x else processAt ps q)
-unfolding processAt
-set-at ps p zero x lo hi = rw (ne-eqb 0 p (λ z. omega arith)) refl
-set-at ps p (suc j) x lo hi = at-set ps (p - 1) x (omega arith) j ∙ ap (λ b. cond b x (getD ps j noProcess)) same
-  where
-    same : eqb j (p - 1) ≡ eqb (suc j) p
-    same = bool-eq (eqb j (p - 1)) (eqb (suc j) p) (λ e. let z = eqb-true j (p - 1) e in eq-eqb (suc j) p (omega arith)) (λ e. let z = eqb-true (suc j) p e in eq-eqb j (p - 1) (omega arith))
-
 record-set : (st : State) (p q : ℕ) (x : Process) → isListed (st .processes) p ≡ true → processAt (withRecord p x st .processes) q ≡ (if eqb q p then x else processAt (st .processes) q)
 unfolding withRecord
 record-set st p q x l = let (lo, hi) = listed-has-record (st .processes) p l in set-at (st .processes) p q x lo hi

@@ -6,7 +6,6 @@ use Prim.Native.Nat.{ℕ, suc}
 use mathlib.Core.Bool.{true, _&&_}
 use mathlib.Core.List.{List, [], _∷_}
 use mathlib.Core.Path.{_≡_}
-use lib.Dec.{eqb}
 use Rattle.rows.specs.Lists.{if_then_else_, firstWith, some}
 use Rattle.rows.specs.Codes.{inNode, inClist, withSystem}
 use Rattle.rows.specs.Tables.{rowOf}
@@ -17,7 +16,7 @@ use Rattle.text.specs.declared.Entry.{Entry}
 use Rattle.text.specs.declared.Reading.{Reading}
 use Rattle.text.specs.declared.Reading.the-variants.{Asks, Crowded, Refused}
 use Rattle.text.specs.CallLines.{readingOf}
-use Rattle.text.specs.Opening.{Form, nodeForm, processForm, Opening, opens, refusedAt, linesOf, openingOf}
+use Rattle.text.specs.Opening.{Form, nodeForm, processForm, Opening, opens, refusedAt, linesOf, openingOf, primeOf}
 use Rattle.text.specs.Entry.{openEntry}
 use Rattle.history.specs.History.{OnLoan, History}
 use Rattle.history.specs.Notes.{notedOf, stands, lastGo, copied}
@@ -54,11 +53,6 @@ unfoldable pub formHomes : List Form → Homes
 formHomes [] = []
 formHomes (nodeForm n es ∷ fs) = entryHomes (suc (entryCount fs)) n es (formHomes fs)
 formHomes (processForm p n ∷ fs) = formHomes fs
-
-unfoldable pub primeOf : List Form → ℕ → ℕ
-primeOf [] p = 0
-primeOf (nodeForm n es ∷ fs) p = primeOf fs p
-primeOf (processForm r n ∷ fs) p = if eqb p r then n else primeOf fs p
 
 unfoldable pub formsIn : Opening → List Form
 formsIn (opens fs rest) = fs

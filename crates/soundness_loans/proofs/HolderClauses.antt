@@ -18,6 +18,7 @@ use Rattle.rows.specs.contracts.Represents.{Represents}
 use Rattle.rows.specs.Layout.{rowSlot}
 use Rattle.soundness_loans.specs.contracts.Clauses.{isCopyFor, mayBeLent, itemsListable, codeAt, listAt, listAll, itemSlots, listedOnce, relisted}
 use Rattle.rows.proofs.Bools.{false-of, clash, and-l, and-r, and-i, or-false, pos-some, eqb-self, all-at}
+use Rattle.rows.proofs.Lists.{same-everywhere}
 use Rattle.rows.proofs.Slots.{represented-well, slot-le, row-absent}
 use Rattle.soundness_loans.proofs.RequestClauses.{no-slot, slot-test, member-nonzero}
 
@@ -29,12 +30,7 @@ or-true false = refl
 pub code-none : (n x : ℕ) → codeAt (replicate n zero) x ≡ 0
 unfolding codeAt
 code-none n zero = refl
-code-none n (suc i) = none n i
-  where
-    none : (n i : ℕ) → getD (replicate n zero) i 0 ≡ 0
-    none zero i = refl
-    none (suc n) zero = refl
-    none (suc n) (suc i) = none n i
+code-none n (suc i) = same-everywhere 0 n i
 
 length-list-at : (code s : ℕ) (l : List ℕ) → length (listAt code s l) ≡ length l
 unfolding listAt

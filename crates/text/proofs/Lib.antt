@@ -35,8 +35,14 @@ pub mod GroupLaws
 pub mod GroupHeads
 -- replies: one byte more, one text after another, the digits of a number
 pub mod ReplyLaws
+-- a reply handed out: the first bytes of a run are replaced
+pub mod HandedOut
+-- each text that is answered has room in a reply
+pub mod ShortReplies
 -- a text cut into lines at its line feeds
 pub mod Lines
+-- a line that comes byte by byte, and what is kept of it
+pub mod KeptLines
 -- the lines of an opening text, the entries of a node form, what is given
 pub mod OpeningLaws
 -- the first pass over an opening text

@@ -1,14 +1,18 @@
 -- Lines of a text at its line feeds: bytes without one belong to the first line of what follows; a line feed ends the line.
-use Prim.Native.Nat.{ℕ, zero, suc, _<_}
+use Prim.Native.Nat.{ℕ, zero, suc, _+_, _/_, _%_, _<_}
+use native.Mathlib.Decide.{decLt}
 use native.Mathlib.Omega.{arith}
 use mathlib.Core.Bool.{Bool, true, not}
 use mathlib.Core.List.{List, [], _∷_, _++_, append-nil}
 use mathlib.Core.Path.{_≡_, refl, sym, ap, _∙_}
 use lib.Dec.{eqb}
 use lib.ListN.{length, take}
+use borrow.Author.Tests.{ne-eqb}
 use Rattle.rows.specs.Lists.{all}
 use Rattle.rows.proofs.Bools.{and-l, and-r, and-i, not-t}
 use Rattle.text.specs.Opening.{withByte, linesOf}
+use Rattle.text.specs.Answers.{decimal, digitsOf}
+use Rattle.text.proofs.ReplyLaws.{decimal-more, decimal-one}
 
 -- ---- bytes without a line feed belong to the first line of what follows
 unfoldable pub plain : List ℕ → Bool
@@ -48,6 +52,22 @@ plain-take (suc n) (b ∷ l) e = and-i (not (eqb b 10)) (plain (take n l)) (and-
 pub plain-byte : (b : ℕ) → not (eqb b 10) ≡ true → plain (b ∷ []) ≡ true
 unfolding plain all
 plain-byte b e = and-i (not (eqb b 10)) true e refl
+
+-- the digits of a number
+plain-digit : (n : ℕ) → plain ((48 + n % 10) ∷ []) ≡ true
+plain-digit n = plain-byte (48 + n % 10) (rw (ne-eqb (48 + n % 10) 10 (λ e. omega arith)) refl)
+
+plain-decimal : (d n : ℕ) → plain (decimal d n) ≡ true
+unfolding decimal plain all
+plain-decimal zero n = refl
+plain-decimal (suc d) n = elim (decLt n 10) [
+  | yes one ↦ ap plain (decimal-one d n one) ∙ plain-digit n
+  | no more ↦ ap plain (decimal-more d n (omega arith)) ∙ plain-append (decimal d (n / 10)) ((48 + n % 10) ∷ []) (plain-decimal d (n / 10)) (plain-digit n)
+]
+
+pub plain-digits : (n : ℕ) → plain (digitsOf n) ≡ true
+unfolding digitsOf
+plain-digits n = plain-decimal 10 n
 
 -- ---- a line feed ends the line
 feed-first : (y : List ℕ) → linesOf (10 ∷ y) ≡ (10 ∷ []) ∷ linesOf y

@@ -29,7 +29,7 @@ if-shaped : (b : Bool) (x y : Line) → Shaped x → Shaped y → Shaped (cond b
 if-shaped true x y p q = p
 if-shaped false x y p q = q
 
-entries-shaped : (n : ℕ) (s : List ℕ) (i : ℕ) → all entryShaped (entriesFrom n s i .entries) ≡ true
+pub entries-shaped : (n : ℕ) (s : List ℕ) (i : ℕ) → all entryShaped (entriesFrom n s i .entries) ≡ true
 unfolding entriesFrom addEntry all entryShaped operationEntry subdirectoryEntry isOperation isSubdirectory operation subdirectory
 entries-shaped zero s i = refl
 entries-shaped (suc n) s i =

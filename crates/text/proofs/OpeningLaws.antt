@@ -12,6 +12,7 @@ use borrow.Author.Tests.{eq-eqb, ne-eqb, eqb-true}
 use Rattle.rows.proofs.Bools.{clash}
 use Rattle.rows.specs.Lists.{all, any}
 use Rattle.rows.specs.Sound.{same}
+use Rattle.rows.proofs.Lists.{same-everywhere}
 use Rattle.text.specs.CallLines.{ranged}
 use Rattle.text.specs.Opening.{linesOf, withByte, Entries, entriesFrom, addEntry, entryRanged, Form, nodeForm, givesNode, givesProcess, processForm}
 use Rattle.text.specs.Patterns.{counted}
@@ -148,19 +149,14 @@ module _ (n : ℕ) (s : List ℕ) (at : ℕ) where
         k .told ∙ (rw (k .whole, q, append-nil))
 
 -- ---- what is given
-none-in : (k n : ℕ) → getD (replicate k false) n false ≡ false
-none-in zero n = refl
-none-in (suc k) zero = refl
-none-in (suc k) (suc n) = none-in k n
-
 pub gives-none : Gives (record { nodes = replicate (suc NODES) false; processes = replicate (suc PROCESSES) false }) []
 unfolding any
 gives-none =
     record {
       many-nodes = length-replicate (suc NODES) false;
       many-processes = length-replicate (suc PROCESSES) false;
-      node = none-in (suc NODES);
-      process = none-in (suc PROCESSES);
+      node = same-everywhere false (suc NODES);
+      process = same-everywhere false (suc PROCESSES);
     }
 
 set-at-one : (l : List Bool) (n m : ℕ) → n < length l → getD (set l n true) m false ≡ eqb n m || getD l m false

@@ -1,7 +1,7 @@
 -- The process records of the state that an opening text opens: 64, each in range and at home, those of the processes given listed.
 use Prim.Native.Nat.{ℕ, zero, suc, _-_, _≤_}
 use native.Mathlib.Omega.{arith}
-use mathlib.Core.Path.{_≡_, refl, _∙_}
+use mathlib.Core.Path.{_≡_, refl, _∙_, ap}
 use mathlib.Core.Bool.{Bool, true, false, _&&_, _||_}
 use mathlib.Core.List.{List, [], _∷_}
 use lib.ListN.{length, getD, set, length-set}
@@ -10,14 +10,15 @@ use lib.Dec.{eqb}
 use borrow.Author.Tests.{eqb-true}
 use Rattle.rows.specs.declared.Row.{Row}
 use Rattle.rows.specs.declared.Process.{Process}
-use Rattle.rows.specs.Lists.{any, all, each, between, some}
+use Rattle.rows.specs.Lists.{any, all, each, between, some, if_then_else_}
 use Rattle.rows.specs.Limits.{processes, nodes}
 use Rattle.rows.specs.Tables.{noProcess, empty, processAt, isListed}
 use Rattle.rows.specs.Sound.{recordUnused, recordInRange, processPlaced, placedFrom}
-use Rattle.rows.proofs.Bools.{clash, and-l, and-r, and-i, or-l, or-r, eqb-self, pos-some}
+use Rattle.rows.proofs.Bools.{clash, and-l, and-r, and-i, or-l, or-r, eqb-self, pos-some, eqb-sym}
 use Rattle.rows.proofs.Places.{between-range}
-use Rattle.rows.proofs.Lists.{all-set}
-use Rattle.text.specs.Opening.{Form, nodeForm, processForm, givesProcess, withForm, openedFrom}
+use Rattle.rows.proofs.Lists.{all-set, same-everywhere}
+use Rattle.rows.proofs.ProcessRecords.{set-at}
+use Rattle.text.specs.Opening.{Form, nodeForm, processForm, givesProcess, withForm, openedFrom, primeOf}
 use Rattle.text.proofs.OpeningForms.{formPassed, process-passed}
 
 -- ---- in range, and in its prime node through none
@@ -81,6 +82,24 @@ opened-listed (processForm r n ∷ fs) e p g =
         let l = opened-length fs in
         rw (← eqb-true r p q) (listed-here (openedFrom empty fs .processes) r (record { prime = n; active = n; through = 0 }) lo (omega arith) s)
     pick ih s lo hi false q g = listed-kept (openedFrom empty fs .processes) (r - 1) p (record { prime = n; active = n; through = 0 }) s (ih g)
+
+-- ---- each has the prime node that the forms give it
+pub prime-opened : (fs : List Form) → each formPassed fs ≡ true → (p : ℕ) → processAt (openedFrom empty fs .processes) p .prime ≡ primeOf fs p
+unfolding openedFrom withForm empty primeOf each processAt noProcess
+prime-opened [] e zero = refl
+prime-opened [] e (suc j) = ap (λ (x : Process). x .prime) (same-everywhere noProcess processes j)
+prime-opened (nodeForm n es ∷ fs) e p = prime-opened fs (and-r (formPassed (nodeForm n es) fs) (each formPassed fs) e) p
+prime-opened (processForm r n ∷ fs) e p =
+    let k = process-passed fs r n (and-l (formPassed (processForm r n) fs) (each formPassed fs) e) in
+    let (lo, hi) = between-range 1 processes r (k .process) in
+    let l = opened-length fs in
+    ap (λ (x : Process). x .prime) (set-at (openedFrom empty fs .processes) r p (record { prime = n; active = n; through = 0 }) (omega arith) (omega arith))
+    ∙ rw (eqb-sym p r) (pick (eqb r p) (prime-opened fs (and-r (formPassed (processForm r n) fs) (each formPassed fs) e) p))
+  where
+    pick : (b : Bool) → processAt (openedFrom empty fs .processes) p .prime ≡ primeOf fs p
+        → (if b then record { prime = n; active = n; through = 0 } else processAt (openedFrom empty fs .processes) p) .prime ≡ (if b then n else primeOf fs p)
+    pick true ih = refl
+    pick false ih = ih
 
 -- ---- every process is in its prime node through none
 pub home-placed : (rs : List Row) (p : ℕ) (ps : List Process) → all isHome ps ≡ true → placedFrom rs p ps ≡ true

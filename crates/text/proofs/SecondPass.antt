@@ -11,7 +11,7 @@ use Rattle.rows.proofs.Bools.{and-l}
 use Rattle.rows.specs.Limits.{mostBytes}
 use Rattle.rows.specs.Lists.{any, bytes}
 use Rattle.rows.specs.contracts.Sizes.{ROWS, PROCESSES}
-use Rattle.text.specs.Opening.{Line, lastLine, formLine, badLine, lineOf, nodeForm, processForm, processLine, openLine, entriesFrom, entriesIn, nodeLine, formListed, givesNode}
+use Rattle.text.specs.Opening.{Form, Line, lastLine, formLine, badLine, lineOf, nodeForm, processForm, processLine, openLine, entriesFrom, entriesIn, nodeLine, formListed, givesNode}
 use Rattle.text.specs.Patterns.{whole, form, mostGroups}
 use Rattle.text.specs.contracts.Openings.{naming, namingOf, listedFrom, otherLine, entriesHere, NamesEntries, NamesLine}
 use Rattle.text.specs.contracts.Written.{SetsRecord, LineFits, LineWritten, WritesEntries, WritesLine, WritesRecord}
@@ -43,65 +43,63 @@ node-alone s e = pick (whole s (form s 0 "(process # #)\n")) refl (whole s (form
         absurd (omega (arith, n))
     pick false h false k = refl
 
--- ---- a line that the first pass took, by how it begins: what it is, names and leaves
+-- ---- a line that is not bad, by how it begins
+module _ (s : List ℕ) (f : Read) (is : f ≡ form s 0 "(node #") (fine : lineOf s ≡ badLine → ⊥) where
+  begins : Read
+  begins = form s 0 "(node #"
+
+  same-good : f .good ≡ begins .good
+  unfolding begins
+  same-good = ap (λ (x : Read). x .good) is
+
+  node : Line
+  node = formLine (nodeForm (begins .c) (entriesHere s (begins .next)))
+
+  pub node-line : f .good ≡ true → lineOf s ≡ formLine (nodeForm (f .c) (entriesHere s (f .next)))
+  unfolding lineOf nodeLine mostGroups begins node
+  node-line good = rw is (pick (ltb (suc mostBytes) (length s)) (whole s (form s (entriesFrom GROUPS s (begins .next) .next) ")\n")) fine)
+    where
+      pick : (l w : Bool) → (cond l badLine (cond (begins .good && w) node (otherLine s)) ≡ badLine → ⊥) → cond l badLine (cond (begins .good && w) node (otherLine s)) ≡ node
+      pick true w h = absurd (h refl)
+      pick false true h = rw (sym same-good ∙ good)
+      pick false false h = absurd (h (rw (sym same-good ∙ good) (node-alone s (sym same-good ∙ good))))
+
+  pub other-line : f .good ≡ false → lineOf s ≡ otherLine s
+  unfolding lineOf nodeLine mostGroups begins node
+  other-line none = pick (ltb (suc mostBytes) (length s)) (whole s (form s (entriesFrom GROUPS s (begins .next) .next) ")\n")) fine
+    where
+      pick : (l w : Bool) → (cond l badLine (cond (begins .good && w) node (otherLine s)) ≡ badLine → ⊥) → cond l badLine (cond (begins .good && w) node (otherLine s)) ≡ otherLine s
+      pick true w h = absurd (h refl)
+      pick false w h = rw (sym same-good ∙ none)
+
+-- ---- a line that the first pass took: what it is, names and leaves
 module _ (s : List ℕ) (f : Read) (is : f ≡ form s 0 "(node #") (rows : ℕ) (fits : LineFits rows (lineOf s)) where
-  node-line : f .good ≡ true → lineOf s ≡ formLine (nodeForm (f .c) (entriesHere s (f .next)))
-  unfolding lineOf nodeLine mostGroups LineFits
-  node-line good = rw is (pick (ltb (suc mostBytes) (length s)) (whole s (form s (entriesFrom GROUPS s (begins .next) .next) ")\n")) fits)
-    where
-      begins : Read
-      begins = form s 0 "(node #"
-
-      node : Line
-      node = formLine (nodeForm (begins .c) (entriesHere s (begins .next)))
-
-      good-here : begins .good ≡ true
-      good-here = ap (λ (x : Read). x .good) (sym is) ∙ good
-
-      pick : (l w : Bool) → LineFits rows (cond l badLine (cond (begins .good && w) node (otherLine s))) → cond l badLine (cond (begins .good && w) node (otherLine s)) ≡ node
-      pick true w h = absurd h
-      pick false true h = rw good-here
-      pick false false h = absurd (rw (good-here, node-alone s good-here) at h)
-
-  other-line : f .good ≡ false → lineOf s ≡ otherLine s
-  unfolding lineOf nodeLine LineFits
-  other-line none = pick (ltb (suc mostBytes) (length s)) (whole s (form s (entriesFrom mostGroups s (begins .next) .next) ")\n")) fits
-    where
-      begins : Read
-      begins = form s 0 "(node #"
-
-      node : Line
-      node = formLine (nodeForm (begins .c) (entriesFrom mostGroups s (begins .next) .entries))
-
-      none-here : begins .good ≡ false
-      none-here = ap (λ (x : Read). x .good) (sym is) ∙ none
-
-      pick : (l w : Bool) → LineFits rows (cond l badLine (cond (begins .good && w) node (otherLine s))) → cond l badLine (cond (begins .good && w) node (otherLine s)) ≡ otherLine s
-      pick true w h = absurd h
-      pick false w h = rw none-here
+  fine : lineOf s ≡ badLine → ⊥
+  unfolding LineFits
+  fine e = subst (LineFits rows) e fits
 
   module _ (good : f .good ≡ true) where
     pub node-fits : rows + length (entriesHere s (f .next)) ≤ ROWS
     unfolding LineFits
-    node-fits = subst (LineFits rows) (node-line good) fits
+    node-fits = subst (LineFits rows) (node-line s f is fine good) fits
 
     pub node-named : (g : Given) (r : Naming) → NamesEntries g s (f .next) rows r → NamesLine g rows (lineOf s) r
     unfolding naming formListed listedFrom entriesIn
-    node-named g r named fs k = named fs k ∙ sym (ap (naming fs rows) (node-line good))
+    node-named g r named fs k = named fs k ∙ sym (ap (naming fs rows) (node-line s f is fine good))
 
     pub node-written : (t u p : List ℕ) (r : Naming) → WritesEntries t u s (f .next) (f .c) rows r → WritesLine t p u p rows (lineOf s) r
     unfolding LineWritten
-    node-written t u p r adds h = subst (LineWritten t p u p rows) (sym (node-line good)) (adds h, refl)
+    node-written t u p r adds h = subst (LineWritten t p u p rows) (sym (node-line s f is fine good)) (adds h, refl)
 
   module _ (none : f .good ≡ false) where
     pub other-fits : LineFits rows (otherLine s)
-    other-fits = subst (LineFits rows) (other-line none) fits
+    other-fits = subst (LineFits rows) (other-line s f is fine none) fits
 
     pub other-named : (g : Given) (r : Naming) → NamesLine g rows (otherLine s) r → NamesLine g rows (lineOf s) r
-    other-named g r named fs k = named fs k ∙ sym (ap (naming fs rows) (other-line none))
+    other-named g r named fs k = named fs k ∙ sym (ap (naming fs rows) (other-line s f is fine none))
 
     pub other-written : (t p q : List ℕ) (r : Naming) → WritesRecord p q rows (otherLine s) r → WritesLine t p t q rows (lineOf s) r
-    other-written t p q r writes h = subst (LineWritten t p t q rows) (sym (other-line none)) (writes t h)
+    other-written t p q r writes h = subst (LineWritten t p t q rows) (sym (other-line s f is fine none)) (writes t h)
 
 module _ (s : List ℕ) (f : Read) (is : f ≡ form s 0 "(process # #)\n") (rows : ℕ) where
   process-line : whole s f ≡ true → otherLine s ≡ formLine (processForm (f .b) (f .c))
@@ -111,6 +109,16 @@ module _ (s : List ℕ) (f : Read) (is : f ≡ form s 0 "(process # #)\n") (rows
   open-line : whole s f ≡ false → otherLine s ≡ openLine s badLine
   unfolding processLine
   open-line e = let w : whole s (form s 0 "(process # #)\n") ≡ false = ap (whole s) (sym is) ∙ e in rw w
+
+  -- a form that is no node's is a process's
+  pub process-only : (g : Form) → otherLine s ≡ formLine g → g ≡ processForm (f .b) (f .c)
+  unfolding openLine
+  process-only g e = pick (whole s f) refl (whole s (form s 0 "(open)\n")) refl
+    where
+      pick : (x : Bool) → whole s f ≡ x → (y : Bool) → whole s (form s 0 "(open)\n") ≡ y → g ≡ processForm (f .b) (f .c)
+      pick true w y o = let same = sym e ∙ process-line w in cc
+      pick false w true o = let z : formLine g ≡ lastLine = sym e ∙ open-line w ∙ (rw o refl) in absurd (let q : _≡_ {A = ℕ} 0 1 = cc in omega arith)
+      pick false w false o = let z : formLine g ≡ badLine = sym e ∙ open-line w ∙ (rw o refl) in absurd (let q : _≡_ {A = ℕ} 0 1 = cc in omega arith)
 
   pub open-named : whole s f ≡ false → (g : Given) → NamesLine g rows (otherLine s) Ended
   unfolding openLine naming

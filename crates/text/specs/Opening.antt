@@ -3,7 +3,7 @@ use Prim.Native.Nat.{ℕ, zero, suc, _+_, _-_}
 use mathlib.Core.Bool.{Bool, true, false, not, _&&_, _||_}
 use mathlib.Core.List.{List, [], _∷_}
 use lib.Dec.{leb, ltb, eqb}
-use lib.ListN.{length, set}
+use lib.ListN.{length, set, take}
 use Rattle.rows.specs.declared.Row.{Row}
 use Rattle.rows.specs.Lists.{if_then_else_, any, all, between}
 use Rattle.rows.specs.Limits.{processes, nodes, greatestOperation, allRights, mostEntries, mostBytes}
@@ -22,6 +22,14 @@ withByte b (l ∷ ls) = if eqb b 10 then (b ∷ []) ∷ l ∷ ls else (b ∷ l) 
 unfoldable pub linesOf : List ℕ → List (List ℕ)
 linesOf [] = []
 linesOf (b ∷ bs) = withByte b (linesOf bs)
+
+-- (rules T1, K12) a whole line has 255 bytes and a line feed at most; one byte more is enough to know that it is too long
+unfoldable pub keptOfLine : ℕ
+keptOfLine = suc (suc mostBytes)
+
+-- (rules T1, K12) what is kept of a line
+unfoldable pub cut : List ℕ → List ℕ
+cut line = take keptOfLine line
 
 -- ---- forms
 -- (rule O1) lines of two forms, then `(open)`
@@ -97,6 +105,12 @@ givesNode n (processForm p m) = false
 unfoldable pub givesProcess : ℕ → Form → Bool
 givesProcess p (nodeForm m es) = false
 givesProcess p (processForm r m) = eqb r p
+
+-- (rules O3, R13) the prime node that the forms give process p, 0 where they do not list it
+unfoldable pub primeOf : List Form → ℕ → ℕ
+primeOf [] p = 0
+primeOf (nodeForm m es ∷ fs) p = primeOf fs p
+primeOf (processForm r m ∷ fs) p = if eqb r p then m else primeOf fs p
 
 -- (rules O13, O14, O15, O16, O7) the lowest of 3, 4 and 6, fs the earlier forms; 0 for none. Equal entries may stand
 unfoldable pub formRefusal : List Form → Form → ℕ

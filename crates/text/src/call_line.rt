@@ -149,8 +149,8 @@ fn comes_form(line: &[u8]) -> Reading
 }
 
 // ---- groups of two numbers
-// Whether n is one of the numbers.
-fn is_named(ns: &[u32], n: u32) -> bool
+// Whether n is one of the numbers. Ruled out: the last one is not looked at; yes for any number.
+pub fn is_named(ns: &[u32], n: u32) -> bool
     ensures { λ r. ⌜ r ≡ member n (now (ns .entry)) ⌝ }
 {
     let mut i = 0;

@@ -135,6 +135,7 @@ pub struct Verdict {
 
 // ---- functions
 pub mod call_line;
+pub mod kept_lines;
 pub mod opening_lines;
 pub mod opening_text;
 pub mod opening_words;

@@ -22,8 +22,8 @@ ghost use Rattle.text.specs.contracts.Openings.{gone-on, Ends};
 const MOST_ENTRIES: usize = 16;
 
 // ---- what is given
-// Nothing is given yet.
-fn none_given() -> Given
+// Nothing is given yet. Ruled out: node 1 is given; process 64 is.
+pub fn none_given() -> Given
     ensures { λ r. ⌜ Gives r [] ⌝ }
 {
     let nodes = [false; 33];
@@ -145,7 +145,8 @@ fn process_step(g: Given, p: u32, n: u32) -> Step
 }
 
 // What one line does after the forms given.
-fn pass_line(line: &[u8], g: Given) -> Step
+// Ruled out: a second form for a node is taken; `(open)` is a bad line.
+pub fn pass_line(line: &[u8], g: Given) -> Step
     ensures { λ r. ⌜ ((fs : List Form) → Gives g fs → Steps fs (lineOf (now (line .entry))) r) ⌝ }
 {
     let l = read_line(line);

@@ -16,7 +16,7 @@ ghost use Rattle.calls.specs.declared.Answer.the-variants.{Chained, ToldAll, Re
 ghost use Rattle.calls.specs.Answers.{num, numbersOf, allOf};
 ghost use Rattle.text.specs.Answers.{spaced, okText, printed};
 ghost use Rattle.text.specs.contracts.Sizes.{REPLY, VALUE, TOLD};
-ghost use Rattle.text.specs.contracts.Replies.{inReply, Puts, numbersText, toldText, openingText};
+ghost use Rattle.text.specs.contracts.Replies.{inReply, Puts, HandsOut, numbersText, toldText, openingText};
 
 // the digits of a number at most
 const DIGITS: usize = 10;
@@ -25,7 +25,8 @@ const DIGITS: usize = 10;
 const VALUE: usize = 11;
 
 // ---- texts
-fn put_text(o: &mut [u8; REPLY], at: usize, t: &[u8]) -> usize
+// Ruled out: the last byte of the text left out; a byte after it that changes.
+pub fn put_text(o: &mut [u8; REPLY], at: usize, t: &[u8]) -> usize
     requires { ⌜ at + length (now t) ≤ REPLY ⌝ }
     ensures put { λ r. ⌜ Puts (now (o .entry)) at (now (t .entry)) (now (o .exit)) r ⌝ }
     ensures grown { λ r. ⌜ r ≡ at + length (now (t .entry)) ⌝ }
@@ -45,10 +46,12 @@ pub fn last_digit(n: u64) -> u8
 }
 
 // A space and a number: its digits from the last to the first, with the space before them.
-fn put_value(o: &mut [u8; REPLY], at: usize, n: u64) -> usize
+// Ruled out: a number without its last digit; no space before it.
+pub fn put_value(o: &mut [u8; REPLY], at: usize, n: u64) -> usize
     requires { ⌜ at + VALUE ≤ REPLY ⌝ }
     ensures put { λ r. ⌜ Puts (now (o .entry)) at (spaced (num n ∷ [])) (now (o .exit)) r ⌝ }
     ensures grown { λ r. ⌜ r ≤ at + VALUE ⌝ }
+    ensures exact { λ r. ⌜ r ≡ at + length (spaced (num n ∷ [])) ⌝ }
 {
     let mut value = [0u8; VALUE];
     let mut left = n;
@@ -224,4 +227,21 @@ pub fn print_opening(k: u32, line: usize) -> Reply
     let mut bytes = [0u8; REPLY];
     let length = put_opening(&mut bytes, k, line);
     Reply { bytes, length }
+}
+
+// ---- a reply handed out
+// Writes a reply to the front of the run lent for it, and gives its length; the bytes after it stay.
+// Ruled out: a byte after the reply that changes; a reply one byte short.
+pub fn hand_out(r: Reply, out: &mut [u8]) -> usize
+    requires { ⌜ (r .length ≤ REPLY) × (REPLY ≤ length (now out)) ⌝ }
+    ensures { λ n. ⌜ HandsOut r (now (out .entry)) (now (out .exit)) n ⌝ }
+{
+    let n = r.length;
+    let bytes = r.bytes;
+    let mut i = 0;
+    while i < n {
+        out[i] = bytes[i];
+        i += 1;
+    }
+    n
 }

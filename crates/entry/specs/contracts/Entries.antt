@@ -3,7 +3,7 @@ use Prim.Native.Nat.{ℕ, _<_, _≤_}
 use mathlib.Core.Bool.{Bool, true}
 use mathlib.Core.List.{List, _++_}
 use mathlib.Core.Path.{_≡_}
-use lib.ListN.{length, drop, take}
+use lib.ListN.{length, drop}
 use Rattle.rows.specs.Tables.{State}
 use Rattle.rows.specs.Sound.{sound}
 use Rattle.rows.specs.Layout.{recordsIn}
@@ -20,6 +20,9 @@ use Rattle.text.specs.Entry.{Replied, callerUnlisted, answered}
 use Rattle.text.specs.contracts.Replies.{inReply}
 use Rattle.text.specs.contracts.Sizes.{REPLY}
 use Rattle.page.specs.contracts.Columns.{WritesLines}
+use Rattle.joining.specs.Written.{join}
+use Rattle.joining.specs.contracts.Lines.{Puts}
+use Rattle.joining.specs.contracts.Answers.{JOINED}
 
 -- ---- on sound tables
 -- the sound tables t with the records p become u with the records v, and r is answered, as f says
@@ -48,10 +51,6 @@ abbrev pub Replies : Replied → Reply → List ℕ → List ℕ → Type 0
 Replies o r t p = (r ≡ inReply (o .reply)) × (t ≡ o .tables) × (p ≡ o .processes)
 
 -- ---- under C names
--- the run `out` has the reply's bytes in front, and n is their number
-abbrev pub HandsOut : Reply → List ℕ → List ℕ → ℕ → Type 0
-HandsOut r out after n = (n ≡ r .length) × (after ≡ take (r .length) (r .bytes) ++ drop (r .length) out)
-
 -- where the reply has room: reply and runs are those of the definition, and the bytes after the reply stay
 abbrev pub Given : Replied → List ℕ → List ℕ → List ℕ → List ℕ → ℕ → Type 0
 Given o out t p after n =
@@ -69,3 +68,8 @@ pub record Exports (o : Replied) (t p out u v after : List ℕ) (n : ℕ) : Type
 pub record ExportsLines (t : List ℕ) (from : ℕ) (out after : List ℕ) (n : ℕ) : Type 0 where
   pub lines : IsTables t → WritesLines t from out after n
   pub misfit : (IsTables t → ⊥) → (n ≡ 0) × (after ≡ out)
+
+-- two opening texts joined; nothing where `out` has less than the room for all that may be printed
+pub record ExportsJoin (texts out after : List ℕ) (n : ℕ) : Type 0 where
+  pub joined : JOINED ≤ length out → Puts (join texts) out after n
+  pub short : length out < JOINED → (n ≡ 0) × (after ≡ out)

@@ -7,29 +7,27 @@ use lib.ListN.{length, take, drop}
 use Rattle.rows.specs.Limits.{nodes, processes, mostBytes}
 use Rattle.rows.specs.Layout.{rightLengths}
 use Rattle.rows.specs.contracts.Sizes.{IsTables, IsRecords}
+use Rattle.text.specs.Opening.{keptOfLine, cut}
 use Rattle.text.specs.Entry.{openEntry}
+use Rattle.text.specs.contracts.Sizes.{KEPT-LINE}
 use Rattle.feed.specs.declared.Stage.{Stage}
 use Rattle.feed.specs.declared.Kept.{Kept}
 use Rattle.feed.specs.declared.Moved.{Moved}
 use Rattle.feed.specs.declared.Fed.{Fed}
-use Rattle.feed.specs.Feeding.{keptOfLine, cut, Session, begun, withLine, Step, stageAfter, lineFed, fed, partsFed}
+use Rattle.feed.specs.Feeding.{Session, begun, withLine, Step, stageAfter, lineFed, fed, partsFed}
 use Rattle.feed.specs.Prints.{mostText}
 
 -- ---- sizes, named in contracts as in code
-abbrev pub LINE : ℕ
-LINE = 257
-
 abbrev pub KEPT : ℕ
 KEPT = 24833
 
 -- they are those of the definitions
 pub record FeedSizesMeant : Type 0 where
-  pub line : LINE ≡ keptOfLine
   pub kept : KEPT ≡ mostText + keptOfLine
 
 pub feed-sizes-meant : FeedSizesMeant
 unfolding keptOfLine mostText nodes processes mostBytes
-feed-sizes-meant = record { line = refl; kept = refl }
+feed-sizes-meant = record { kept = refl }
 
 -- ---- a session in its buffer
 -- the session in the buffer b and the runs t and p: the opening that is not decided in front, then the line begun
@@ -43,7 +41,7 @@ Stands k b = k .text + k .line ≤ length b
 
 -- the buffer has room for a whole line after the opening that is not decided
 abbrev pub HasRoom : Kept → List ℕ → Type 0
-HasRoom k b = (k .text + LINE ≤ length b) × (k .line ≤ LINE)
+HasRoom k b = (k .text + KEPT-LINE ≤ length b) × (k .line ≤ KEPT-LINE)
 
 -- a session that parts have led to from its beginning
 pub record Reached (s : Session) : Type 0 where

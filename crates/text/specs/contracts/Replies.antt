@@ -3,7 +3,7 @@ use Prim.Native.Nat.{ℕ}
 use mathlib.Core.Path.{_≡_}
 use mathlib.Core.List.{List, [], _∷_, _++_, map}
 use lib.Dec.{eqb}
-use lib.ListN.{length}
+use lib.ListN.{length, take, drop}
 use Rattle.rows.specs.Lists.{if_then_else_, pad, nonzero}
 use Rattle.calls.specs.Answers.{Value, num, toldValue}
 use Rattle.text.specs.declared.Reply.{Reply}
@@ -17,6 +17,10 @@ inReply t = record { bytes = pad 0 REPLY t; length = length t }
 abbrev pub Puts : List ℕ → ℕ → List ℕ → List ℕ → ℕ → Type 0
 Puts o n t u m =
     (before : List ℕ) → record { bytes = o; length = n } ≡ inReply before → record { bytes = u; length = m } ≡ inReply (before ++ t)
+
+-- the run `out` has the reply's bytes in front, and n is their number
+abbrev pub HandsOut : Reply → List ℕ → List ℕ → ℕ → Type 0
+HandsOut r out after n = (n ≡ r .length) × (after ≡ take (r .length) (r .bytes) ++ drop (r .length) out)
 
 -- the text of the numbers that are not 0: themselves of a fetch or a chain, what they tell of a comesall
 abbrev pub listedText : (ℕ → Value) → List ℕ → List ℕ

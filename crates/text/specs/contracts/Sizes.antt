@@ -1,9 +1,10 @@
 -- Sizes and bounds of the text, named in contracts as in code (an underscore there is a hyphen here), and that they are those of the definitions.
 use Prim.Native.Nat.{ℕ, suc}
 use mathlib.Core.Path.{_≡_, refl}
-use Rattle.rows.specs.Limits.{nodes, greatestNumber}
+use Rattle.rows.specs.Limits.{nodes, greatestNumber, mostBytes}
 use Rattle.rows.specs.contracts.Sizes.{LAST-NEXT}
 use Rattle.text.specs.Patterns.{mostGroups}
+use Rattle.text.specs.Opening.{keptOfLine}
 
 -- the greatest number that is read: it stands for all above it
 abbrev pub GREATEST-READ : ℕ
@@ -20,6 +21,10 @@ GROUPS = 64
 -- the greatest node
 abbrev pub NODES : ℕ
 NODES = 32
+
+-- the bytes kept of a line
+abbrev pub KEPT-LINE : ℕ
+KEPT-LINE = 257
 
 -- the bytes of a reply: part of the C interface, as no definition has them
 abbrev pub REPLY : ℕ
@@ -38,7 +43,8 @@ pub record TextSizesMeant : Type 0 where
   pub greatest-read : GREATEST-READ ≡ suc greatestNumber
   pub groups : GROUPS ≡ mostGroups
   pub nodes : NODES ≡ nodes
+  pub kept-line : KEPT-LINE ≡ keptOfLine
 
 pub text-sizes-meant : TextSizesMeant
-unfolding greatestNumber mostGroups nodes
-text-sizes-meant = record { greatest-read = refl; groups = refl; nodes = refl }
+unfolding greatestNumber mostGroups nodes keptOfLine mostBytes
+text-sizes-meant = record { greatest-read = refl; groups = refl; nodes = refl; kept-line = refl }

@@ -1,26 +1,39 @@
--- `keeping::keep_byte` meets its contract: a full line stays, another has the byte at its end.
+-- `keeping::keep_byte` meets its contract: the line begun is kept after the text.
 use borrow.Author.Needs.{needs}
-use Rattle.feed.proofs.Buffers.{byte-full, byte-more}
+use native.Mathlib.Omega.{arith}
+use mathlib.Core.Path.{refl}
+use Rattle.feed.proofs.Buffers.{byte-kept}
 use Rattle.feed.proofs.keeping.keep_byte.Statement.{statement}
 use Rattle.feed.proofs.keeping.keep_byte.Tie as tie
 
-returns : tie.Need-returns
-returns c = let s = c .before .before in byte-full (s .args .b) (s .args .k) (s .args .kept .now) (s .pre) (c .if1 .taken)
+sub-keep-byte : tie.Need-sub-keep-byte
+sub-keep-byte c = search needs
 
-add-at : tie.Need-add-at
-add-at c = search needs
+part-keep-byte-start : tie.Need-part-keep-byte-start
+part-keep-byte-start c = search needs
 
-slice-write-kept : tie.Need-slice-write-kept
-slice-write-kept c = search needs
+part-keep-byte-end : tie.Need-part-keep-byte-end
+part-keep-byte-end c = search needs
 
-add-t8 : tie.Need-add-t8
-add-t8 c = search needs
+keep-byte-requires : tie.Need-keep-byte-requires
+keep-byte-requires c κs = search needs
 
 same-length : tie.Need-same-length
 same-length c = search needs
 
-returns-2 : tie.Need-returns-2
-returns-2 c = let s = c .before .before .before .before in byte-more (s .args .b) (s .args .k) (s .args .kept .now) (s .pre) (search needs)
+returns : tie.Need-returns
+returns c =
+    let s = c .before .before .before .before .before in
+    let kept = c .before .before .keep-byte in
+    byte-kept (s .args .b) (s .args .k) (s .args .kept .now) _ _ (kept .result) (s .pre) refl (omega arith) (kept .ensures .1) (kept .ensures .0)
 
 pub keep-byte-spec : {M : Type 1} → statement M
-keep-byte-spec = tie.close (tie.spec returns add-at slice-write-kept add-t8 same-length returns-2)
+keep-byte-spec =
+    tie.close
+    (tie.spec
+    sub-keep-byte
+    part-keep-byte-start
+    part-keep-byte-end
+    keep-byte-requires
+    same-length
+    returns)

@@ -1,11 +1,11 @@
 -- `replies::put_value` meets its contract: the digits written and those before them are the number's.
 use borrow.Author.Needs.{needs}
-use Prim.Native.Nat.{_<_, _-_, suc}
+use Prim.Native.Nat.{ℕ, _<_, _+_, _-_, suc}
 use native.Mathlib.Omega.{arith}
-use mathlib.Core.List.{_++_, append-nil}
-use mathlib.Core.Path.{_≡_, _∙_, refl}
+use mathlib.Core.List.{List, _++_, append-nil}
+use mathlib.Core.Path.{_≡_, _∙_, refl, ap}
 use lib.Dec.{leb, ltb}
-use lib.ListN.{length, set, drop, length-set}
+use lib.ListN.{length, set, take, drop, length-set}
 use borrow.Author.Tests.{ltb-true}
 use Rattle.rows.proofs.Bools.{and-r}
 use Rattle.text.specs.Answers.{decimal}
@@ -83,7 +83,9 @@ returns c =
     let l = w .before .loop in
     let a = w .before .before .args in
     let whole = value-whole (l .i) (l .left) (a .n) (l .value) (l .inv .2) (l .inv .0) (l .inv .1) (w .loop-test .left) (l .inv .3) in
-    (puts-as _ _ (rw (last .last-digit2 .ensures) whole) (c .put-text .ensures .0), omega arith)
+    let printed : ℕ → List ℕ = λ d. take (VALUE - (l .i - 1)) (drop (l .i - 1) (set (set (l .value) (l .i) d) (l .i - 1) 32)) in
+    let same = ap printed (last .last-digit2 .ensures) ∙ whole in
+    (puts-as _ _ same (c .put-text .ensures .0), (omega arith, c .put-text .ensures .1 ∙ ap (λ (t : List ℕ). a .at + length t) same))
 
 pub put-value-spec : {M : Type 1} → statement M
 put-value-spec =

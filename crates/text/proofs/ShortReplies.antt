@@ -48,7 +48,7 @@ ok-short : (vs : List Value) → length vs ≤ mostPairs → length (okText vs) 
 unfolding okText bytes
 ok-short vs h = framed-short (bytes "(ok") (bytes ")\n") vs refl refl h
 
-no-short : (ns : List ℕ) → length ns ≤ 2 → length (noText ns) ≤ REPLY
+pub no-short : (ns : List ℕ) → length ns ≤ 2 → length (noText ns) ≤ REPLY
 unfolding noText bytes mostPairs
 no-short ns h = framed-short (bytes "(no") (bytes ")\n") (map num ns) refl refl (omega (arith, length-map ns num))
 

@@ -1,19 +1,20 @@
--- Lines across the bytes read and the bytes to come, and what is kept of them.
+-- A line that comes byte by byte: lines across the bytes read and the bytes to come, and what is kept of them.
 use Prim.Native.Nat.{ℕ, suc, _+_, _<_, _≤_}
+use native.Mathlib.Numerals.{add-one}
 use native.Mathlib.Omega.{arith}
 use mathlib.Core.Bool.{Bool, true, false, not}
 use mathlib.Core.List.{List, [], _∷_, _++_, map, append-assoc}
 use mathlib.Core.Path.{_≡_, refl, sym, ap, _∙_}
 use lib.Dec.{eqb, ltb}
-use lib.ListN.{length, length-append, length-take}
-use lib.Seq.{take-all, length-take-le, take-append-le}
+use lib.ListN.{length, set, take, length-append, length-take}
+use lib.Seq.{take-all, length-take-le, take-append-le, take-suc-set}
 use borrow.Author.Tests.{lt-ltb, ltb-true, ltb-false}
 use Rattle.rows.specs.Limits.{mostBytes}
 use Rattle.text.specs.declared.Reading.the-variants.{Refused}
 use Rattle.text.specs.CallLines.{readingOf}
-use Rattle.text.specs.Opening.{linesOf, lineOf, badLine}
+use Rattle.text.specs.Opening.{linesOf, keptOfLine, cut, lineOf, badLine}
+use Rattle.text.specs.contracts.Sizes.{KEPT-LINE, text-sizes-meant}
 use Rattle.text.proofs.Lines.{plain, headOf, tailOf, with-byte, lines-plain, plain-append, plain-take, line-ends, plain-one}
-use Rattle.feed.specs.Feeding.{keptOfLine, cut}
 
 -- ---- what is kept of a line
 pub cut-all : (l : List ℕ) → length l ≤ keptOfLine → cut l ≡ l
@@ -108,3 +109,16 @@ line-kept l e h = pick (ltb (length l) keptOfLine) refl
 -- ---- the end of the input
 pub lines-left : (l : List ℕ) → plain l ≡ true → (length l ≡ 0 → ⊥) → linesOf l ≡ l ∷ []
 lines-left l e h = plain-one l e (omega arith)
+
+-- ---- a byte is kept
+-- a full line stays
+pub kept-full : (l : List ℕ) (n b : ℕ) → n ≡ KEPT-LINE → n ≤ length l → take n l ≡ cut (take n l ++ (b ∷ []))
+kept-full l n b full h = let long = length-take-le n l h in sym (cut-full (take n l) (b ∷ []) (long ∙ full ∙ text-sizes-meant .kept-line))
+
+-- a line with room has a byte more
+pub kept-more : (l : List ℕ) (n b : ℕ) → n < KEPT-LINE → n < length l → take (n + 1) (set l n b) ≡ cut (take n l ++ (b ∷ []))
+kept-more l n b room h =
+    let long = length-take-le n l (omega arith) in
+    let more = length-append (take n l) (b ∷ []) in
+    let size = text-sizes-meant .kept-line in
+    rw add-one (take-suc-set l n b h) ∙ sym (cut-all (take n l ++ (b ∷ [])) (omega arith))

@@ -1,13 +1,13 @@
--- `exports::hand_out` meets its contract: byte by byte a prefix of the run is replaced.
+-- `replies::hand_out` meets its contract: byte by byte a prefix of the run is replaced.
 use borrow.Author.Needs.{needs}
 use Prim.Native.Nat.{_≤_, _-_, _+_}
 use native.Mathlib.Omega.{arith}
 use mathlib.Core.Path.{_≡_, refl, ap, _∙_}
 use lib.ListN.{length, set, getD}
 use Rattle.text.specs.contracts.Sizes.{REPLY}
-use Rattle.entry.proofs.Handed.{handed, handed-long, handed-more}
-use Rattle.entry.proofs.exports.hand_out.Statement.{statement}
-use Rattle.entry.proofs.exports.hand_out.Tie as tie
+use Rattle.text.proofs.HandedOut.{handed, handed-long, handed-more}
+use Rattle.text.proofs.replies.hand_out.Statement.{statement}
+use Rattle.text.proofs.replies.hand_out.Tie as tie
 
 abbrev Inv-loop : tie.InvT-loop
 Inv-loop out₀ n bytes i₀ out i =

@@ -1,0 +1,35 @@
+-- Laws of joining. One line a file:
+-- an entry in a word, and read back
+pub mod EntryCodes
+-- what the forms that a first pass took say of a node and of a process
+pub mod FormFacts
+-- what the words of a directory tell
+pub mod HeldForms
+-- what is new is added, one after the other
+pub mod NewEntries
+-- the entries of a joined node, and their codes
+pub mod MergedNodes
+-- tests of the numbers from one on, step by step
+pub mod NumbersFrom
+-- what the forms of both texts list
+pub mod ListedNames
+-- the entries of a node form stored one after the other
+pub mod StoredEntries
+-- a form stored in a directory
+pub mod StoredForms
+-- forms as text
+pub mod FormTexts
+-- the joined text by slots
+pub mod SlotLines
+-- entries written read back as themselves
+pub mod EntriesBack
+-- forms written as lines read back as themselves
+pub mod FormsBack
+-- a line of a text read into its directory
+pub mod ReadLines
+-- how far reading has come, at the end of a line, of a part, of the input
+pub mod ReadOn
+-- two texts fed byte by byte are joined as the whole input is
+pub mod FedTexts
+-- what is printed: the slots one after the other are the joined text; the refusal
+pub mod PrintedTexts

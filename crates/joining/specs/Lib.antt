@@ -1,0 +1,6 @@
+-- Definitions of the joining of two opening texts.
+pub mod Joins
+pub mod Written
+pub mod Feeding
+pub mod contracts
+pub mod Computes
