@@ -12,6 +12,7 @@ pub mod dump;
 pub mod effects;
 pub mod form;
 pub mod history;
+pub mod join;
 pub mod limits;
 pub mod manual;
 pub mod moment;

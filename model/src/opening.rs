@@ -6,7 +6,7 @@ use crate::refusals::lowest;
 use crate::tables::{Kind, Place, Process, Row, Tables};
 
 /// An entry of a node: `(op 2 5 7)` or `(dir 2 3)`.
-#[derive(Clone, Copy, PartialEq, Eq, Debug)]
+#[derive(Clone, Copy, PartialEq, Eq, PartialOrd, Ord, Debug)]
 pub enum Entry {
     Op {
         manager: u32,
@@ -27,11 +27,39 @@ pub enum Form {
     Open,
 }
 
-/// An accepted opening: its forms in order, and the bytes read, through the
-/// line of `(open)`.
+/// A text that is read: its forms in order, and the bytes read, through the line of
+/// `(open)`.
 pub struct Opening {
     pub forms: Vec<Form>,
     pub bytes: usize,
+}
+
+impl Form {
+    /// (rules O1, O2) The form's line, with its line feed.
+    pub fn print(&self) -> String {
+        match self {
+            Form::Node { node, entries } => {
+                let entries: String = entries.iter().map(Entry::print).collect();
+                format!("(node {node}{entries})\n")
+            }
+            Form::Process { process, prime } => format!("(process {process} {prime})\n"),
+            Form::Open => "(open)\n".to_string(),
+        }
+    }
+}
+
+impl Entry {
+    /// The entry with the space before it.
+    pub fn print(&self) -> String {
+        match self {
+            Entry::Op {
+                manager,
+                operation,
+                rights,
+            } => format!(" (op {manager} {operation} {rights})"),
+            Entry::Dir { node, rights } => format!(" (dir {node} {rights})"),
+        }
+    }
 }
 
 /// The form on a line of the opening, none for a bad form.
@@ -75,6 +103,12 @@ fn read_entry(part: &Part) -> Option<Entry> {
 /// (rules O16, O17) Reads an opening text; a refusal is its number and line: the
 /// first line with 2, 3, 4 or 6, and its lowest; if there is none, the first with 5.
 pub fn read_opening(text: &[u8]) -> Result<Opening, (u32, u32)> {
+    all_listed(read_text(text)?)
+}
+
+/// (rule O16) Reads a text through its `(open)`, whatever its forms name: 5 is no
+/// refusal here.
+pub fn read_text(text: &[u8]) -> Result<Opening, (u32, u32)> {
     let mut forms: Vec<Form> = Vec::new();
     let mut bytes = 0;
     for (line, number) in split_lines(text).zip(1..) {
@@ -85,7 +119,7 @@ pub fn read_opening(text: &[u8]) -> Result<Opening, (u32, u32)> {
         }
         forms.extend(form);
         if forms.last() == Some(&Form::Open) {
-            return all_listed(forms, bytes);
+            return Ok(Opening { forms, bytes });
         }
     }
     // (rule O12) A text without `(open)` has 2 at the line after its last.
@@ -135,7 +169,7 @@ fn entry_in_range(entry: &Entry) -> bool {
 }
 
 /// (rule O14) A node or process given by two forms.
-fn gives_the_same(a: &Form, b: &Form) -> bool {
+pub fn gives_the_same(a: &Form, b: &Form) -> bool {
     match (a, b) {
         (Form::Node { node: a, .. }, Form::Node { node: b, .. }) => a == b,
         (Form::Process { process: a, .. }, Form::Process { process: b, .. }) => a == b,
@@ -144,11 +178,12 @@ fn gives_the_same(a: &Form, b: &Form) -> bool {
 }
 
 /// (rule O17) 5: a process or node that is not listed, at the line that names it.
-fn all_listed(forms: Vec<Form>, bytes: usize) -> Result<Opening, (u32, u32)> {
-    let missing = forms.iter().position(|form| !names_listed(&forms, form));
+fn all_listed(opening: Opening) -> Result<Opening, (u32, u32)> {
+    let forms = &opening.forms;
+    let missing = forms.iter().position(|form| !names_listed(forms, form));
     match missing {
         Some(at) => Err((5, at as u32 + 1)),
-        None => Ok(Opening { forms, bytes }),
+        None => Ok(opening),
     }
 }
 

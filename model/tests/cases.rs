@@ -1,7 +1,8 @@
 //! The cases of cases/, of docs/MANUAL.md and of conformance/, on the model: sessions,
-//! tables, and words at its two entry points; pages.
+//! tables, and words at its two entry points; pages; joined texts.
 
-use model::cases::{self, run, Case, Entries, Step};
+use model::cases::{self, run, run_join, Case, Entries, Step};
+use model::join::join;
 use model::page::{page, session_page, words_page};
 use model::session::{call, dump_session};
 use model::words::{call_entry, open_entry};
@@ -86,6 +87,16 @@ fn told_page(case: &Case, page: &[u8]) {
     }
 }
 
+/// Joined texts, all of them.
+#[test]
+fn cases_of_joining() {
+    let cases = cases::all_joins().unwrap();
+    for case in &cases {
+        run_join(case, join).unwrap_or_else(|said| panic!("{said}"));
+    }
+    assert!(cases.len() >= 127, "{} cases", cases.len());
+}
+
 /// The dumps of conformance/: the tables after each call.
 #[test]
 fn sessions_leave_the_dumped_tables() {
@@ -107,17 +118,26 @@ fn sessions_leave_the_dumped_tables() {
 #[test]
 fn cases_are_read() {
     let cases = cases::all().unwrap();
-    let names: BTreeSet<&str> = cases.iter().map(|c| c.name.as_str()).collect();
-    assert_eq!(names.len(), cases.len());
+    let joins = cases::all_joins().unwrap();
+    let names = cases.iter().map(|c| &c.name);
+    let names: BTreeSet<&str> = names
+        .chain(joins.iter().map(|j| &j.name))
+        .map(String::as_str)
+        .collect();
+    assert_eq!(names.len(), cases.len() + joins.len());
     let of = |part: &str| names.iter().filter(|n| n.starts_with(part)).count();
     assert_eq!(of("conformance/sessions/"), 184);
     assert_eq!(of("conformance/tables/"), 444);
     assert_eq!(of("conformance/pages/"), 26);
+    assert_eq!(of("conformance/joins/"), 60);
     let by_hand = cases::by_hand().unwrap();
     assert!(by_hand.len() >= 550, "{} cases", by_hand.len());
     let paged = by_hand.iter().filter(|c| c.page.is_some()).count();
     assert!(paged >= 24, "{paged} pages");
     assert!(by_hand.iter().all(|c| !c.rules.is_empty()));
+    let joins = cases::joins_by_hand().unwrap();
+    assert!(joins.len() >= 67, "{} cases of joining", joins.len());
+    assert!(joins.iter().all(|c| !c.rules.is_empty()));
 }
 
 /// A range stands for its numbers; a file that is wrong is refused with its line.
@@ -146,6 +166,33 @@ fn files_are_read_as_told() {
     ] {
         assert!(read(bad).is_err(), "{bad}");
     }
+}
+
+/// The texts of a case of joining are those lines; a file that is wrong is refused.
+#[test]
+fn joins_are_read_as_told() {
+    let read = |text: &str| cases::read_joins("file", text);
+    let good = "case: a\nrule: J1, J2\ntexts:\n(node 1..2) | x\\x09 ; a remark\n(open)[cut]\njoined:\n(no 2 3)\n";
+    let join = read(good).unwrap().remove(0);
+    assert_eq!(join.texts, b"(node 1)\n(node 2)\nx\t\n(open)");
+    assert_eq!(join.joined, b"(no 2 3)\n");
+    assert_eq!((join.at.as_str(), join.rules.len()), ("file:1", 2));
+    let cases = cases::read_text("file", good, &Default::default());
+    assert!(cases.unwrap().is_empty());
+    let empty = read("case: a\nrule: J1\ntexts:\njoined:\n(no 2 1)\n").unwrap();
+    assert!(empty[0].texts.is_empty());
+    for bad in [
+        good.replace("case: ", ""),
+        good.replace("rule: J1, J2\n", ""),
+        good.replace("joined:\n", ""),
+        good.replace("(no 2 3)\n", ""),
+        good.replace("\\x09", "\\xzz"),
+        good.replace("rule:", "after:\nrule:"),
+    ] {
+        assert!(read(&bad).is_err(), "{bad}");
+    }
+    assert!(run_join(&join, model::join::join).is_ok());
+    assert!(run_join(&join, |_| b"(no 2 2)\n".to_vec()).is_err());
 }
 
 /// The runner can fail: another answer, other words, words that a refused call changed, another page.

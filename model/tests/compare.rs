@@ -23,6 +23,7 @@ const SIZES: Sizes = Sizes {
     histories: 5,
     lent: 3,
     pages: 8,
+    joins: 8,
 };
 
 /// Names are different, the numbers of cases are as asked, and the same seed
@@ -40,6 +41,7 @@ fn cases_of_a_seed() {
         ("words", 10),
         ("lent", 3),
         ("page", 34),
+        ("join", 67 + 60 + 8),
     ] {
         assert_eq!(all.iter().filter(|c| c.sort() == sort).count(), count);
     }
@@ -90,17 +92,19 @@ fn text_of_the_prover() {
     assert_eq!(runs, "((replicate 3 0 ++ (5 ∷ (replicate 2 6 ++ ([])))))");
 }
 
-/// The bits of `(no 8)` that are 0 give the text again.
+/// The bits of a text that are 0, past its end all of them, give the text again.
 #[test]
 fn an_answer_from_its_bits() {
-    let text = b"(no 8)\n";
-    let zeros = (0..text.len()).flat_map(|at| {
-        let zero = move |bit: &u32| text[at] >> bit & 1 == 0;
-        (0..7)
-            .filter(zero)
-            .map(move |bit| format!("bit-{at}-{bit}"))
-    });
-    let zeros: Vec<String> = zeros.collect();
-    let names: Vec<&str> = zeros.iter().map(String::as_str).collect();
-    assert_eq!(bits::read(&names), "(no 8)");
+    for text in [&b"(no 8)\n"[..], b"(node 1)\n(open)\n"] {
+        let zeros = (0..200).flat_map(|at| {
+            let byte = text.get(at).copied().unwrap_or(0);
+            let zeros = (0..7).filter(move |bit| byte >> bit & 1 == 0);
+            zeros.map(move |bit| format!("bit-{at}-{bit}"))
+        });
+        let zeros: Vec<String> = zeros.collect();
+        let names: Vec<&str> = zeros.iter().map(String::as_str).collect();
+        let text = String::from_utf8_lossy(text);
+        assert_eq!(bits::read_lines(&names), text);
+        assert_eq!(Some(bits::read(&names).as_str()), text.lines().next());
+    }
 }

@@ -37,3 +37,6 @@ fn cases_on_the_entry_points() {
         "{steps} steps, {without} without words"
     );
 }
+
+// PLACE FOR JOINING: with the library's function for it, `cases::run_join(case, join)` of each of
+// `cases::all_joins()`, 127 or more.

@@ -2,15 +2,18 @@
 //!
 //! compare write DIR SEED [--sessions N --calls N --damaged N ..]   all cases of a seed
 //! compare named DIR NAMES [--histories N ..]       the cases of cases/ with these names, and those of seed 1
-//! compare prefixes DIR SORT SESSION       the session cut after some of its lines
+//! compare prefixes DIR SORT SESSION       the session (or the two texts) cut after some of its lines
 //! compare runs DIR SORT SESSION           the session with many lines left out
 //! compare lines DIR SORT SESSION          the session with few lines left out
 //! compare bits DIR BASE                   what the definitions answer, bit by bit
 //! compare read NAMES                      the answer, the bits that are 0 being named
+//! compare read-lines NAMES                the lines that are printed of two texts, as far as they were read
 //! compare show SESSION [ANSWER]           the session with the model's answers
+//! compare show-join TEXTS                 the texts with what the model prints of them
 
 use model::compare::smaller::{self, Claim};
 use model::compare::{bits, by_hand, write, Case, Sizes};
+use model::join::join;
 use model::session::Session;
 use model::Tables;
 use std::fs;
@@ -47,7 +50,16 @@ fn main() -> Outcome {
             println!("{}", bits::read(&names.lines().collect::<Vec<_>>()));
             Ok(())
         }
+        ["read-lines", names] => {
+            let names = fs::read_to_string(names)?;
+            print!("{}", bits::read_lines(&names.lines().collect::<Vec<_>>()));
+            Ok(())
+        }
         ["show", session, answer @ ..] => show(&fs::read(session)?, answer.first()),
+        ["show-join", texts] => {
+            show_join(&fs::read(texts)?);
+            Ok(())
+        }
         _ => Err("usage: see the head of src/bin/compare.rs".into()),
     }
 }
@@ -63,6 +75,7 @@ fn claim(sort: &str) -> Claim {
     match sort {
         "history" => Claim::History,
         "page" => Claim::Page,
+        "join" => Claim::Join,
         _ => Claim::Output,
     }
 }
@@ -91,14 +104,18 @@ fn sizes(options: &[&str]) -> Result<Sizes, Box<dyn std::error::Error>> {
         histories: number("--histories")?,
         lent: number("--lent")?,
         pages: number("--pages")?,
+        joins: number("--joins")?,
     })
 }
 
-/// The claims for a session's last answer, or for the call on tables.
+/// The claims for a session's last answer, for two texts, or for the call on tables.
 fn bits_of(base: &str) -> Result<Vec<Case>, Box<dyn std::error::Error>> {
     let file = |ending: &str| fs::read(format!("{base}.{ending}"));
     if let Ok(session) = file("session") {
         return Ok(bits::of_session(&session));
+    }
+    if let Ok(texts) = file("texts") {
+        return Ok(bits::of_texts(&texts));
     }
     let text = String::from_utf8(file("tables")?)?;
     let tables = Tables::parse(&text).ok_or("no tables")?;
@@ -130,4 +147,15 @@ fn show(input: &[u8], definitions: Option<&&str>) -> Outcome {
         println!("        the definitions: {definitions}");
     }
     Ok(())
+}
+
+/// Prints the texts, then what the model prints of them.
+fn show_join(texts: &[u8]) {
+    for line in String::from_utf8_lossy(texts).lines() {
+        println!("    {line}");
+    }
+    println!("        the model:");
+    for line in String::from_utf8_lossy(&join(texts)).lines() {
+        println!("        {line}");
+    }
 }

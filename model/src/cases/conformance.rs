@@ -1,7 +1,7 @@
 //! Sessions with their answers, and the files of conformance/, as cases.
 
 use super::lent::Lent;
-use super::{Case, Step};
+use super::{Case, Join, Step};
 use crate::form::split_lines;
 use crate::session::{open, run_session};
 use crate::tables::Tables;
@@ -80,6 +80,21 @@ pub fn pages(directory: &Path) -> io::Result<Vec<Case>> {
         });
     }
     Ok(cases)
+}
+
+/// The texts that are joined, with what is printed of them.
+pub fn joins(directory: &Path) -> io::Result<Vec<Join>> {
+    let mut joins = Vec::new();
+    for path in files(&directory.join("joins"), "texts")? {
+        joins.push(Join {
+            at: name(&path),
+            name: name(&path),
+            rules: Vec::new(),
+            texts: fs::read(&path)?,
+            joined: fs::read(path.with_extension("joined"))?,
+        });
+    }
+    Ok(joins)
 }
 
 fn name(path: &Path) -> String {

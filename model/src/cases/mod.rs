@@ -1,11 +1,13 @@
 //! The cases of cases/ (its README.md says how they are written), those of conformance/ and
-//! the sessions of docs/MANUAL.md, all in one form, for every runner.
+//! the sessions of docs/MANUAL.md, all in one form, for every runner; those of joining in another.
 
 mod conformance;
+mod join;
 mod lent;
 mod read;
 mod run;
 
+pub use join::{read_joins, run_join, Join};
 pub use lent::Lent;
 pub use read::{ranges, read_text, Named};
 pub use run::{run, Entries};
@@ -108,11 +110,28 @@ pub fn of_pages() -> io::Result<Vec<Case>> {
     conformance::pages(&root().join("model/conformance"))
 }
 
-/// All of them.
+/// All of them but those of joining.
 pub fn all() -> io::Result<Vec<Case>> {
     let mut cases = by_hand()?;
     cases.extend(of_manual()?);
     cases.extend(of_conformance()?);
     cases.extend(of_pages()?);
     Ok(cases)
+}
+
+/// The cases of joining of cases/.
+pub fn joins_by_hand() -> io::Result<Vec<Join>> {
+    join::read_directory(&root().join("cases"))
+}
+
+/// The texts of conformance/ that are joined, as cases.
+pub fn joins_of_conformance() -> io::Result<Vec<Join>> {
+    conformance::joins(&root().join("model/conformance"))
+}
+
+/// All cases of joining.
+pub fn all_joins() -> io::Result<Vec<Join>> {
+    let mut joins = joins_by_hand()?;
+    joins.extend(joins_of_conformance()?);
+    Ok(joins)
 }

@@ -1,5 +1,6 @@
 //! Reads the files of cases/ (its README.md says how they are written).
 
+use super::join::is_join;
 use super::lent::Lent;
 use super::{Case, Step};
 use crate::page::WIDTH;
@@ -16,8 +17,8 @@ pub struct Named {
     tables: BTreeMap<String, Lent>,
 }
 
-/// All cases of a directory, the files `.cases` in the order of their names.
-pub fn read_directory(directory: &Path) -> io::Result<Vec<Case>> {
+/// The files `.cases` of a directory in the order of their names: where each stands, and its text.
+pub(super) fn files(directory: &Path) -> io::Result<Vec<(String, String)>> {
     let entries = fs::read_dir(directory)?;
     let mut paths = entries
         .map(|e| Ok(e?.path()))
@@ -25,18 +26,20 @@ pub fn read_directory(directory: &Path) -> io::Result<Vec<Case>> {
     paths.retain(|p| p.extension().is_some_and(|e| e == "cases"));
     paths.sort();
     let mut files = Vec::new();
-    let mut named = Named::default();
     for path in paths {
-        let name = path
-            .file_name()
-            .unwrap_or_default()
-            .to_string_lossy()
-            .into_owned();
-        let text = fs::read_to_string(&path)?;
-        named
-            .read(&text)
-            .map_err(|said| wrong(format!("{name}: {said}")))?;
-        files.push((format!("cases/{name}"), text));
+        let name = path.file_name().unwrap_or_default().to_string_lossy();
+        files.push((format!("cases/{name}"), fs::read_to_string(&path)?));
+    }
+    Ok(files)
+}
+
+/// All cases of a directory but those of joining.
+pub fn read_directory(directory: &Path) -> io::Result<Vec<Case>> {
+    let files = files(directory)?;
+    let mut named = Named::default();
+    for (file, text) in &files {
+        let said = |said| wrong(format!("{file}: {said}"));
+        named.read(text).map_err(said)?;
     }
     let read = |(file, text): &(String, String)| read_text(file, text, &named);
     let cases = files.iter().map(read).collect::<Result<Vec<_>, _>>();
@@ -45,7 +48,7 @@ pub fn read_directory(directory: &Path) -> io::Result<Vec<Case>> {
 }
 
 /// The paragraphs of a text, each with its first line's number. Lines with `#` are remarks.
-fn paragraphs(text: &str) -> Vec<(usize, Vec<&str>)> {
+pub(super) fn paragraphs(text: &str) -> Vec<(usize, Vec<&str>)> {
     let mut found: Vec<(usize, Vec<&str>)> = Vec::new();
     let mut inside = false;
     for (at, line) in text.lines().enumerate() {
@@ -64,7 +67,7 @@ fn paragraphs(text: &str) -> Vec<(usize, Vec<&str>)> {
     found
 }
 
-fn wrong(said: String) -> io::Error {
+pub(super) fn wrong(said: String) -> io::Error {
     io::Error::new(io::ErrorKind::InvalidData, said)
 }
 
@@ -93,10 +96,8 @@ impl Named {
 pub fn read_text(file: &str, text: &str, named: &Named) -> Result<Vec<Case>, String> {
     let mut cases = Vec::new();
     for (at, lines) in paragraphs(text) {
-        if ["opening: ", "tables: "]
-            .iter()
-            .any(|what| lines[0].starts_with(what))
-        {
+        let mut no_case = ["opening: ", "tables: "].iter();
+        if no_case.any(|what| lines[0].starts_with(what)) || is_join(&lines) {
             continue;
         }
         let place = format!("{file}:{at}");
@@ -203,13 +204,7 @@ impl Reading<'_> {
 
     /// Lines of input with their answers, ` | ` between them.
     fn said(&mut self, line: &str) -> Result<(), String> {
-        let line = line.split(" ; ").next().unwrap_or(line);
-        for part in line.split(" | ") {
-            for part in ranges(part)? {
-                self.say(&part)?;
-            }
-        }
-        Ok(())
+        parts(line)?.iter().try_for_each(|part| self.say(part))
     }
 
     fn say(&mut self, part: &str) -> Result<(), String> {
@@ -217,11 +212,7 @@ impl Reading<'_> {
             Some((text, answer)) => (text.trim_end(), Some(answer.trim())),
             None => (part.trim(), None),
         };
-        let mut text = plain(text)?;
-        match text.strip_suffix(b"[cut]") {
-            Some(cut) => text = cut.to_vec(),
-            None => text.push(b'\n'),
-        }
+        let text = line_bytes(text)?;
         // Only an opening answers `(no k n)`.
         let at_line = answer.is_some_and(|a| a.starts_with("(no ") && a.split(' ').count() == 3);
         let opening = at_line || opens(&text) && !self.has_opened();
@@ -280,6 +271,23 @@ fn add(lent: &mut Lent, line: &str) -> Result<(), String> {
 fn opens(line: &[u8]) -> bool {
     let forms: [&[u8]; 3] = [b"(node", b"(process", b"(open)"];
     forms.iter().any(|form| line.starts_with(form))
+}
+
+/// What a line says, without its remark: ` | ` between two, those of ranges one after the other.
+pub(super) fn parts(line: &str) -> Result<Vec<String>, String> {
+    let line = line.split(" ; ").next().unwrap_or(line);
+    let each = line.split(" | ").map(ranges);
+    Ok(each.collect::<Result<Vec<_>, _>>()?.concat())
+}
+
+/// The bytes of a line of input, with its line feed if it is not `[cut]`.
+pub(super) fn line_bytes(text: &str) -> Result<Vec<u8>, String> {
+    let mut bytes = plain(text)?;
+    match bytes.strip_suffix(b"[cut]") {
+        Some(cut) => bytes = cut.to_vec(),
+        None => bytes.push(b'\n'),
+    }
+    Ok(bytes)
 }
 
 /// The bytes of a text: `\x` and two digits stand for a byte.

@@ -45,6 +45,11 @@ pub fn of_session(input: &[u8]) -> Vec<Case> {
     bits(&text, output.len() - last)
 }
 
+/// The claims that tell what the definitions print of two texts, the first bytes of it.
+pub fn of_texts(texts: &[u8]) -> Vec<Case> {
+    bits(&format!("join {}", bytes(texts)), 0)
+}
+
 /// The claims that tell what the definitions answer to a call on tables, and
 /// which parts of the state after it are as in the model.
 pub fn of_call(tables: &Tables, line: &[u8]) -> Option<Vec<Case>> {
@@ -63,14 +68,18 @@ pub fn of_call(tables: &Tables, line: &[u8]) -> Option<Vec<Case>> {
 
 /// The text whose bits of value 0 are named, up to its line feed.
 pub fn read(zeros: &[&str]) -> String {
-    let mut text = String::new();
-    for at in 0..BYTES {
+    let lines = read_lines(zeros);
+    lines.lines().next().unwrap_or("").to_string()
+}
+
+/// The text whose bits of value 0 are named, all lines of it.
+pub fn read_lines(zeros: &[&str]) -> String {
+    let bytes = (0..BYTES).map(|at| {
         let ones = (0..BITS).filter(|bit| !zeros.contains(&bit_name(at, *bit).as_str()));
-        let byte = ones.map(|bit| 1u8 << bit).sum::<u8>();
-        match byte {
-            0 | b'\n' => break,
-            _ => text.push(char::from(byte)),
-        }
-    }
-    text
+        ones.map(|bit| 1u8 << bit).sum::<u8>()
+    });
+    bytes
+        .take_while(|byte| *byte != 0)
+        .map(char::from)
+        .collect()
 }

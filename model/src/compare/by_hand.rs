@@ -2,7 +2,7 @@
 
 use super::antt::{bytes, list, runs, state, state_numbers};
 use super::case::{name, same, Case};
-use super::{histories, pages};
+use super::{histories, joins, pages};
 use crate::cases::{self, Lent, Step};
 use crate::session::{call, open};
 use crate::tables::Tables;
@@ -20,6 +20,7 @@ pub fn by_hand(rows: usize) -> std::io::Result<Vec<Case>> {
 /// Those with these names; `history of NAME` is the history of a session.
 pub fn named(names: &[&str]) -> std::io::Result<Vec<Case>> {
     let mut found = chosen(|case| names.contains(&case.name.as_str()))?;
+    found.extend(joins::by_hand(|case| names.contains(&case.name.as_str()))?);
     let noted = |case: &&cases::Case| names.contains(&format!("history of {}", case.name).as_str());
     let cases = cases::by_hand()?;
     found.extend(histories(cases.iter().filter(noted)));

@@ -9,6 +9,7 @@ pub mod conformance;
 pub mod features;
 pub mod full;
 pub mod histories;
+pub mod joins;
 pub mod lent;
 pub mod limits;
 pub mod pages;
@@ -55,6 +56,8 @@ pub struct Sizes {
     pub histories: usize,
     /// Random pages; 0: none of conformance/ either.
     pub pages: usize,
+    /// Random pairs of texts that are joined; 0: none of conformance/ either.
+    pub joins: usize,
 }
 
 /// All cases of a seed.
@@ -63,6 +66,7 @@ pub fn cases(seed: u64, sizes: Sizes) -> std::io::Result<Vec<Case>> {
     let mut cases = Vec::new();
     if sizes.by_hand > 0 {
         cases.extend(by_hand::by_hand(sizes.by_hand)?);
+        cases.extend(joins::by_hand(|_| true)?);
         cases.extend(by_hand::all_histories()?);
         cases.extend(shapes::shapes());
     }
@@ -88,5 +92,6 @@ pub fn cases(seed: u64, sizes: Sizes) -> std::io::Result<Vec<Case>> {
     )?);
     cases.extend(lent::lent(&mut rng, sizes.lent));
     cases.extend(pages::pages(&mut rng, sizes.pages)?);
+    cases.extend(joins::joins(&mut rng, sizes.joins)?);
     Ok(cases)
 }

@@ -1,7 +1,7 @@
-//! Smaller sessions, to find the shortest that still shows a difference.
+//! Smaller sessions, or pairs of texts, to find the shortest that still shows a difference.
 
 use super::case::{name, Case};
-use super::{histories, pages, sessions};
+use super::{histories, joins, pages, sessions};
 use crate::call::read_call;
 use crate::form::split_lines;
 use crate::opening::{read_opening, Form};
@@ -14,6 +14,7 @@ pub enum Claim {
     Output,
     History,
     Page,
+    Join,
 }
 
 /// A case for each of the sessions, the shortest first.
@@ -26,6 +27,7 @@ pub fn cases(claim: Claim, sessions: Vec<Vec<u8>>) -> Vec<Case> {
             Claim::Output => sessions::case(name, about, s),
             Claim::History => histories::case(name, about, s),
             Claim::Page => pages::case(name, about, s),
+            Claim::Join => joins::case(name, about, s),
         }
     });
     each.collect()

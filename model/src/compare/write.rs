@@ -21,6 +21,8 @@ use Rattle.rows.specs.Tables.{noProcess}
 use Rattle.rows.specs.Sound.{sound}
 use Rattle.rows.specs.Layout.{stateOf}
 use Rattle.text.specs.Session.{session}
+use Rattle.joining.specs.Written.{join}
+use Rattle.joining.specs.Feeding.{printedOn}
 use Rattle.compare.specs.Help.{row, request, requestWith, process, state, tellNext, tellRows, tellRequests, tellProcesses, tellLent, clauses, answerTo, stateAfter, calledSound, called, calledAll, callsThen, sessionThen, calledWords, openedWords, wordsThen, openedThen, sessionPage, statePage, wordsPage, told, bitOf}
 
 ";

@@ -1,5 +1,5 @@
-//! Random sessions, damaged texts, altered tables, sound tables and rows of any content, from a
-//! seed; `shifted` raises their numbers.
+//! Random sessions, damaged texts, pairs of texts, altered tables, sound tables and rows of any
+//! content, from a seed; `shifted` raises their numbers.
 
 pub mod aimed;
 pub mod alter;
@@ -12,6 +12,7 @@ pub mod prng;
 pub mod profile;
 pub mod shifted;
 pub mod sound_states;
+pub mod texts;
 
 pub use prng::Rng;
 pub use profile::{Profile, PROFILES, SMALL};

@@ -47,7 +47,7 @@ pub fn opening(rng: &mut Rng, profile: Profile) -> Vec<u8> {
 }
 
 /// Different numbers up to the limit: 1 and on, or any.
-fn some_numbers(rng: &mut Rng, (low, high): (u32, u32), limit: u32) -> Vec<u32> {
+pub fn some_numbers(rng: &mut Rng, (low, high): (u32, u32), limit: u32) -> Vec<u32> {
     let count = rng.between(low, high) as usize;
     let mut numbers: Vec<u32> = (1..=limit).collect();
     if rng.percent(25) {
