@@ -176,7 +176,7 @@ line-ended (nodeForm n es) =
     record {
       body = bytes "(node" ++ (spaced (num n ∷ []) ++ (entriesText es ++ (41 ∷ [])));
       is = ap (λ (l : List ℕ). 40 ∷ 110 ∷ 111 ∷ 100 ∷ 101 ∷ l)
-      (ap (λ (l : List ℕ). spaced (num n ∷ []) ++ l) (sym (append-assoc (entriesText es) (41 ∷ []) (10 ∷ []))) ∙ sym (append-assoc (spaced (num n ∷ [])) (entriesText es ++ (41 ∷ [])) (10 ∷ [])));
+          (ap (λ (l : List ℕ). spaced (num n ∷ []) ++ l) (sym (append-assoc (entriesText es) (41 ∷ []) (10 ∷ []))) ∙ sym (append-assoc (spaced (num n ∷ [])) (entriesText es ++ (41 ∷ [])) (10 ∷ [])));
       plain-body = plain-value (entriesText es ++ (41 ∷ [])) (plain-entries es) n;
     }
 line-ended (processForm p n) =

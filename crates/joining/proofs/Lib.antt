@@ -33,3 +33,9 @@ pub mod ReadOn
 pub mod FedTexts
 -- what is printed: the slots one after the other are the joined text; the refusal
 pub mod PrintedTexts
+-- forms made of numbers in rising order, turned round
+pub mod NumberedForms
+-- the joined forms turned round: what they say, that each passes and names what is listed
+pub mod JoinedForms
+-- the joined text opens
+pub mod TextBack

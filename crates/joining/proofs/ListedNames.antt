@@ -54,7 +54,7 @@ all-true f h [] = refl
 all-true f h (n ∷ ns) = and-i (f n) (all f ns) (h n) (all-true f h ns)
 
 -- ---- the forms of a text, one after the other, by nodes and by processes
-no-entries : (fs : List Form) (n : ℕ) → nodeIn fs n ≡ false → entriesOf fs n ≡ []
+pub no-entries : (fs : List Form) (n : ℕ) → nodeIn fs n ≡ false → entriesOf fs n ≡ []
 unfolding nodeIn any givesNode entriesOf
 no-entries [] n e = refl
 no-entries (nodeForm m es ∷ fs) n e = pick (eqb m n) (no-entries fs n) e
@@ -131,7 +131,7 @@ differ-test a b fs gs ha hb p m n x y = λ i. prime-told a fs ha p m x i && (pri
 
 -- ---- the refusal of two texts
 module _ (fs gs : List Form) where
-  all-forms : (f : Form → Bool) (hs : List Form) → all f (hs ++ gs) ≡ all f hs && all f gs
+  pub all-forms : (f : Form → Bool) (hs : List Form) → all f (hs ++ gs) ≡ all f hs && all f gs
   unfolding all
   all-forms f [] = refl
   all-forms f (h ∷ hs) = ap (λ (b : Bool). f h && b) (all-forms f hs) ∙ sym (and-both (f h) (all f hs) (all f gs))

@@ -48,7 +48,7 @@ none-of f a (suc k) e n lo hi = elim (ℕ-discrete a n) [
   | no other ↦ none-of f (suc a) k (or-fr (f a) (any f (numbersFrom (suc a) k)) e) n (omega arith) (omega arith)
 ]
 
-joined-few : (fs gs : List Form) → nodeCrowded fs gs ≡ false → (n : ℕ) → 1 ≤ n → n ≤ NODES → length (entriesJoined fs gs n) ≤ ENTRIES
+pub joined-few : (fs gs : List Form) → nodeCrowded fs gs ≡ false → (n : ℕ) → 1 ≤ n → n ≤ NODES → length (entriesJoined fs gs n) ≤ ENTRIES
 unfolding nodeCrowded nodes mostEntries
 joined-few fs gs room n low high = ltb-false 16 (length (entriesJoined fs gs n)) (none-of (λ m. ltb 16 (length (entriesJoined fs gs m))) 1 32 room n low (omega arith))
 
