@@ -39,3 +39,9 @@ pub mod NumberedForms
 pub mod JoinedForms
 -- the joined text opens
 pub mod TextBack
+-- the state that forms open, node by node and process by process
+pub mod OpenedRows
+-- how often an entry stands in a joined node
+pub mod OpenedTimes
+-- a text joined with itself
+pub mod WithItself

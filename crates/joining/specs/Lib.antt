@@ -2,5 +2,7 @@
 pub mod Joins
 pub mod Written
 pub mod Feeding
+pub mod Opened
+pub mod Promises
 pub mod contracts
 pub mod Computes
