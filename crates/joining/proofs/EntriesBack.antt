@@ -1,30 +1,27 @@
 -- Entries of the right shape and in range, written one after the other, read back as themselves, and are short.
-use Prim.Native.Nat.{ℕ, zero, suc, _+_, _*_, _≤_, _<_}
+use Prim.Native.Nat.{ℕ, zero, suc, _*_, _≤_, _<_}
 use native.Mathlib.Omega.{arith}
 use mathlib.Core.Bool.{Bool, true, false, cond, _&&_, _||_}
-use mathlib.Core.List.{List, [], _∷_, _++_, map, append-assoc, append-nil}
+use mathlib.Core.List.{List, [], _∷_, _++_, append-assoc, append-nil}
 use mathlib.Core.Path.{_≡_, refl, sym, ap, subst, _∙_}
-use lib.Dec.{eqb, ltb}
-use lib.ListN.{length, getD, length-append}
-use borrow.Author.Tests.{eqb-true, le-ltb}
+use lib.Dec.{eqb}
+use lib.ListN.{length, length-append}
+use borrow.Author.Tests.{eqb-true}
 use Rattle.rows.specs.Lists.{bytes, between, all}
-use Rattle.rows.specs.Limits.{greatestNumber, mostBytes, mostEntries}
+use Rattle.rows.specs.Limits.{greatestNumber}
 use Rattle.rows.specs.Codes.{operation, subdirectory, isOperation, isSubdirectory}
 use Rattle.rows.proofs.Bools.{and-l, and-r}
-use Rattle.rows.proofs.Places.{between-range}
 use Rattle.calls.specs.Answers.{num}
 use Rattle.text.specs.declared.Entry.{Entry}
 use Rattle.text.specs.declared.EntryRead.{EntryRead}
-use Rattle.text.specs.declared.Read.{Read}
-use Rattle.text.specs.Patterns.{isDigit, bad, began, form, whole, mostGroups}
+use Rattle.text.specs.Patterns.{isDigit, bad, began, form}
 use Rattle.text.specs.Opening.{Entries, operationEntry, subdirectoryEntry, addEntry, entriesFrom, entryRanged}
 use Rattle.text.specs.Answers.{digitsOf, valueText, spaced}
 use Rattle.text.specs.contracts.Openings.{entryRead}
-use Rattle.text.proofs.OpeningForms.{entryShaped, formPassed, node-passed, process-passed}
+use Rattle.text.proofs.OpeningForms.{entryShaped}
 use Rattle.text.proofs.OpeningLaws.{from-more, from-none}
-use Rattle.text.proofs.GroupsBack.{last-bracket}
-use Rattle.text.proofs.Cursor.{At, at-start, at-skip, at-next, reading, takes-byte, other-byte, takes-number, then-reads, reads-all, then-bad, ends}
-use Rattle.joining.specs.Written.{operationText, subdirectoryText, entryText, entriesText, formText}
+use Rattle.text.proofs.Cursor.{At, at-skip, at-next, reading, takes-byte, other-byte, takes-number, then-reads, reads-all, then-bad}
+use Rattle.joining.specs.Written.{operationText, subdirectoryText, entryText, entriesText}
 use Rattle.joining.specs.contracts.Directories.{EntryFits}
 use Rattle.joining.specs.contracts.Lines.{ENTRY}
 use Rattle.joining.proofs.MergedNodes.{entryGood, good-fits}

@@ -221,7 +221,7 @@ fed-joins bs =
     ∙ ap afterFirst (pass-cut (linesOf bs) [] 1) ∙ first-cut (firstPass [] 1 (linesOf bs))
 
 -- once reading is over, what follows does not matter
-over-fed : (bs : List ℕ) (t : Texts) (p : Progress) → t .progress ≡ p → ((l : List ℕ) → lineFed p l ≡ p) → fed t bs .progress ≡ p
+pub over-fed : (bs : List ℕ) (t : Texts) (p : Progress) → t .progress ≡ p → ((l : List ℕ) → lineFed p l ≡ p) → fed t bs .progress ≡ p
 unfolding fed byteFed
 over-fed [] t p e stays = e
 over-fed (b ∷ bs) t p e stays = over-fed bs (byteFed t b) p (pick (eqb b 10)) stays
@@ -230,7 +230,7 @@ over-fed (b ∷ bs) t p e stays = over-fed bs (byteFed t b) p (pick (eqb b 10)) 
     pick true = ap (λ (x : Progress). lineFed x (cut (t .line ++ (b ∷ [])))) e ∙ stays (cut (t .line ++ (b ∷ [])))
     pick false = e
 
-fed-append : (xs : List ℕ) (t : Texts) (ys : List ℕ) → fed t (xs ++ ys) ≡ fed (fed t xs) ys
+pub fed-append : (xs : List ℕ) (t : Texts) (ys : List ℕ) → fed t (xs ++ ys) ≡ fed (fed t xs) ys
 unfolding fed
 fed-append [] t ys = refl
 fed-append (x ∷ xs) t ys = fed-append xs (byteFed t x) ys
@@ -241,7 +241,7 @@ unfolding begun
 begun-held j line a b h = record { progress = h; kept = refl; short = omega arith }
 
 module _ (part : List ℕ) (r : Fed) (a b : List ℕ) where
-  over-stays : (p : Progress) → Holds p (r .joining) a b → r .joining .stage ≡ Over → (l : List ℕ) → lineFed p l ≡ p
+  pub over-stays : (p : Progress) → Holds p (r .joining) a b → r .joining .stage ≡ Over → (l : List ℕ) → lineFed p l ≡ p
   unfolding Holds lineFed
   over-stays (inFirst fs) h e l = absurd (let q : First ≡ Over = sym (h .0) ∙ e in let z : _≡_ {A = ℕ} 0 1 = cc in omega arith)
   over-stays (inSecond fs gs) h e l = absurd (let q : Second ≡ Over = sym (h .0) ∙ e in let z : _≡_ {A = ℕ} 0 1 = cc in omega arith)

@@ -1,30 +1,27 @@
 -- A form whose numbers are in range, written as a line, reads back as itself; so does a text of them, line by line.
-use Prim.Native.Nat.{ℕ, _+_, _*_, _≤_, _<_}
+use Prim.Native.Nat.{ℕ, _≤_, _<_}
 use native.Mathlib.Omega.{arith}
-use mathlib.Core.Bool.{Bool, true, false, not, cond, _&&_}
-use mathlib.Core.List.{List, [], _∷_, _++_, map, append-assoc, append-nil}
+use mathlib.Core.Bool.{Bool, true, false, cond}
+use mathlib.Core.List.{List, [], _∷_, _++_, append-assoc}
 use mathlib.Core.Path.{_≡_, refl, sym, ap, subst, _∙_}
-use lib.Dec.{eqb}
 use lib.ListN.{length, getD, length-append}
 use borrow.Author.Tests.{le-ltb}
 use Rattle.rows.specs.Lists.{bytes, between, all}
-use Rattle.rows.specs.Limits.{nodes, processes, greatestNumber, mostBytes, mostEntries}
+use Rattle.rows.specs.Limits.{nodes, processes, mostBytes, mostEntries}
 use Rattle.rows.specs.Codes.{isOperation}
 use Rattle.rows.proofs.Places.{between-range}
 use Rattle.calls.specs.Answers.{num}
 use Rattle.text.specs.declared.Entry.{Entry}
-use Rattle.text.specs.declared.Read.{Read}
 use Rattle.text.specs.Patterns.{isDigit, bad, began, form, whole, pieces, piece, itself, passed, mostGroups}
-use Rattle.text.specs.Opening.{Form, nodeForm, processForm, Line, lastLine, formLine, badLine, linesOf, Entries, entriesFrom, nodeLine, processLine, openLine, lineOf}
-use Rattle.text.specs.Answers.{digitsOf, valueText, spaced}
+use Rattle.text.specs.Opening.{Form, nodeForm, processForm, Line, lastLine, formLine, badLine, linesOf, entriesFrom, nodeLine, processLine, openLine, lineOf}
+use Rattle.text.specs.Answers.{digitsOf, spaced}
 use Rattle.text.proofs.Cursor.{At, at-start, at-skip, at-next, reading, takes-byte, other-byte, takes-number, then-reads, reads-all, then-bad, ends}
 use Rattle.text.proofs.GroupsBack.{last-bracket}
 use Rattle.text.proofs.Lines.{plain, plain-append, plain-digits, line-ends}
-use Rattle.joining.specs.Written.{operationText, subdirectoryText, entryText, entriesText, formText, textOf}
-use Rattle.joining.specs.contracts.Lines.{ENTRY}
+use Rattle.joining.specs.Written.{operationText, subdirectoryText, entryText, entriesText, formText}
 use Rattle.joining.proofs.MergedNodes.{entryGood}
 use Rattle.joining.proofs.FormTexts.{digits-few}
-use Rattle.joining.proofs.EntriesBack.{value-then, two-then, operation-then, subdirectory-then, small, ReadsAll, entries-read, entries-short}
+use Rattle.joining.proofs.EntriesBack.{value-then, two-then, operation-then, subdirectory-then, small, entries-read, entries-short}
 
 -- ---- a short line is read
 short : (s : List ℕ) → length s ≤ 256 → lineOf s ≡ nodeLine s (processLine s (openLine s badLine))

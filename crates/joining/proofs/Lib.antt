@@ -45,3 +45,9 @@ pub mod OpenedRows
 pub mod OpenedTimes
 -- a text joined with itself
 pub mod WithItself
+-- however the input is cut into parts
+pub mod Parts
+-- along every run of the functions
+pub mod Runs
+-- every promise of two texts that are joined
+pub mod Promises

@@ -6,7 +6,6 @@ use mathlib.Core.Path.{_≡_, refl, sym, ap, _∙_}
 use lib.Dec.{eqb, ltb}
 use Rattle.rows.specs.Lists.{any, all, each}
 use Rattle.rows.proofs.Bools.{and-l, and-r, and-i, all-and}
-use Rattle.rows.proofs.Lists.{all-append}
 use Rattle.text.specs.declared.Entry.{Entry}
 use Rattle.text.specs.Opening.{Form, entryRanged, primeOf}
 use Rattle.text.proofs.OpeningForms.{entryShaped, formPassed}

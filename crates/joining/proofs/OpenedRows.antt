@@ -1,16 +1,15 @@
 -- The state that forms open, node by node and process by process: the entries that a form gives its node, the prime node that it gives its process.
-use Prim.Native.Nat.{ℕ, zero, suc, _+_}
+use Prim.Native.Nat.{ℕ, zero, suc}
 use mathlib.Core.Bool.{Bool, true, false, cond, _&&_}
 use mathlib.Core.List.{List, [], _∷_, _++_, map, map-append, reverse, reverse-cons, append-assoc, append-nil}
 use mathlib.Core.Path.{_≡_, refl, sym, ap, _∙_}
 use lib.Dec.{eqb}
-use lib.ListN.{length, getD}
 use borrow.Author.Tests.{eqb-true}
 use Rattle.rows.specs.declared.Row.{Row}
 use Rattle.rows.specs.declared.Process.{Process}
-use Rattle.rows.specs.Lists.{filter, all, each}
+use Rattle.rows.specs.Lists.{filter, each}
 use Rattle.rows.specs.Codes.{inNode}
-use Rattle.rows.specs.Tables.{State, noProcess, empty, processAt}
+use Rattle.rows.specs.Tables.{noProcess, empty, processAt}
 use Rattle.rows.specs.Sound.{recordUnused, recordInRange}
 use Rattle.rows.proofs.Bools.{and-l, and-r}
 use Rattle.rows.proofs.Lists.{all-getD}

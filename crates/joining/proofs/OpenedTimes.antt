@@ -1,14 +1,14 @@
 -- How often an entry stands in a joined node: what is new is added once, what is there stays as often as it is.
-use Prim.Native.Nat.{ℕ, zero, suc, _+_, _<_}
+use Prim.Native.Nat.{ℕ, suc, _+_, _<_}
 use native.Mathlib.Omega.{arith}
 use mathlib.Core.Bool.{Bool, true, false, cond, _&&_, _||_}
 use mathlib.Core.List.{List, [], _∷_, _++_}
-use mathlib.Core.Path.{_≡_, refl, sym, ap, subst, _∙_}
+use mathlib.Core.Path.{_≡_, refl, sym, ap, _∙_}
 use lib.Dec.{eqb, ltb}
 use lib.ListN.{length}
 use borrow.Author.Tests.{eqb-true, ltb-true, ltb-false, lt-ltb}
 use Rattle.rows.specs.Lists.{filter, any}
-use Rattle.rows.proofs.Bools.{clash, and-l, and-r, and-i, eqb-self}
+use Rattle.rows.proofs.Bools.{clash, and-l, and-r, eqb-self}
 use Rattle.text.specs.declared.Entry.{Entry}
 use Rattle.text.specs.Opening.{Form}
 use Rattle.joining.specs.Joins.{nodeIn, entriesOf, sameEntry, withNew, withAllNew, entriesJoined}

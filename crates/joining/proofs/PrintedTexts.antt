@@ -5,7 +5,7 @@ use mathlib.Core.Bool.{Bool, true, false, cond, _||_}
 use mathlib.Core.List.{List, [], _∷_, _++_, map, append-assoc, append-nil}
 use mathlib.Core.Path.{_≡_, refl, sym, ap, subst, _∙_}
 use lib.Dec.{eqb}
-use lib.ListN.{length, drop, length-append, length-drop}
+use lib.ListN.{length}
 use borrow.Author.Tests.{eqb-true, eqb-false, eq-eqb, ne-eqb}
 use Rattle.rows.specs.Lists.{filter, bytes}
 use Rattle.rows.specs.Limits.{nodes, processes}
@@ -76,6 +76,10 @@ slots-front fs gs k (suc n) =
     let more : n + 1 ≡ suc n = omega arith in
     ap (λ (l : List ℕ). l ++ s (k + n)) (slots-front fs gs k n) ∙ ap (λ (l : List ℕ). joinedSlots s k n ++ l) (sym (one-slot s (k + n)))
     ∙ sym (slots-split s n 1 k) ∙ ap (joinedSlots s k) more
+
+pub slots-join : (fs gs : List Form) (k n m : ℕ) → slotsText fs gs k (n + m) ≡ slotsText fs gs k n ++ slotsText fs gs (k + n) m
+slots-join fs gs k n m =
+    slots-front fs gs k (n + m) ∙ slots-split (slotText fs gs) n m k ∙ sym (λ i. slots-front fs gs k n i ++ slots-front fs gs (k + n) m i)
 
 -- ---- forms one after the other
 linesText : List Form → List ℕ
@@ -171,7 +175,7 @@ module _ (a b : List ℕ) (j : Joining) where
       pick true some = absurd (some refl)
       pick false some = refl
 
-  refused-printed : (p : Progress) → Holds p j a b → (verdictOf (joinedAt p) .refusal ≡ 0 → ⊥) → joinText (joinedAt p) ≡ refusalText (verdictOf (joinedAt p))
+  pub refused-printed : (p : Progress) → Holds p j a b → (verdictOf (joinedAt p) .refusal ≡ 0 → ⊥) → joinText (joinedAt p) ≡ refusalText (verdictOf (joinedAt p))
   unfolding Holds joinedAt
   refused-printed (inFirst fs) h some = one-printed 2 (suc (length fs)) (omega arith)
   refused-printed (inSecond fs gs) h some = one-printed 2 (suc (length gs)) (omega arith)
@@ -188,21 +192,23 @@ module _ (a b : List ℕ) (j : Joining) where
       let k = refuses-nothing fs gs (nothing-refused fs gs none .0) in
       record { first = fs; second = gs; first-held = h .2; second-held = h .3; room = k .1 }
 
+  -- where nothing is refused, all slots one after the other are printed
+  pub slots-printed : (Is : List ℕ → Type 0) (p : Progress) → Holds p j a b → verdictOf (joinedAt p) .refusal ≡ 0
+      → ((fs gs : List Form) → Held a fs → Held b gs → Is (slotsText fs gs 0 SLOTS)) → Is (joinText (joinedAt p))
+  unfolding Holds joinedAt joinText verdictOf
+  slots-printed Is (inFirst fs) h none is = absurd (omega arith)
+  slots-printed Is (inSecond fs gs) h none is = absurd (omega arith)
+  slots-printed Is (refusedIn k n) h none is = absurd (let z = h .3 in omega arith)
+  slots-printed Is (bothRead fs gs) h none is =
+      let text : slotsText fs gs 0 SLOTS ≡ joinText (joinedBy fs gs) = slots-all fs gs ∙ sym (ap joinText (nothing-refused fs gs none .1)) in
+      subst Is text (is fs gs (h .2) (h .3))
+
   -- with room for all of it, what is written from the first slot on is what is printed
   module _ (out after : List ℕ) (r : Written) (room : JOINED ≤ length out) where
     slots-put : (fs gs : List Form) → Held a fs → Held b gs → WritesSlots a b 0 out r after → Puts (slotsText fs gs 0 SLOTS) out after (r .printed)
     slots-put fs gs ha hb w =
         let all : r .next - 0 ≡ SLOTS = let e = w .all (omega arith) (omega arith) in omega arith in
         puts-as _ _ (ap (slotsText fs gs 0) all) out after (r .printed) (w .slots fs gs ha hb)
-
-    joined-put : (p : Progress) → Holds p j a b → verdictOf (joinedAt p) .refusal ≡ 0 → WritesSlots a b 0 out r after → Puts (joinText (joinedAt p)) out after (r .printed)
-    unfolding Holds joinedAt joinText verdictOf
-    joined-put (inFirst fs) h none w = absurd (omega arith)
-    joined-put (inSecond fs gs) h none w = absurd (omega arith)
-    joined-put (refusedIn k n) h none w = absurd (let z = h .3 in omega arith)
-    joined-put (bothRead fs gs) h none w =
-        let text : slotsText fs gs 0 SLOTS ≡ joinText (joinedBy fs gs) = slots-all fs gs ∙ sym (ap joinText (nothing-refused fs gs none .1)) in
-        puts-as _ _ text out after (r .printed) (slots-put fs gs (h .2) (h .3) w)
 
     pub answer-put : (p : Progress) → Holds p j a b → (v : Verdict) → v ≡ verdictOf (joinedAt p) → WritesAnswer a b v 0 out r after → Puts (joinText (joinedAt p)) out after (r .printed)
     answer-put p h v is w = pick (eqb (v .refusal) 0) refl
@@ -211,7 +217,9 @@ module _ (a b : List ℕ) (j : Joining) where
         refusal-is = ap (λ (x : Verdict). x .refusal) is
 
         pick : (q : Bool) → eqb (v .refusal) 0 ≡ q → Puts (joinText (joinedAt p)) out after (r .printed)
-        pick true e = let none = eqb-true (v .refusal) 0 e in joined-put p h (sym refusal-is ∙ none) (w .joined none)
+        pick true e =
+            let none = eqb-true (v .refusal) 0 e in
+            slots-printed (λ (l : List ℕ). Puts l out after (r .printed)) p h (sym refusal-is ∙ none) (λ fs gs ha hb. slots-put fs gs ha hb (w .joined none))
         pick false e =
             let some = eqb-false (v .refusal) 0 e in
             let text : refusalText v ≡ joinText (joinedAt p) = ap refusalText is ∙ sym (refused-printed p h (λ z. some (refusal-is ∙ z))) in

@@ -12,11 +12,11 @@ use Rattle.rows.specs.Limits.{nodes, processes, mostEntries}
 use Rattle.rows.specs.Codes.{isOperation}
 use Rattle.rows.proofs.Bools.{and-l, and-r, and-i, and-rf, or-l, or-r, eqb-self, all-eq, any-append}
 use Rattle.text.specs.declared.Entry.{Entry}
-use Rattle.text.specs.Opening.{Form, nodeForm, processForm, Line, lastLine, formLine, badLine, FirstPass, readTo, stoppedBy, Opening, opens, refusedAt, withByte, linesOf, lineOf, givesNode, givesProcess, primeOf, formRefusal, firstPass, entryListed, formListed, missingAt, secondPass, openingOf}
+use Rattle.text.specs.Opening.{Form, nodeForm, processForm, Line, lastLine, formLine, badLine, FirstPass, readTo, stoppedBy, opens, refusedAt, withByte, linesOf, lineOf, givesNode, givesProcess, primeOf, formRefusal, firstPass, entryListed, formListed, missingAt, secondPass, openingOf}
 use Rattle.text.proofs.Lines.{plain, plain-append, plain-byte, plain-one, line-ends}
 use Rattle.text.proofs.OpeningForms.{formPassed, Good, opening-good, node-passed, process-passed}
 use Rattle.text.proofs.PassLaws.{byLine, by-line, form-taken, form-refused}
-use Rattle.joining.specs.Joins.{nodeIn, processIn, entriesOf, sameEntry, withNew, withAllNew, entriesJoined, primeJoined, numbersFrom, nodesJoined, processesJoined, formsJoined, nameMissing, nodeCrowded, primesDiffer, joinRefusal, joins, joinedBy, afterSecond, afterFirst, joinOf}
+use Rattle.joining.specs.Joins.{nodeIn, processIn, entriesOf, sameEntry, withAllNew, entriesJoined, primeJoined, numbersFrom, nodesJoined, processesJoined, formsJoined, nameMissing, nodeCrowded, primesDiffer, joinRefusal, joinedBy, afterSecond, afterFirst, joinOf}
 use Rattle.joining.specs.Written.{textOf, joinText, join}
 use Rattle.joining.specs.Opened.{givingEach, inOrder}
 use Rattle.joining.proofs.FormFacts.{first-passed, older-passed, entries-good}

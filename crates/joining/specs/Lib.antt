@@ -5,4 +5,5 @@ pub mod Feeding
 pub mod Opened
 pub mod Promises
 pub mod contracts
+pub mod Runs
 pub mod Computes

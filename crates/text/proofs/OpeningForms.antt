@@ -86,6 +86,10 @@ first-pass (l ∷ ls) fs n h = pick (λ f. first-pass ls (f ∷ fs) (suc n)) (li
     pick ih (formLine f) s = refusal f (ih f) s (eqb (formRefusal fs f) 0) refl
     pick ih badLine s = tt
 
+pub read-passed : (ls rest : List (List ℕ)) (fs : List Form) → firstPass [] 1 ls ≡ readTo fs rest → each formPassed fs ≡ true
+unfolding ReadAll each
+read-passed ls rest fs e = subst ReadAll e (first-pass ls [] 1 refl)
+
 -- ---- the second pass: all that is named is listed
 missing-none : (fs gs : List Form) → missingAt fs gs ≡ 0 → all (formListed fs) gs ≡ true
 unfolding missingAt all

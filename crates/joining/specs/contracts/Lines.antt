@@ -93,6 +93,7 @@ Puts text out after n = (n ≡ length text) × (after ≡ text ++ drop (length t
 -- the slots from `from` to r .next are written, r .printed bytes
 pub record WritesSlots (a b : List ℕ) (from : ℕ) (out : List ℕ) (r : Written) (after : List ℕ) : Type 0 where
   pub low : from ≤ r .next
+  pub high : from ≤ SLOTS → r .next ≤ SLOTS
   pub within : r .printed ≤ length out
   pub slots : OfBoth a b (λ fs gs. Puts (slotsText fs gs from (r .next - from)) out after (r .printed))
   -- some, if there is room for a reply; all, if there is room for one a slot

@@ -99,6 +99,7 @@ returns c =
     let full = leb-false REPLY (length (l .out) - l .n) (c .if1 .left) in
     record {
       low = l .inv .0;
+      high = l .inv .1;
       within = l .inv .4;
       slots = l .inv .5;
       some = λ small room. omega (arith, full, l .inv .0, l .inv .2, l .inv .3);
@@ -114,6 +115,7 @@ returns-2 c =
     let left = c .loop-test .left in
     record {
       low = l .inv .0;
+      high = l .inv .1;
       within = l .inv .4;
       slots = l .inv .5;
       some = λ small room. omega (arith, left);
