@@ -69,7 +69,7 @@ pub record ExportsLines (t : List ℕ) (from : ℕ) (out after : List ℕ) (n : 
   pub lines : IsTables t → WritesLines t from out after n
   pub misfit : (IsTables t → ⊥) → (n ≡ 0) × (after ≡ out)
 
--- two opening texts joined; nothing where `out` has less than the room for all that may be printed
+-- (rule J11) two opening texts joined; nothing where `out` has less than the room for all that may be printed
 pub record ExportsJoin (texts out after : List ℕ) (n : ℕ) : Type 0 where
   pub joined : JOINED ≤ length out → Puts (join texts) out after n
   pub short : length out < JOINED → (n ≡ 0) × (after ≡ out)
