@@ -1,6 +1,6 @@
 //! Proves and builds the Rattle crates `test_exports` and `entry` as static
 //! libraries, and links them; each defines its exported names alone. Proves and
-//! builds the programs `tablet` and `holders`, which the tests start.
+//! builds the programs `tablet`, `holders` and `join`, which the tests start.
 
 use std::path::{Path, PathBuf};
 use std::process::Command;
@@ -16,7 +16,11 @@ fn main() {
         println!("cargo:rustc-link-lib=static={library}");
     }
     println!("cargo:rustc-link-search=native={}", out.display());
-    for (program, name) in [("tablet", "TABLET"), ("holders", "HOLDERS")] {
+    for (program, name) in [
+        ("tablet", "TABLET"),
+        ("holders", "HOLDERS"),
+        ("join", "JOIN"),
+    ] {
         let path = built(root, &out, ["check", program], &format!("bin/{program}"));
         println!("cargo:rustc-env={name}={}", path.display());
     }

@@ -1,6 +1,6 @@
 //! The product's two entry points: both lent runs of words, any bytes, and a
 //! lent reply. They answer the reply's length, 0 if too few bytes are lent for it.
-//! And its function that writes the page of the tables.
+//! And its functions that write the page of the tables, and two texts joined.
 
 use crate::raw::{self, EntryPoint};
 
@@ -40,6 +40,23 @@ pub fn page(t: &[u32], lines: usize) -> Vec<u8> {
         }
         page.extend(&lent[..count]);
     }
+}
+
+/// The bytes that are lent at least for two texts joined.
+pub const JOINED_BYTES: usize = 24_832;
+
+/// Two opening texts, one after the other, joined to the front of `lent`; answers the bytes written.
+pub fn join(texts: &[u8], lent: &mut [u8]) -> usize {
+    let (to, room) = (lent.as_mut_ptr(), lent.len());
+    unsafe { raw::tablet_join(texts.as_ptr(), texts.len(), to, room) }
+}
+
+/// What is written of two texts.
+pub fn joined(texts: &[u8]) -> Vec<u8> {
+    let mut lent = vec![0; JOINED_BYTES];
+    let length = join(texts, &mut lent);
+    lent.truncate(length);
+    lent
 }
 
 #[inline]

@@ -110,4 +110,5 @@ extern "C" {
         page: *mut u8,
         page_len: usize,
     ) -> usize;
+    pub fn tablet_join(texts: *const u8, texts_len: usize, out: *mut u8, out_len: usize) -> usize;
 }

@@ -1,5 +1,5 @@
 //! The cases of cases/, of docs/MANUAL.md and of conformance/, on the entry points of the
-//! static library: every answer, every word afterwards, and their page.
+//! static library: every answer, every word afterwards, and their page; and two texts joined.
 
 use kernel::entry::{self, Point, REPLY_BYTES};
 use model::cases::{self, run, Entries};
@@ -38,5 +38,13 @@ fn cases_on_the_entry_points() {
     );
 }
 
-// PLACE FOR JOINING: with the library's function for it, `cases::run_join(case, join)` of each of
-// `cases::all_joins()`, 127 or more.
+#[test]
+fn cases_of_joining() {
+    let cases = cases::all_joins().expect("the cases are read");
+    for case in &cases {
+        if let Err(said) = cases::run_join(case, entry::joined) {
+            panic!("{said}");
+        }
+    }
+    assert!(cases.len() >= 127, "{} cases", cases.len());
+}

@@ -9,6 +9,7 @@ pub mod closings;
 pub mod entries;
 pub mod entry_run;
 pub mod features;
+pub mod joins;
 pub mod performed;
 pub mod pipes;
 pub mod refused;

@@ -8,6 +8,7 @@ use std::thread;
 /// The programs, which build.rs had proved and built.
 pub const TABLET: &str = env!("TABLET");
 pub const HOLDERS: &str = env!("HOLDERS");
+pub const JOIN: &str = env!("JOIN");
 
 pub fn started(program: &str) -> Child {
     started_onto(program, Stdio::piped())
@@ -23,7 +24,8 @@ pub fn started_onto(program: &str, output: Stdio) -> Child {
         .expect("the program starts")
 }
 
-/// Hands the input over in parts of this size. After a refused opening the program reads no more, so a write may fail.
+/// Hands the input over in parts of this size. After a refused opening the program reads no more, nor does `join` after
+/// two texts, so a write may fail.
 fn hand_over(mut to: ChildStdin, input: &[u8], size: usize) {
     for part in input.chunks(size) {
         if to.write_all(part).is_err() {
