@@ -1,5 +1,5 @@
-/* check.c: what tablet.h promises of lengths, short replies, bytes after an answer, pairs, pages and the stack, each
- * checked once. */
+/* check.c: what tablet.h promises of lengths, short replies, bytes after an answer, pairs, pages, texts that are joined
+ * and the stack, each checked once. */
 #include "tablet.h"
 
 #include <stdio.h>
@@ -262,6 +262,67 @@ static void any_page(void) {
     check("of words of any content", same);
 }
 
+/* ---- two texts joined */
+static uint8_t joined[TABLET_JOINED_BYTES + 1];
+
+static size_t join(const char *texts, size_t out_len) {
+    memset(joined, '#', sizeof joined);
+    return tablet_join((const uint8_t *)texts, strlen(texts), joined, out_len);
+}
+
+/* what is written is this, and every byte after it is as it was */
+static int joins(size_t length, const char *text) {
+    if (length != strlen(text) || memcmp(joined, text, length) != 0)
+        return 0;
+    for (size_t i = length; i < sizeof joined; i++)
+        if (joined[i] != '#')
+            return 0;
+    return 1;
+}
+
+static void two_texts(void) {
+    const size_t room = TABLET_JOINED_BYTES;
+    const char *texts = "(process 2 2)\n(node 1 (op 2 1 7))\n(open)\n"
+                        "(node 2)\n(node 1 (dir 2 3) (op 2 1 7))\n(open)\nwhat follows does not matter";
+    const char *one = "(node 1 (op 2 1 7) (dir 2 3))\n(node 2)\n(process 2 2)\n(open)\n";
+    check("two texts joined", joins(join(texts, room), one));
+    check("in more room", joins(join(texts, room + 1), one));
+    check("in less room: 0", joins(join(texts, room - 1), "") && joins(join(texts, 256), ""));
+    check("in no room: 0", joins(join(texts, 0), ""));
+    check("and it opens", answered(open_text(TABLET_TABLES_WORDS, TABLET_PROCESSES_WORDS, one, 256), "(ok 0)\n"));
+    check("two empty texts", joins(join("(open)\n(open)\n", room), "(open)\n"));
+    check("no text", joins(join("", room), "(no 2 1)\n"));
+    check("one text", joins(join("(node 1)\n(open)\n", room), "(no 2 1)\n"));
+    check("a line of the first text", joins(join("(node 1)\n(node 33)\n(open)\n(open)\n", room), "(no 3 2)\n"));
+    check("a line of the second text", joins(join("(node 1)\n(open)\n(node 1)\n(node 1)\n", room), "(no 4 2)\n"));
+    check("a name that is missing", joins(join("(process 1 1)\n(open)\n(open)\n", room), "(no 5)\n"));
+    check("two prime nodes", joins(join("(node 1)\n(node 2)\n(process 1 1)\n(open)\n(process 1 2)\n(open)\n", room),
+                                   "(no 20)\n"));
+}
+
+/* the largest text, with entries of these rights: 32 nodes of 16 entries, 64 processes */
+static int add_text(char *text, int rights) {
+    int end = 0;
+    for (int node = 1; node <= 32; node++) {
+        end += sprintf(text + end, "(node %d", node);
+        for (int entry = 0; entry < 16; entry++)
+            end += sprintf(text + end, " (op 64 %d %d)", 240 + entry, rights);
+        end += sprintf(text + end, ")\n");
+    }
+    for (int process = 1; process <= 64; process++)
+        end += sprintf(text + end, "(process %d 32)\n", process);
+    return end + sprintf(text + end, "(open)\n");
+}
+
+static void largest_texts(void) {
+    static char texts[TABLET_JOINED_BYTES], one[TABLET_JOINED_BYTES];
+    int length = add_text(one, 7);
+    add_text(texts + add_text(texts, 7), 7);
+    check("the longest text", length == 8501 && joins(join(texts, TABLET_JOINED_BYTES), one));
+    add_text(texts + add_text(texts, 7), 6);
+    check("too many entries", joins(join(texts, TABLET_JOINED_BYTES), "(no 6)\n"));
+}
+
 /* ---- the stack */
 /* a stack of its own, filled with a pattern, shows how much of it was used */
 static unsigned char stack[4 * TABLET_STACK_BYTES];
@@ -277,6 +338,8 @@ static void on_that_stack(void) {
     pairs();
     pages();
     any_page();
+    two_texts();
+    largest_texts();
 }
 
 static size_t stack_used(void) {

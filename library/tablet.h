@@ -1,4 +1,5 @@
-/* tablet.h: the C interface of the kernel, three functions over words that the caller owns (rules: docs/MANUAL.md).
+/* tablet.h: the C interface of the kernel, four functions over words and bytes that the caller owns (rules:
+ * docs/MANUAL.md).
  *
  * Words. The tables are TABLET_TABLES_WORDS words of 32 bits, the process records TABLET_PROCESSES_WORDS. The caller
  * owns both runs and lends them for one call. Lengths are counts of elements: words of the runs, bytes of the others.
@@ -28,6 +29,10 @@
  * the rows are the slots before the first whose number is 0, a code that is no kind or no place leaves its columns
  * spaces, and of a number with more digits than columns the last ones are shown. It does not ask whether the words are
  * sound; tablet_call does.
+ *
+ * Joining. tablet_join makes one opening text of two: it writes what the program join prints of them, the joined text
+ * or a refusal, to the front of `out`. The longest joined text has 8,501 bytes. Lend TABLET_JOINED_BYTES or more. If
+ * `out_len` is less, 0 is returned and nothing is read or written.
  *
  * What the caller must see to. Each pointer is to as many elements as its length says (a length of 0 allows any pointer
  * that is not null); the words are aligned as uint32_t; no two of the ranges overlap.
@@ -62,6 +67,9 @@
 #define TABLET_PAGE_LINE_BYTES 65
 #define TABLET_PAGE_BYTES 66560
 
+/* room for two texts joined, whatever they are */
+#define TABLET_JOINED_BYTES 24832
+
 #ifdef __cplusplus
 extern "C" {
 #endif
@@ -83,6 +91,14 @@ size_t tablet_call(uint32_t *tables, size_t tables_len, uint32_t *processes, siz
  * again, `from` raised by the lines that were written. If the tables have another length, 0 is returned and nothing is
  * written. */
 size_t tablet_page(const uint32_t *tables, size_t tables_len, size_t from, uint8_t *page, size_t page_len);
+
+/* Joins two opening texts. The second begins right after the line (open) of the first; what follows the second (open)
+ * does not matter. Writes the joined text: the nodes of either text in rising number, then the processes, then (open);
+ * a node of both has the first text's entries, then each of the second's that equals none already written there. Or a
+ * refusal, one line: 2, 3, 4 or 6 of a text by itself as (no k n), n its line in that text, the first text's first;
+ * then (no 5), a name that neither text lists, (no 6), more than 16 entries in a joined node, or (no 20), two prime
+ * nodes for one process. Returns the bytes written; the bytes after them stay as they were. */
+size_t tablet_join(const uint8_t *texts, size_t texts_len, uint8_t *out, size_t out_len);
 
 #ifdef __cplusplus
 }

@@ -1,4 +1,4 @@
-//! The boundary to the proved static library, and the only `unsafe` code: the three functions of `tablet.h` on slices.
+//! The boundary to the proved static library, and the only `unsafe` code: the four functions of `tablet.h` on slices.
 
 use crate::layout::REPLY_BYTES;
 
@@ -31,6 +31,12 @@ mod raw {
             from: usize,
             page: *mut u8,
             page_len: usize,
+        ) -> usize;
+        pub fn tablet_join(
+            texts: *const u8,
+            texts_len: usize,
+            out: *mut u8,
+            out_len: usize,
         ) -> usize;
     }
 }
@@ -100,4 +106,11 @@ pub fn page(tables: &[u32], from: usize, page: &mut [u8]) -> usize {
             page.len(),
         )
     }
+}
+
+/// (rule J11) Writes two opening texts joined, or their refusal, to the front of the lent bytes; nothing if they are
+/// fewer than 24,832. Gives the bytes written.
+pub fn join(texts: &[u8], out: &mut [u8]) -> usize {
+    // Safety: as in `open`.
+    unsafe { raw::tablet_join(texts.as_ptr(), texts.len(), out.as_mut_ptr(), out.len()) }
 }

@@ -16,6 +16,8 @@ pub const MOST_PAIRS: usize = 16;
 pub const PAGE_LINE_BYTES: usize = 65;
 /// (rules G2, X7) The longest page, of 1,024 rows.
 pub const PAGE_BYTES: usize = 66_560;
+/// (rule J11) Room for two texts joined, whatever they are.
+pub const JOINED_BYTES: usize = 24_832;
 
 /// (rules R5, X9) The last number of a row or a request; the next number is at most one more.
 pub const LAST_NUMBER: u32 = 4_294_967_294;

@@ -44,6 +44,7 @@
 //! is made on them, which `&mut self` sees to. A call needs no more than 16 KB of stack.
 
 mod answer;
+mod join;
 mod kernel;
 pub mod layout;
 mod refusal;
@@ -53,6 +54,7 @@ mod tables;
 mod words;
 
 pub use answer::Answer;
+pub use join::join;
 pub use refusal::Refusal;
 pub use state::{Kind, Place, Record, Request, Row, State};
 pub use tables::Tables;

@@ -1,8 +1,9 @@
-//! The eighteen refusals: number, line, meaning and what to do (docs/MANUAL.md, chapter 9).
+//! The eighteen refusals, and one of two texts that are joined: number, line, meaning and what to do (docs/MANUAL.md,
+//! chapters 9 and 16).
 
 use std::fmt;
 
-/// A refusal of a call or of an opening.
+/// A refusal of a call, of an opening or of two texts to be joined.
 ///
 /// ```
 /// use tablet::Tables;
@@ -91,19 +92,23 @@ const MEANINGS: [(&str, &str); 18] = [
     ("Too few numbers are left.", "Open again."),
 ];
 
+/// (rule J9) A refusal that only two texts have.
+const TWO_PRIMES: u32 = 20;
+
 impl Refusal {
-    /// The refusal of that number, 1 to 18; of an opening with its line.
+    /// The refusal of that number, 1 to 18 or 20; of an opening with its line.
     pub fn new(number: u32, line: Option<u32>) -> Option<Refusal> {
-        let known = (1..=MEANINGS.len() as u32).contains(&number);
+        let known = (1..=MEANINGS.len() as u32).contains(&number) || number == TWO_PRIMES;
         known.then_some(Refusal { number, line })
     }
 
-    /// 1 to 18.
+    /// 1 to 18; of two texts also 20.
     pub fn number(&self) -> u32 {
         self.number
     }
 
-    /// (rule K7) The line of a refused opening, counted from 1; 0 if a run has a wrong length. A call has none.
+    /// (rules K7, J6) The line of a refused opening, or of one of two texts, counted from 1 in it; 0 if a run has a wrong
+    /// length. A call has none, nor have two texts that are refused together.
     pub fn line(&self) -> Option<u32> {
         self.line
     }
@@ -119,6 +124,12 @@ impl Refusal {
     }
 
     fn texts(&self) -> (&'static str, &'static str) {
+        if self.number == TWO_PRIMES {
+            return (
+                "A process of both texts has two different prime nodes.",
+                "Give it one prime node in both texts, or list it in one of them.",
+            );
+        }
         let at = self.number as usize - 1;
         MEANINGS.get(at).copied().unwrap_or_default()
     }

@@ -1,4 +1,4 @@
-//! Each refusal's meaning and remedy are the ones of docs/MANUAL.md, chapter 9.
+//! Each refusal's meaning and remedy are the ones of docs/MANUAL.md, chapter 9; the meaning of 20 is that of rule J9.
 
 use std::fs;
 use tablet::Refusal;
@@ -22,10 +22,14 @@ fn plain(text: &str) -> String {
     plain + "."
 }
 
+fn manual() -> String {
+    let manual = concat!(env!("CARGO_MANIFEST_DIR"), "/../../docs/MANUAL.md");
+    fs::read_to_string(manual).expect("the manual")
+}
+
 #[test]
 fn meanings_are_those_of_the_manual() {
-    let manual = concat!(env!("CARGO_MANIFEST_DIR"), "/../../docs/MANUAL.md");
-    let manual = fs::read_to_string(manual).expect("the manual");
+    let manual = manual();
     let chapter = manual.split("## 9.").nth(1).expect("chapter 9");
     let chapter = chapter.split("## 10.").next().expect("its end");
     let mut seen = 0;
@@ -42,4 +46,21 @@ fn meanings_are_those_of_the_manual() {
         seen += 1;
     }
     assert_eq!(seen, 18);
+}
+
+#[test]
+fn two_prime_nodes_are_those_of_the_manual() {
+    let manual = manual();
+    let rule = manual
+        .lines()
+        .find_map(|line| line.strip_prefix("- **J9** 20: "));
+    let refusal = Refusal::new(20, None).expect("a refusal");
+    let meaning = refusal.meaning();
+    assert!(meaning.starts_with('A') && !refusal.remedy().is_empty());
+    assert_eq!(
+        rule.map(|rule| rule.replacen('a', "A", 1)).as_deref(),
+        Some(meaning)
+    );
+    assert_eq!(Refusal::new(19, None), None);
+    assert_eq!(Refusal::new(21, None), None);
 }
