@@ -1,4 +1,4 @@
-# make run: the example session, by the proved programs. make test: the whole gate. The others are not in the gate:
+# make run: the examples, by the proved programs. make test: the whole gate. The others are not in the gate:
 # make library: the static library with its header. make bench: the benchmark. make test-page: the page in a browser.
 .PHONY: run test library bench test-page
 
