@@ -1,5 +1,6 @@
-//! The program `join` through pipes, byte for byte: the cases, random pairs, pairs with every refusal, the largest texts,
-//! parts of any size, texts longer than what is written at once, inputs and outputs that fail, and what is not read.
+//! The program `join` through pipes, byte for byte: the cases, random pairs, pairs with every refusal,
+//! the largest texts, parts of any size, texts longer than what is written at once, inputs and outputs
+//! that fail, and what is not read.
 
 mod common;
 
@@ -69,7 +70,7 @@ fn random_pairs_are_printed_as_by_the_model() {
         );
         count(&mut seen, &input, &expected);
     }
-    all_seen(&seen, 30, [60, 30, 12], 900);
+    all_seen(&seen, 30, [90, 60, 35], 1_300);
 }
 
 /// What was planted is what is printed: a text's own refusal, the first text's first, then 5, 6 and 20.
@@ -87,7 +88,7 @@ fn refusals_of_every_kind() {
         );
         count(&mut seen, &made.input, &found);
     }
-    all_seen(&seen, 30, [90, 15, 3], 0);
+    all_seen(&seen, 36, [160, 18, 3], 0);
 }
 
 #[test]
@@ -185,8 +186,8 @@ fn printed_meanwhile(input: &str) -> String {
     shown(&output.stdout)
 }
 
-/// (rule J10) It ends with the second `(open)`, or with the first line of either text that is refused, and does not wait
-/// for the end of its input.
+/// (rule J10) It ends with the second `(open)`, or with the first line of either text that is
+/// refused, and does not wait for the end of its input.
 #[test]
 fn an_input_without_end() {
     assert_eq!(printed_meanwhile(&format!("{FIRST}{SECOND}")), BOTH);

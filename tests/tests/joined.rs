@@ -1,5 +1,5 @@
-//! `tablet_join` on pairs of texts and on any bytes, in room of any size: against the model, and against forms that are put
-//! in order here. What it writes is opened by the entry point `open`.
+//! `tablet_join` on pairs of texts and on any bytes, in room of any size: against the model, and
+//! against forms that are put in order here. What it writes is opened by the entry point `open`.
 
 mod common;
 
@@ -65,7 +65,7 @@ fn random_pairs() {
         let input = pair(100_000 + seed);
         count(&mut seen, &input, &agrees(&input));
     }
-    all_seen(&seen, 150, [300, 150, 60], 4_500);
+    all_seen(&seen, 150, [400, 400, 200], 6_500);
 }
 
 /// What was planted is what is written.
@@ -76,7 +76,7 @@ fn refusals_of_every_kind() {
         assert_eq!(shown(&agrees(&made.input)), shown(&made.printed));
         count(&mut seen, &made.input, &made.printed);
     }
-    all_seen(&seen, 120, [360, 60, 12], 0);
+    all_seen(&seen, 144, [640, 72, 12], 0);
 }
 
 /// The text is opened by the entry point: its reply, and every word afterwards, are those of the model.

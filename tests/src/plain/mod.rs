@@ -7,6 +7,7 @@ pub mod closing_tables;
 pub mod entry;
 pub mod find;
 mod holders;
+pub mod join;
 mod laid;
 mod opening;
 pub mod page;

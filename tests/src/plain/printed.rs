@@ -14,13 +14,13 @@ impl<'a> Printed<'a> {
         Printed { reply, length: 0 }
     }
 
-    fn bytes(&mut self, bytes: &[u8]) {
+    pub fn bytes(&mut self, bytes: &[u8]) {
         self.reply[self.length..self.length + bytes.len()].copy_from_slice(bytes);
         self.length += bytes.len();
     }
 
     /// A space and a number.
-    fn number(&mut self, number: u32) {
+    pub fn number(&mut self, number: u32) {
         let mut digits = [0; 11];
         let mut at = digits.len();
         let mut rest = number;
@@ -45,7 +45,7 @@ impl<'a> Printed<'a> {
     }
 
     /// The length of the reply.
-    fn end(mut self) -> usize {
+    pub fn end(mut self) -> usize {
         self.bytes(b")\n");
         self.length
     }

@@ -72,7 +72,7 @@ const FULL: fn(usize) -> bool = |rows| rows == 1024;
 const SMALL: fn(usize) -> bool = |rows| (8..=10).contains(&rows);
 const LARGE: fn(usize) -> bool = |rows| rows >= 98;
 
-const AIMS: [Aim; 27] = [
+const AIMS: [Aim; 30] = [
     aim(
         "sound of full tables: at most half of 243,662 instructions",
         Layer::Rows,
@@ -258,6 +258,14 @@ const AIMS: [Aim; 27] = [
         1.2,
     ),
     aim(
+        "two texts joined: at most 1.2 of plain Rust",
+        Layer::Join,
+        "",
+        ANY,
+        Measure::Ratio,
+        1.2,
+    ),
+    aim(
         "stack of a whole call: at most 16 KB",
         Layer::Whole,
         "",
@@ -274,6 +282,14 @@ const AIMS: [Aim; 27] = [
         16384.0,
     ),
     aim(
+        "stack of joining: at most 16 KB",
+        Layer::Join,
+        "",
+        ANY,
+        Measure::Stack,
+        16384.0,
+    ),
+    aim(
         "no whole call allocates",
         Layer::Whole,
         "",
@@ -284,6 +300,14 @@ const AIMS: [Aim; 27] = [
     aim(
         "no opening allocates",
         Layer::Opening,
+        "",
+        ANY,
+        Measure::Allocations,
+        0.0,
+    ),
+    aim(
+        "no joining allocates",
+        Layer::Join,
         "",
         ANY,
         Measure::Allocations,

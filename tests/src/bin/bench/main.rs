@@ -12,6 +12,7 @@ mod calls;
 mod closings;
 mod count;
 mod growth;
+mod join;
 mod measure;
 mod on_runs;
 mod operations;
@@ -47,6 +48,7 @@ fn operations(by: &mut dyn Measured) {
         pairs::on_tables(&tables, by);
         page::on_tables(&tables, by);
     }
+    join::on_texts(by);
 }
 
 fn main() {

@@ -25,12 +25,13 @@ pub enum Layer {
     Pairs,
     Opening,
     Page,
+    Join,
     Growth,
     Parts,
 }
 
 /// Those with a table of operations; the parts of a call have another.
-pub const LAYERS: [(Layer, &str); 8] = [
+pub const LAYERS: [(Layer, &str); 9] = [
     (Layer::Rows, "Rows: soundness, look-ups, questions, removal"),
     (Layer::Closing, "Closing"),
     (Layer::Calls, "Calls on sound tables"),
@@ -41,6 +42,7 @@ pub const LAYERS: [(Layer, &str); 8] = [
     ),
     (Layer::Opening, "Openings"),
     (Layer::Page, "The holders' page"),
+    (Layer::Join, "Two texts joined"),
     (
         Layer::Growth,
         "Growth of a whole call with rows and with requests",
