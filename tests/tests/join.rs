@@ -42,7 +42,7 @@ fn conformance_pairs_are_printed() {
     }
 }
 
-/// The pairs of cases/, each in two parts of any size or more.
+/// The pairs of cases/: byte by byte, in parts of 8, in two halves, and at once.
 #[test]
 fn cases_are_printed() {
     let joins = cases::joins_by_hand().expect("the cases are read");
