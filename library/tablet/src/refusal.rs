@@ -38,11 +38,12 @@ const MEANINGS: [(&str, &str); 18] = [
         "Write one form; name each row once.",
     ),
     (
-        "A process or node is not listed: the caller, or named in the text.",
+        "A process or node is not listed: the caller, named in the text, or named in one of two texts and listed in \
+         neither.",
         "Add the form that is missing.",
     ),
     (
-        "More than 16 entries, 4 items or 16 pairs.",
+        "More than 16 entries, also of a joined node, 4 items or 16 pairs.",
         "Use a second node; ask over a second port; ask of the other pairs in a second line.",
     ),
     (
@@ -126,8 +127,8 @@ impl Refusal {
     fn texts(&self) -> (&'static str, &'static str) {
         if self.number == TWO_PRIMES {
             return (
-                "A process of both texts has two different prime nodes.",
-                "Give it one prime node in both texts, or list it in one of them.",
+                "Of join alone: a process of both texts has two prime nodes.",
+                "Give it one prime node in both texts, or leave it out of one.",
             );
         }
         let at = self.number as usize - 1;

@@ -45,22 +45,12 @@ fn meanings_are_those_of_the_manual() {
         assert_eq!(refusal.remedy(), plain(remedy));
         seen += 1;
     }
-    assert_eq!(seen, 18);
+    assert_eq!(seen, 19);
 }
 
 #[test]
-fn two_prime_nodes_are_those_of_the_manual() {
-    let manual = manual();
-    let rule = manual
-        .lines()
-        .find_map(|line| line.strip_prefix("- **J9** 20: "));
-    let refusal = Refusal::new(20, None).expect("a refusal");
-    let meaning = refusal.meaning();
-    assert!(meaning.starts_with('A') && !refusal.remedy().is_empty());
-    assert_eq!(
-        rule.map(|rule| rule.replacen('a', "A", 1)).as_deref(),
-        Some(meaning)
-    );
+fn no_other_refusal_is_known() {
+    assert_eq!(Refusal::new(0, None), None);
     assert_eq!(Refusal::new(19, None), None);
     assert_eq!(Refusal::new(21, None), None);
 }
