@@ -1,9 +1,8 @@
 //! Two opening texts joined: the forms of each are read into a directory, the second's are added to
 //! the first's, and all are printed in order.
 
-use super::opening::{entry_in_range, read_entry, Entry, Refused, ENTRIES, NODES, PROCESSES};
+use super::forms::{Entry, Forms, Refused, ENTRIES, NODES, PROCESSES};
 use super::printed::Printed;
-use super::reader::Reader;
 use crate::entry::JOINED_BYTES;
 use crate::layout::OPERATION;
 
@@ -47,6 +46,26 @@ pub fn join(texts: &[u8], lent: &mut [u8]) -> usize {
     }
 }
 
+impl Forms for Directory {
+    fn node(&mut self, node: u32, entries: Option<&[Entry]>) -> Result<(), u32> {
+        let place = &mut self.nodes[node as usize];
+        if std::mem::replace(&mut place.given, true) {
+            return Err(4);
+        }
+        let entries = entries.ok_or(6u32)?;
+        place.entries[..entries.len()].copy_from_slice(entries);
+        place.count = entries.len();
+        Ok(())
+    }
+
+    fn process(&mut self, process: u32, prime: u32) -> Result<(), u32> {
+        match std::mem::replace(&mut self.primes[process as usize], prime) {
+            0 => Ok(()),
+            _ => Err(4),
+        }
+    }
+}
+
 impl Directory {
     fn empty() -> Directory {
         Directory {
@@ -68,58 +87,6 @@ impl Directory {
             number += 1;
         }
         Err((2, number))
-    }
-
-    /// Whether the line is the last one; or its refusal.
-    fn form(&mut self, line: &[u8]) -> Result<bool, u32> {
-        let mut reader = Reader::of(line).ok_or(2u32)?;
-        match reader.word() {
-            b"open" if reader.is_empty() => Ok(true),
-            b"node" => self.node(&mut reader).map(|()| false),
-            b"process" => self.process(&mut reader).map(|()| false),
-            _ => Err(2),
-        }
-    }
-
-    fn process(&mut self, reader: &mut Reader) -> Result<(), u32> {
-        let numbers = reader.next_number().zip(reader.next_number());
-        let (process, prime) = numbers.filter(|_| reader.is_empty()).ok_or(2u32)?;
-        if !(1..=PROCESSES).contains(&process) || !(1..=NODES).contains(&prime) {
-            return Err(3);
-        }
-        match std::mem::replace(&mut self.primes[process as usize], prime) {
-            0 => Ok(()),
-            _ => Err(4),
-        }
-    }
-
-    fn node(&mut self, reader: &mut Reader) -> Result<(), u32> {
-        let number = reader.next_number().ok_or(2u32)?;
-        let mut node = Node {
-            given: true,
-            ..NONE
-        };
-        let mut in_range = (1..=NODES).contains(&number);
-        while !reader.is_empty() {
-            let entry = read_entry(reader).ok_or(2u32)?;
-            in_range &= entry_in_range(&entry);
-            if let Some(place) = node.entries.get_mut(node.count) {
-                *place = entry;
-            }
-            node.count += 1;
-        }
-        if !in_range {
-            return Err(3);
-        }
-        let place = &mut self.nodes[number as usize];
-        if place.given {
-            return Err(4);
-        }
-        if node.count > ENTRIES {
-            return Err(6);
-        }
-        *place = node;
-        Ok(())
     }
 
     /// Whether all that this directory names is listed here or in the other.

@@ -6,6 +6,7 @@ pub mod closing;
 pub mod closing_tables;
 pub mod entry;
 pub mod find;
+mod forms;
 mod holders;
 pub mod join;
 mod laid;

@@ -1,15 +1,8 @@
 //! The opening text, read into the lent words.
 
 use super::calls::{Records, Words};
-use super::reader::Reader;
-use crate::layout::{NEXT, OPERATION, ROWS, SUBDIRECTORY};
-
-pub const ENTRIES: usize = 16;
-pub const NODES: u32 = 32;
-pub const PROCESSES: u32 = 64;
-
-/// The refusal of a text and its line.
-pub type Refused = (u32, u32);
+use super::forms::{Entry, Forms, Refused, NODES, PROCESSES};
+use crate::layout::{NEXT, OPERATION, ROWS};
 
 /// The rows so far, which nodes and processes are given, and on which line each is first named.
 struct Opening<'a> {
@@ -52,27 +45,18 @@ pub fn read_opening(t: &mut Words, p: &mut Records, text: &[u8]) -> Result<(), R
     Err((2, opening.line + 1))
 }
 
-/// An entry of a node: the words kind, object, operation and rights of its row.
-pub type Entry = [u32; 4];
-
-impl Opening<'_> {
-    /// Whether the line is the last one; or its refusal.
-    fn form(&mut self, line: &[u8]) -> Result<bool, u32> {
-        let mut reader = Reader::of(line).ok_or(2u32)?;
-        match reader.word() {
-            b"open" if reader.is_empty() => Ok(true),
-            b"node" => self.node(&mut reader).map(|()| false),
-            b"process" => self.process(&mut reader).map(|()| false),
-            _ => Err(2),
+impl Forms for Opening<'_> {
+    fn node(&mut self, node: u32, entries: Option<&[Entry]>) -> Result<(), u32> {
+        if std::mem::replace(&mut self.node_given[node as usize], true) {
+            return Err(4);
         }
+        for entry in entries.ok_or(6u32)? {
+            self.entry(node, entry);
+        }
+        Ok(())
     }
 
-    fn process(&mut self, reader: &mut Reader) -> Result<(), u32> {
-        let numbers = reader.next_number().zip(reader.next_number());
-        let (process, prime) = numbers.filter(|_| reader.is_empty()).ok_or(2u32)?;
-        if !(1..=PROCESSES).contains(&process) || !(1..=NODES).contains(&prime) {
-            return Err(3);
-        }
+    fn process(&mut self, process: u32, prime: u32) -> Result<(), u32> {
         let record = &mut self.p[3 * (process as usize - 1)..][..3];
         if record[0] != 0 {
             return Err(4);
@@ -81,35 +65,9 @@ impl Opening<'_> {
         name(&mut self.node_named, prime, self.line);
         Ok(())
     }
+}
 
-    /// All entries are read before the first is stored: a line that is refused
-    /// may be refused by its last.
-    fn node(&mut self, reader: &mut Reader) -> Result<(), u32> {
-        let node = reader.next_number().ok_or(2u32)?;
-        let mut entries: [Entry; ENTRIES] = [[0; 4]; ENTRIES];
-        let mut count = 0;
-        let mut in_range = (1..=NODES).contains(&node);
-        while !reader.is_empty() {
-            let entry = read_entry(reader).ok_or(2u32)?;
-            in_range &= entry_in_range(&entry);
-            if let Some(place) = entries.get_mut(count) {
-                *place = entry;
-            }
-            count += 1;
-        }
-        if !in_range {
-            return Err(3);
-        }
-        if std::mem::replace(&mut self.node_given[node as usize], true) {
-            return Err(4);
-        }
-        let entries = entries.get(..count).ok_or(6u32)?;
-        for entry in entries {
-            self.entry(node, entry);
-        }
-        Ok(())
-    }
-
+impl Opening<'_> {
     /// A row of the text has no source and depth 1.
     fn entry(&mut self, node: u32, &[kind, object, operation, rights]: &Entry) {
         match kind {
@@ -146,31 +104,4 @@ fn name(lines: &mut [u32], number: u32, line: u32) {
     if *first == 0 {
         *first = line;
     }
-}
-
-// read by two functions; inlined in both, a largest text takes 13 % fewer instructions
-#[inline(always)]
-pub fn read_entry(reader: &mut Reader) -> Option<Entry> {
-    reader.byte(b' ')?;
-    reader.byte(b'(')?;
-    let entry = match reader.word() {
-        b"op" => {
-            let (manager, operation) = (reader.next_number()?, reader.next_number()?);
-            [OPERATION, manager, operation, reader.next_number()?]
-        }
-        b"dir" => [
-            SUBDIRECTORY,
-            reader.next_number()?,
-            0,
-            reader.next_number()?,
-        ],
-        _ => return None,
-    };
-    reader.byte(b')')?;
-    Some(entry)
-}
-
-pub fn entry_in_range(&[kind, object, operation, rights]: &Entry) -> bool {
-    let most = if kind == OPERATION { PROCESSES } else { NODES };
-    (1..=most).contains(&object) && operation <= 255 && rights <= 7
 }
