@@ -6,6 +6,7 @@ use crate::directories::entry_code;
 use text::Given;
 use text::Step;
 use text::opening_lines::entry_at;
+use text::opening_text::MOST_ENTRIES;
 use text::opening_text::pass_line;
 use text::patterns::read_form;
 ghost use Prim.Native.Nat.{_+_, _≤_};
@@ -15,8 +16,6 @@ ghost use Rattle.text.specs.contracts.Openings.{entriesHere};
 ghost use Rattle.joining.specs.contracts.Directories.{ENTRIES};
 ghost use Rattle.joining.specs.contracts.Reading.{EntriesFit, StoresCodes, Takes, Stores, TakesLine, StoresLine};
 ghost use Rattle.joining.specs.contracts.Reading.{HeldGiven, ReadsLine};
-
-const MOST_ENTRIES: usize = 16;
 
 // Stores the codes of the entries from a position of a line on; how many they are.
 fn store_entries(words: &mut [u32], at: usize, line: &[u8], from: usize) -> usize

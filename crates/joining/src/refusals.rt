@@ -10,14 +10,13 @@ use rows::codes::AN_OPERATION;
 use rows::codes::LAST_NODE;
 use rows::codes::LAST_PROCESS;
 use text::Entry;
+use text::opening_text::MOST_ENTRIES;
 ghost use mathlib.Core.Path.{_≡_};
 ghost use Prim.Native.Nat.{_≤_};
 ghost use Rattle.text.specs.contracts.Sizes.{NODES};
 ghost use Rattle.joining.specs.Joins.{nameMissing, nodeCrowded, primesDiffer, joinRefusal};
 ghost use Rattle.joining.specs.contracts.Directories.{IsHeld, OfBoth};
 ghost use Rattle.joining.specs.contracts.Listed.{ListsEntry, ListsCodes, ListsNodes, ListsPrimes, ListsText};
-
-const MOST_ENTRIES: usize = 16;
 
 // ---- 5: a name that neither text gives
 // Whether the process or node that an entry names is given by either text.

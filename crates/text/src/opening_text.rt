@@ -19,7 +19,8 @@ ghost use Rattle.rows.specs.contracts.Sizes.{PROCESSES};
 ghost use Rattle.text.specs.contracts.Openings.{Gives, RefusesNode, StepsNode, FormSteps, Steps, stopped};
 ghost use Rattle.text.specs.contracts.Openings.{gone-on, Ends};
 
-const MOST_ENTRIES: usize = 16;
+// (rule O15)
+pub const MOST_ENTRIES: usize = 16;
 
 // ---- what is given
 // Nothing is given yet. Ruled out: node 1 is given; process 64 is.
