@@ -47,6 +47,11 @@ module _ (a b : List ℕ) (fs gs : List Form) (ha : Held a fs) (hb : Held b gs) 
 pub codes-listed : (f : Entry → Bool) (es : List Entry) → all entryGood es ≡ true → all (λ c. f (entryOf c)) (map entryCode es) ≡ all f es
 codes-listed f es g = sym (all-map f entryOf (map entryCode es)) ∙ ap (all f) (codes-back es g)
 
+-- ---- brackets of two tests
+and-out : (a b c : Bool) → (a && b) && c ≡ a && (b && c)
+and-out true b c = refl
+and-out false b c = refl
+
 -- ---- a test that every number passes
 all-true : (f : ℕ → Bool) → ((n : ℕ) → f n ≡ true) → (ns : List ℕ) → all f ns ≡ true
 unfolding all
@@ -89,10 +94,6 @@ module _ (ls : List Form) where
           rw none (sym (and-true (nodeIn ls m)))
       pick false e = refl
 
-  and-out : (a b c : Bool) → (a && b) && c ≡ a && (b && c)
-  and-out true b c = refl
-  and-out false b c = refl
-
   and-past : (a b c : Bool) → a && (b && c) ≡ b && (a && c)
   and-past true b c = refl
   and-past false true c = refl
@@ -134,11 +135,7 @@ module _ (fs gs : List Form) where
   pub all-forms : (f : Form → Bool) (hs : List Form) → all f (hs ++ gs) ≡ all f hs && all f gs
   unfolding all
   all-forms f [] = refl
-  all-forms f (h ∷ hs) = ap (λ (b : Bool). f h && b) (all-forms f hs) ∙ sym (and-both (f h) (all f hs) (all f gs))
-    where
-      and-both : (a b c : Bool) → (a && b) && c ≡ a && (b && c)
-      and-both true b c = refl
-      and-both false b c = refl
+  all-forms f (h ∷ hs) = ap (λ (b : Bool). f h && b) (all-forms f hs) ∙ sym (and-out (f h) (all f hs) (all f gs))
 
   pub missing-test : (x y : Bool) → x ≡ all (formListed (fs ++ gs)) fs → y ≡ all (formListed (fs ++ gs)) gs → not (x && y) ≡ nameMissing fs gs
   unfolding nameMissing
