@@ -1,6 +1,6 @@
 -- The numbers and values of an answer, for every one of its cases.
-use Rattle.std.specs.Prelude.{ℕ, List, [], ◌∷◌, ◌++◌, map, eqb}
-use Rattle.rows.specs.Lists.{if◌then◌else◌, nonzero}
+use Rattle.std.specs.Prelude.{ℕ, List, [], ◌∷◌, ◌++◌, map, eqb, if◌then◌else◌}
+use Rattle.rows.specs.Lists.{nonzero}
 use Rattle.calls.specs.declared.Four.{Four}
 use Rattle.calls.specs.declared.Sixteen.{Sixteen}
 use Rattle.calls.specs.declared.Answer.{Answer}

@@ -1,8 +1,8 @@
 -- The thirteen calls on a state (docs/MANUAL.md, chapter 4). Of each the refusals 7 to 18, the lowest first; then, in one table, what each does where nothing refuses it.
-use Rattle.std.specs.Prelude.{ℕ, suc, ◌+◌, Bool, not, ◌&&◌, ◌||◌, List, [], ◌∷◌, ltb, eqb, length, get_or}
+use Rattle.std.specs.Prelude.{ℕ, suc, ◌+◌, Bool, not, ◌&&◌, ◌||◌, List, [], ◌∷◌, ltb, eqb, length, get_or, if◌then◌else◌}
 use Rattle.rows.specs.declared.Row.{Row}
 use Rattle.rows.specs.declared.Request.{Request}
-use Rattle.rows.specs.Lists.{if◌then◌else◌, filter, any, member, some, nonzero}
+use Rattle.rows.specs.Lists.{filter, any, member, some, nonzero}
 use Rattle.rows.specs.Codes.{client_end, server_end, is_operation, is_subdirectory, is_client, is_server, is_end, in_node, in_clist, may_hold, may_transfer, may_register, within}
 use Rattle.rows.specs.Tables.{State, row_of, request_of, process_at, sources, depth_over, comes_from, first_chain, lists, goes_back, on_loan, is_lent}
 use Rattle.rows.specs.Setters.{in_prime_node, went_through}

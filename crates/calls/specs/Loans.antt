@@ -1,8 +1,8 @@
 -- ask: the request, the copies made and the ends moved; fetch: the privileges handed over.
-use Rattle.std.specs.Prelude.{ℕ, suc, ◌+◌, Bool, not, List, [], ◌∷◌, ◌++◌, map, eqb}
+use Rattle.std.specs.Prelude.{ℕ, suc, ◌+◌, Bool, not, List, [], ◌∷◌, ◌++◌, map, eqb, if◌then◌else◌}
 use Rattle.rows.specs.declared.Row.{Row}
 use Rattle.rows.specs.declared.Request.{Request}
-use Rattle.rows.specs.Lists.{if◌then◌else◌, filter, some, pad}
+use Rattle.rows.specs.Lists.{filter, some, pad}
 use Rattle.rows.specs.Limits.{most_items}
 use Rattle.rows.specs.Codes.{waiting_mark, fetched_mark, in_clist, with_system}
 use Rattle.rows.specs.Tables.{State, row_of, depth_over, lists, goes_back}

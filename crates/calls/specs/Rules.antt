@@ -1,9 +1,9 @@
 -- What the calls share: refusals in order, the caller's c-list, free slots and numbers, new rows.
-use Rattle.std.specs.Prelude.{ℕ, suc, ◌+◌, ◌-◌, Bool, not, ◌&&◌, List, [], ◌∷◌, leb, ltb, eqb, length, set}
+use Rattle.std.specs.Prelude.{ℕ, suc, ◌+◌, ◌-◌, Bool, not, ◌&&◌, List, [], ◌∷◌, leb, ltb, eqb, length, set, if◌then◌else◌}
 use Rattle.rows.specs.declared.Row.{Row}
 use Rattle.rows.specs.declared.Request.{Request}
 use Rattle.rows.specs.declared.Process.{Process}
-use Rattle.rows.specs.Lists.{if◌then◌else◌, some}
+use Rattle.rows.specs.Lists.{some}
 use Rattle.rows.specs.Limits.{greatest_number, row_slots, request_slots, greatest_depth}
 use Rattle.rows.specs.Codes.{in_clist}
 use Rattle.rows.specs.Tables.{State, row_of, open_on}

@@ -3,15 +3,16 @@ use mathlib.Core.List.{[], ◌∷◌, List}
 use Prim.Native.Nat.{ℕ}
 use lib.ListN.{length}
 use seplogic.Ra.Ura.{Ura}
-use mir.Syntax.{named}
+use mir.Syntax.{named, w32, w64}
 use mir.Val.{Val, vptr}
 use base.Logic.{ent}
 use base.Fml.{Fml, Lft, Share, ftrue, fsep, flft}
 use types.Logic.{Logic, sem}
 use types.Kit.{Item, ‵, ◌⊛◌, ⋆, ◌$◌, ◌∵◌, !, qed, move, use1, split, fsplit, fjoin, frame, done}
 use denote.RattleType.{RattleType}
+use denote.Plain.{uint_row_laws}
 use denote.Builtin.{u32, u64}
-use denote.Array.{Array}
+use denote.Array.{Array, Array-row_laws}
 use denote.Ref.{Bor, ShrRef, shr_copy}
 use denote.Slice.{slice_val, ShrSlice, shr_slice_copy}
 use denote.Struct.Laws as LL
@@ -34,7 +35,7 @@ abbrev pub st : Bor (List ℕ) → Val
 st t = slice_val t.ref_ptr (length t.now)
 
 abbrev pub sm : Bor (List ℕ) → Val
-sm m = vptr m.ptr.0 m.ptr.1
+sm m = vptr m.ref_ptr.0 m.ref_ptr.1
 
 -- what the references own
 abbrev pub OwnT : Lft → Bor (List ℕ) → Fml
@@ -54,6 +55,6 @@ module _ {M : Type 1} {𝓤 : Ura M} (𝓛 : Logic 𝓤) where
   -- both can be copied: once for a call, once for what comes after it
   pub twice : (κ : Lft) (t : Bor (List ℕ)) (κ' : Lft) (m : Bor (List ℕ)) → ent 𝓤 (sem 𝓛 (Lent κ t κ' m)) (⋆ 𝓛 (‵ (Lent κ t κ' m) ∷ ‵ (Lent κ t κ' m) ∷ []))
   twice κ t κ' m =
-      qed 𝓛 (‵ (Lent κ t κ' m) ∷ []) ∵ fsplit ! $ use1 𝓛 (‵ (OwnT κ t) ⊛ ‵ (OwnT κ t)) ((shr_slice_copy 𝓛 (named 0) κ u32).twice t (st t ∷ [])) $ split ! $
-      move ! (2 ∷ []) $ use1 𝓛 (‵ (OwnM κ' m) ⊛ ‵ (OwnM κ' m)) ((shr_copy 𝓛 (named 1) κ' Marks).twice m (sm m ∷ [])) $ split ! $
+      qed 𝓛 (‵ (Lent κ t κ' m) ∷ []) ∵ fsplit ! $ use1 𝓛 (‵ (OwnT κ t) ⊛ ‵ (OwnT κ t)) ((shr_slice_copy 𝓛 (named 0) κ u32 (uint_row_laws w32)).twice t (st t ∷ [])) $ split ! $
+      move ! (2 ∷ []) $ use1 𝓛 (‵ (OwnM κ' m) ⊛ ‵ (OwnM κ' m)) ((shr_copy 𝓛 (named 1) κ' Marks (Array-row_laws u64 (uint_row_laws w64) 16)).twice m (sm m ∷ [])) $ split ! $
       move ! (2 ∷ 0 ∷ []) $ fjoin ! $ frame ! $ move ! (1 ∷ 0 ∷ []) $ fjoin ! $ done !

@@ -1,9 +1,9 @@
 -- Closing (docs/MANUAL.md, chapter 5): what is removed, which requests close with it, where surviving ends go. A function of its seeds.
-use Rattle.std.specs.Prelude.{ℕ, Bool, not, ◌&&◌, ◌||◌, List, [], ◌∷◌, map, eqb}
+use Rattle.std.specs.Prelude.{ℕ, Bool, not, ◌&&◌, ◌||◌, List, [], ◌∷◌, map, eqb, if◌then◌else◌}
 use Rattle.rows.specs.declared.Row.{Row}
 use Rattle.rows.specs.declared.Request.{Request}
 use Rattle.rows.specs.declared.Process.{Process}
-use Rattle.rows.specs.Lists.{if◌then◌else◌, filter, any, member, some}
+use Rattle.rows.specs.Lists.{filter, any, member, some}
 use Rattle.rows.specs.Codes.{is_end, in_clist}
 use Rattle.rows.specs.Tables.{State, no_request, marked, bears, lists}
 use Rattle.rows.specs.Setters.{with_rows, with_requests, with_processes, with_place, with_items, in_prime_node}

@@ -1,6 +1,6 @@
 -- A session fed its input byte by byte (docs/MANUAL.md, chapter 1): what is kept between two bytes, and what is printed when a line ends.
-use Rattle.std.specs.Prelude.{ℕ, Bool, false, List, [], ◌∷◌, ◌++◌, ltb, eqb, length}
-use Rattle.rows.specs.Lists.{if◌then◌else◌, same_list}
+use Rattle.std.specs.Prelude.{ℕ, Bool, false, List, [], ◌∷◌, ◌++◌, ltb, eqb, length, if◌then◌else◌}
+use Rattle.rows.specs.Lists.{same_list}
 use Rattle.text.specs.Opening.{FirstPass, read_to, stopped_by, lines_of, cut, first_pass}
 use Rattle.calls.specs.Answers.{num}
 use Rattle.text.specs.Answers.{ok_text}

@@ -7,7 +7,8 @@ use lib.Dec.{ltb, eqb}
 use native.Mathlib.Omega.{arith}
 use borrow.Author.Tests.{ltb-true, lt-ltb, ne_eqb}
 use Rattle.rows.specs.declared.Row.{Row}
-use Rattle.rows.specs.Lists.{if◌then◌else◌, filter, all, each, top_of, member, some, same_list}
+use Rattle.std.specs.Prelude.{if◌then◌else◌}
+use Rattle.rows.specs.Lists.{filter, all, each, top_of, member, some, same_list}
 use Rattle.rows.specs.Tables.{State}
 use Rattle.rows.proofs.Bools.{false_of, and_l, and_r, and_i, or_r, all-mono, all-and, all-at, some-pos}
 use Rattle.rows.proofs.Keyed.{first-there, rises-range, rises-cons}

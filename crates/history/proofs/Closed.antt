@@ -6,7 +6,8 @@ use mathlib.Core.Path.{◌≡◌, refl, sym, ap, ◌∙◌, fun_ext}
 use Rattle.rows.specs.declared.Row.{Row}
 use Rattle.rows.specs.declared.Request.{Request}
 use Rattle.rows.specs.declared.Process.{Process}
-use Rattle.rows.specs.Lists.{if◌then◌else◌, filter, all, each, member, some}
+use Rattle.std.specs.Prelude.{if◌then◌else◌}
+use Rattle.rows.specs.Lists.{filter, all, each, member, some}
 use Rattle.rows.specs.Tables.{State, process_at, is_listed, sources, marked}
 use Rattle.rows.specs.Sound.{rows_rise}
 use Rattle.rows.proofs.Bools.{and_r, and_i}

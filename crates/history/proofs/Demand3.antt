@@ -114,7 +114,7 @@ along-call h w a l =
 pub along-lines : (h : History) (w : Replied) → Along h w → (ls : List (List ℕ)) → Along (history_after h ls (replies_to w ls)) (lent_after w ls)
 unfolding history_after replies_to lent_after
 along-lines h w a [] = a
-along-lines h w a (l ∷ ls) = along-lines _ _ (along-call h w a l) ls
+along-lines h w a (l ∷ ls) = let w' = call_entry w.tables w.processes l in along-lines (note_line h l w'.reply) w' (along-call h w a l) ls
 
 pub along-opening : (t p text : List ℕ) → accepts (open_entry t p text).reply ≡ true → Along (begun text) (open_entry t p text)
 along-opening t p text a =

@@ -6,7 +6,8 @@ use mathlib.Core.Path.{◌≡◌}
 use lib.Dec.{ltb, eqb}
 use Rattle.rows.specs.declared.Row.{Row}
 use Rattle.rows.specs.declared.Request.{Request}
-use Rattle.rows.specs.Lists.{if◌then◌else◌, filter, all, top_of, some, nonzero}
+use Rattle.std.specs.Prelude.{if◌then◌else◌}
+use Rattle.rows.specs.Lists.{filter, all, top_of, some, nonzero}
 use Rattle.rows.specs.Codes.{is_end}
 use Rattle.rows.specs.Tables.{State, row_of, process_at, is_listed, sources, goes_back}
 use Rattle.calls.specs.declared.Call.{Call}

@@ -8,7 +8,8 @@ use native.Mathlib.Omega.{arith}
 use borrow.Author.Tests.{le-leb}
 use Rattle.rows.specs.declared.Row.{Row}
 use Rattle.rows.specs.declared.Request.{Request}
-use Rattle.rows.specs.Lists.{if◌then◌else◌, all, member, some, nonzero}
+use Rattle.std.specs.Prelude.{if◌then◌else◌}
+use Rattle.rows.specs.Lists.{all, member, some, nonzero}
 use Rattle.rows.specs.Codes.{is_end, in_clist}
 use Rattle.rows.specs.Tables.{State, row_of, numbers, lists, goes_back}
 use Rattle.rows.specs.Sound.{may_be_listed, items_lent}

@@ -5,7 +5,8 @@ use mathlib.Core.List.{List, [], ◌∷◌, ◌++◌, map}
 use mathlib.Core.Path.{◌≡◌, refl, sym, ap, ◌∙◌}
 use Rattle.rows.specs.declared.Row.{Row}
 use Rattle.rows.specs.declared.Request.{Request}
-use Rattle.rows.specs.Lists.{if◌then◌else◌, filter, all, any, rises, member, some, nonzero}
+use Rattle.std.specs.Prelude.{if◌then◌else◌}
+use Rattle.rows.specs.Lists.{filter, all, any, rises, member, some, nonzero}
 use Rattle.rows.specs.Codes.{is_end}
 use Rattle.rows.specs.Tables.{State, no_request, row_of, request_of, numbers, marked, bears}
 use Rattle.rows.specs.Sound.{same, requests_rise}

@@ -6,7 +6,8 @@ use mathlib.Core.List.{List, [], ◌∷◌}
 use mathlib.Core.Path.{◌≡◌, refl, ap, ◌∙◌}
 use native.Mathlib.Omega.{arith}
 use lib.Dec.{eqb}
-use Rattle.rows.specs.Lists.{if◌then◌else◌, any, some, all, between, bytes}
+use Rattle.std.specs.Prelude.{if◌then◌else◌}
+use Rattle.rows.specs.Lists.{any, some, all, between, bytes}
 use Rattle.rows.specs.Codes.{is_server}
 use Rattle.rows.specs.Tables.{State, row_of, is_listed}
 use Rattle.rows.specs.Sound.{is_fetched}

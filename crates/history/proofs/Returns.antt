@@ -9,7 +9,8 @@ use native.Mathlib.Omega.{arith}
 use borrow.Author.Tests.{eqb-true}
 use Rattle.rows.specs.declared.Row.{Row}
 use Rattle.rows.specs.declared.Request.{Request}
-use Rattle.rows.specs.Lists.{if◌then◌else◌, any, first_with, rises, member, some, nonzero}
+use Rattle.std.specs.Prelude.{if◌then◌else◌}
+use Rattle.rows.specs.Lists.{any, first_with, rises, member, some, nonzero}
 use Rattle.rows.specs.Codes.{is_end, in_clist}
 use Rattle.rows.specs.Tables.{State, no_request, row_of, request_of, numbers, marked, bears, lists}
 use Rattle.rows.specs.Sound.{requests_rise}

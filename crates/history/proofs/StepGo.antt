@@ -12,7 +12,8 @@ use borrow.Author.Tests.{eqb-true, eqb-false, ne_eqb}
 use Rattle.rows.specs.declared.Row.{Row}
 use Rattle.rows.specs.declared.Request.{Request}
 use Rattle.rows.specs.declared.Process.{Process}
-use Rattle.rows.specs.Lists.{if◌then◌else◌, first_with, some}
+use Rattle.std.specs.Prelude.{if◌then◌else◌}
+use Rattle.rows.specs.Lists.{first_with, some}
 use Rattle.rows.specs.Codes.{in_clist}
 use Rattle.rows.specs.Tables.{State, no_process, process_at, is_listed, sources, lists}
 use Rattle.rows.proofs.Bools.{clash, some-pos, none-zero}

@@ -1,6 +1,6 @@
 -- The history: what each accepted call notes (docs/MANUAL.md, 10.1). It is fed text, lines and answers, and reads no table.
-use Rattle.std.specs.Prelude.{ℕ, suc, pred, Bool, not, ◌&&◌, ◌||◌, List, [], ◌∷◌, ◌++◌, map, eqb}
-use Rattle.rows.specs.Lists.{if◌then◌else◌, filter, any, all, first_with, member, some}
+use Rattle.std.specs.Prelude.{ℕ, suc, pred, Bool, not, ◌&&◌, ◌||◌, List, [], ◌∷◌, ◌++◌, map, eqb, if◌then◌else◌}
+use Rattle.rows.specs.Lists.{filter, any, all, first_with, member, some}
 use Rattle.calls.specs.declared.Item.{Item}
 use Rattle.history.specs.History.{Noted, Loan, Went, OnLoan, History, with_noted_rows, with_noted_requests, with_dropped, with_closed_ports, with_closed_requests, with_went, with_loans}
 

@@ -1,8 +1,8 @@
 -- Every theorem that docs/ASSURANCE.md names of history and of what is below it, each with its type, those of demand 3 and of kept soundness too.
 -- `promises` (proofs/Promises.antt) proves all of them: if one is dropped or weakened where it is proved, this crate is not proved. The security theorems have such a record in security, the fed session in feed.
-use Rattle.std.specs.Prelude.{ℕ, suc, ◌+◌, ◌*◌, ◌-◌, ◌≤◌, Bool, true, false, ◌&&◌, ◌||◌, List, [], ◌∷◌, ◌++◌, map, ◌↔◌, ◌≡◌, eqb, leb, drop}
+use Rattle.std.specs.Prelude.{ℕ, suc, ◌+◌, ◌*◌, ◌-◌, ◌≤◌, Bool, true, false, ◌&&◌, ◌||◌, List, [], ◌∷◌, ◌++◌, map, ◌↔◌, ◌≡◌, eqb, leb, drop, if◌then◌else◌}
 use Rattle.rows.specs.declared.Row.{Row}
-use Rattle.rows.specs.Lists.{if◌then◌else◌, filter, any, all, each, rises, member, some}
+use Rattle.rows.specs.Lists.{filter, any, all, each, rises, member, some}
 use Rattle.rows.specs.Limits.{greatest_number}
 use Rattle.rows.specs.Codes.{is_server, is_end, in_clist, is_clist, is_system, is_node, within}
 use Rattle.rows.specs.Tables.{State, empty, row_of, numbers, sources, reaches, marked}

@@ -1,6 +1,6 @@
 -- The history's own reading of the opening text, of call lines and of printed answers. It shares the text's parsers and nothing of the calls.
-use Rattle.std.specs.Prelude.{ℕ, zero, suc, ◌+◌, Bool, List, [], ◌∷◌, length}
-use Rattle.rows.specs.Lists.{if◌then◌else◌, filter, some}
+use Rattle.std.specs.Prelude.{ℕ, zero, suc, ◌+◌, Bool, List, [], ◌∷◌, length, if◌then◌else◌}
+use Rattle.rows.specs.Lists.{filter, some}
 use Rattle.calls.specs.declared.Item.{Item}
 use Rattle.calls.specs.declared.Items.{Items}
 use Rattle.calls.specs.declared.Call.{Call}

@@ -1,6 +1,5 @@
 -- Two texts read byte by byte (docs/MANUAL.md, chapter 16): how far reading has come between two bytes, and what is joined at the end.
-use Rattle.std.specs.Prelude.{ℕ, suc, List, [], ◌∷◌, ◌++◌, eqb, length}
-use Rattle.rows.specs.Lists.{if◌then◌else◌}
+use Rattle.std.specs.Prelude.{ℕ, suc, List, [], ◌∷◌, ◌++◌, eqb, length, if◌then◌else◌}
 use Rattle.text.specs.Opening.{Form, Line, last_line, form_line, bad_line, cut, line_of, form_refusal}
 use Rattle.joining.specs.Joins.{Joined, refused_text, joined_by}
 use Rattle.joining.specs.Written.{join_text}

@@ -1,6 +1,6 @@
 -- Two opening texts joined (docs/MANUAL.md, chapter 16): what is refused, and the forms of the joined text in their order.
-use Rattle.std.specs.Prelude.{ℕ, zero, suc, Bool, not, ◌&&◌, ◌||◌, List, [], ◌∷◌, ◌++◌, map, ltb, eqb, length}
-use Rattle.rows.specs.Lists.{if◌then◌else◌, any, all, filter}
+use Rattle.std.specs.Prelude.{ℕ, zero, suc, Bool, not, ◌&&◌, ◌||◌, List, [], ◌∷◌, ◌++◌, map, ltb, eqb, length, if◌then◌else◌}
+use Rattle.rows.specs.Lists.{any, all, filter}
 use Rattle.rows.specs.Limits.{nodes, processes, most_entries}
 use Rattle.calls.specs.Rules.{◌when◌, lowest}
 use Rattle.text.specs.declared.Entry.{Entry}

@@ -1,7 +1,7 @@
 -- What the state that a joined text opens is told by (docs/MANUAL.md, 10.2): the entries of a node in a state, how often an entry stands, a text's own forms in order.
-use Rattle.std.specs.Prelude.{ℕ, List, [], ◌∷◌, ◌++◌, map, reverse, Bool, ltb, eqb, length}
+use Rattle.std.specs.Prelude.{ℕ, List, [], ◌∷◌, ◌++◌, map, reverse, Bool, ltb, eqb, length, if◌then◌else◌}
 use Rattle.rows.specs.declared.Row.{Row}
-use Rattle.rows.specs.Lists.{if◌then◌else◌, filter}
+use Rattle.rows.specs.Lists.{filter}
 use Rattle.rows.specs.Limits.{nodes, processes}
 use Rattle.rows.specs.Codes.{in_node}
 use Rattle.rows.specs.Tables.{State}

@@ -1,6 +1,6 @@
 -- Forms written as an opening text (docs/MANUAL.md, chapter 16), and what the program `join` prints.
-use Rattle.std.specs.Prelude.{ℕ, List, [], ◌∷◌, ◌++◌, map}
-use Rattle.rows.specs.Lists.{if◌then◌else◌, bytes}
+use Rattle.std.specs.Prelude.{ℕ, List, [], ◌∷◌, ◌++◌, map, if◌then◌else◌}
+use Rattle.rows.specs.Lists.{bytes}
 use Rattle.rows.specs.Codes.{is_operation}
 use Rattle.calls.specs.Answers.{num}
 use Rattle.text.specs.declared.Entry.{Entry}

@@ -7,7 +7,8 @@ use lib.Dec.{eqb}
 use lib.ListN.{length}
 use native.Mathlib.Omega.{arith}
 use Rattle.rows.specs.declared.Row.{Row}
-use Rattle.rows.specs.Lists.{if◌then◌else◌, filter, any}
+use Rattle.std.specs.Prelude.{if◌then◌else◌}
+use Rattle.rows.specs.Lists.{filter, any}
 use Rattle.rows.specs.Codes.{with_system}
 use Rattle.rows.specs.Tables.{State}
 use Rattle.rows.specs.Setters.{with_place}
@@ -91,7 +92,7 @@ module _ (st : State) (c v : ℕ) where
   lend-items [] l = sym (append-nil l.items)
     where
       append-nil : (ns : List ℕ) → ns ++ [] ≡ ns
-      append-nil ns = elim ns [ [] ↦ refl | (n ∷ (ns → ih)) ↦ ap (λ ms. n ∷ ms) ih ]
+      append-nil ns = elim ns as (λ ms. ms ++ [] ≡ ms) [ [] ↦ refl | (n ∷ (ns → ih)) ↦ ap (λ ms. n ∷ ms) ih ]
   lend-items (i ∷ is) l = pick (lend-items is) (moves st i)
     where
       pick : ((l : Lending) → (lend_items st c v is l).items ≡ l.items ++ listed st is l.next) → (b : Bool)

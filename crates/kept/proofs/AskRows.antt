@@ -83,12 +83,12 @@ module _ (st : State) (s : Sound st) (p c : ℕ) (is : List Item) (a : AskAllowe
       le-leb (length (asked_rows st c is)) row_slots (omega arith)
 
   places-in-range : places_in_range st.processes (asked_rows st c is) ≡ true
-  unfolding places_in_range
+  unfolding places_in_range moved
   places-in-range =
       rows_all (place_in_range st.processes) (λ n i g _ _. copy-place st s p c a.client (is_item st is) none [] n i g)
       (all_map (place_in_range st.processes) (moved (is_item st is) with_system) st.rows
       ∙ all-mono (place_in_range st.processes) (λ r. place_in_range st.processes (moved (is_item st is) with_system r))
-      (λ r e. unfold moved in pick r (is_item st is r.number) e) st.rows s.rows.places-in-range)
+      (λ r e. pick r (is_item st is r.number) e) st.rows s.rows.places-in-range)
     where
       pick : (r : Row) (b : Bool) → place_in_range st.processes r ≡ true → place_in_range st.processes (cond b (with_place with_system r) r) ≡ true
       pick r true e = system-in-range st.processes (with_place with_system r) (unfold with_place in refl)

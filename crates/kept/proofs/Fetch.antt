@@ -106,11 +106,11 @@ module _ (st : State) (s : Sound st) (p : ℕ) (v : Request) (found : request_of
   requests-all P h e = all_map P (now_fetched v.number) st.requests ∙ all-eq (λ w. P (now_fetched v.number w)) P (now-same v.number P h) st.requests ∙ e
 
   places-in-range : places_in_range after.processes after.rows ≡ true
-  unfolding places_in_range
+  unfolding places_in_range moved
   places-in-range =
       all_map (place_in_range st.processes) (moved goes (in_clist p)) st.rows
       ∙ all-mono (place_in_range st.processes) (λ r. place_in_range st.processes (moved goes (in_clist p) r))
-      (λ r e. unfold moved in pick r (goes r.number) e) st.rows s.rows.places-in-range
+      (λ r e. pick r (goes r.number) e) st.rows s.rows.places-in-range
     where
       pick : (r : Row) (b : Bool) → place_in_range st.processes r ≡ true → place_in_range st.processes (cond b (with_place (in_clist p) r) r) ≡ true
       pick r true e = clist-in-range st s.placed p listed (with_place (in_clist p) r) (unfold with_place in refl)
@@ -143,7 +143,7 @@ module _ (st : State) (s : Sound st) (p : ℕ) (v : Request) (found : request_of
   older-fetched = each_map (λ w. true) older_fetched_by older_fetched_by (now_fetched v.number) (λ w ws _ _ e. step w ws e) st.requests (every st.requests) s.holders.older-fetched
     where
       every : (ws : List Request) → all (λ w. true) ws ≡ true
-      every ws = unfold all in elim ws [ [] ↦ refl | (w ∷ (ws → ih)) ↦ ih ]
+      every ws = unfold all in elim ws as (λ us. all (λ w. true) us ≡ true) [ [] ↦ refl | (w ∷ (ws → ih)) ↦ ih ]
 
       items-same : (w : Request) → (now_fetched v.number w).items ≡ w.items
       items-same w = now-same v.number (λ w. w.items) (λ k v. refl) w

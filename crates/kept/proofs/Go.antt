@@ -8,7 +8,8 @@ use lib.ListN.{get_or, set, length-set}
 use native.Mathlib.Omega.{arith}
 use Rattle.rows.specs.declared.Row.{Row}
 use Rattle.rows.specs.declared.Process.{Process}
-use Rattle.rows.specs.Lists.{if◌then◌else◌, between, some}
+use Rattle.std.specs.Prelude.{if◌then◌else◌}
+use Rattle.rows.specs.Lists.{between, some}
 use Rattle.rows.specs.Limits.{processes, nodes}
 use Rattle.rows.specs.Codes.{is_subdirectory, in_clist, is_node, owner_of}
 use Rattle.rows.specs.Tables.{State, no_process, row_of, process_at, is_listed}

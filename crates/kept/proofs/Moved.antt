@@ -6,7 +6,8 @@ use mathlib.Core.Path.{◌≡◌, refl, sym, ap, ◌∙◌}
 use Rattle.rows.specs.declared.Row.{Row}
 use Rattle.rows.specs.declared.Request.{Request}
 use Rattle.rows.specs.declared.Process.{Process}
-use Rattle.rows.specs.Lists.{if◌then◌else◌, all, some}
+use Rattle.std.specs.Prelude.{if◌then◌else◌}
+use Rattle.rows.specs.Lists.{all, some}
 use Rattle.rows.specs.Codes.{is_end, is_node}
 use Rattle.rows.specs.Tables.{no_row, row_of, request_of}
 use Rattle.rows.specs.Sound.{object_in_range, right_in_range, is_paired_with, other_end, end_paired, copy_listed, copies_listed, port_stands, may_be_listed, sourced, has_right_sources, sources_right}

@@ -9,7 +9,8 @@ use lib.Dec.{eqb}
 use lib.ListN.{length}
 use Rattle.rows.specs.declared.Row.{Row}
 use Rattle.rows.specs.declared.Request.{Request}
-use Rattle.rows.specs.Lists.{if◌then◌else◌, filter, any, member, some}
+use Rattle.std.specs.Prelude.{if◌then◌else◌}
+use Rattle.rows.specs.Lists.{filter, any, member, some}
 use Rattle.rows.specs.Codes.{in_clist}
 use Rattle.rows.specs.Tables.{State, no_row, no_request, row_of, request_of, numbers, marked, bears, lists}
 use Rattle.rows.specs.Sound.{rows_rise, requests_rise}

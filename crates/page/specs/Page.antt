@@ -1,7 +1,7 @@
 -- The holders' page (docs/MANUAL.md, chapter 15): a line a row, in table order, five fields of the row in their columns.
-use Rattle.std.specs.Prelude.{ℕ, zero, suc, ◌+◌, List, [], ◌∷◌, ◌++◌, length, take, drop, replicate}
+use Rattle.std.specs.Prelude.{ℕ, zero, suc, ◌+◌, List, [], ◌∷◌, ◌++◌, length, take, drop, replicate, if◌then◌else◌}
 use Rattle.rows.specs.declared.Row.{Row}
-use Rattle.rows.specs.Lists.{if◌then◌else◌, bytes}
+use Rattle.rows.specs.Lists.{bytes}
 use Rattle.rows.specs.Codes.{is_operation, is_subdirectory, is_client, is_server, is_node, is_clist, is_system, owner_of}
 use Rattle.rows.specs.Layout.{raw_row}
 use Rattle.text.specs.Answers.{digits_of}

@@ -1,6 +1,6 @@
 -- A page read back (docs/MANUAL.md, rule P34): its lines, and the five fields of each from their columns.
-use Rattle.std.specs.Prelude.{ℕ, suc, ◌+◌, ◌*◌, ◌-◌, List, [], ◌∷◌, map, eqb, take, drop}
-use Rattle.rows.specs.Lists.{if◌then◌else◌, same_list, bytes}
+use Rattle.std.specs.Prelude.{ℕ, suc, ◌+◌, ◌*◌, ◌-◌, List, [], ◌∷◌, map, eqb, take, drop, if◌then◌else◌}
+use Rattle.rows.specs.Lists.{same_list, bytes}
 use Rattle.rows.specs.Codes.{operation, subdirectory, client_end, server_end, in_node, in_clist, with_system}
 use Rattle.text.specs.Opening.{lines_of}
 use Rattle.page.specs.declared.Shown.{Shown}

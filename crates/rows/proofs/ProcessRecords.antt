@@ -4,7 +4,8 @@ use native.Mathlib.Decide.{dec_lt}
 use borrow.Author.Tests.{eqb-false}
 use lib.ListN.{get_or-eq_default}
 use Rattle.rows.specs.declared.Process.{Process}
-use Rattle.rows.specs.Lists.{some, if◌then◌else◌}
+use Rattle.std.specs.Prelude.{if◌then◌else◌}
+use Rattle.rows.specs.Lists.{some}
 use Rattle.rows.specs.Tables.{no_process, process_at, is_listed}
 use Rattle.rows.specs.Layout.{records_in}
 use Rattle.rows.proofs.Bools.{bool_eq}

@@ -1,9 +1,9 @@
 -- How the two lent runs of words represent a state (docs/MANUAL.md, chapter 7), and how it is read back.
-use Rattle.std.specs.Prelude.{ℕ, zero, suc, ◌+◌, ◌*◌, Bool, ◌&&◌, List, [], ◌∷◌, ◌++◌, length, take, drop, replicate, ◌==◌, nat_lt, slice_index}
+use Rattle.std.specs.Prelude.{ℕ, zero, suc, ◌+◌, ◌*◌, Bool, ◌&&◌, List, [], ◌∷◌, ◌++◌, length, take, drop, replicate, ◌==◌, nat_lt, slice_index, if◌then◌else◌}
 use Rattle.rows.specs.declared.Row.{Row}
 use Rattle.rows.specs.declared.Request.{Request}
 use Rattle.rows.specs.declared.Process.{Process}
-use Rattle.rows.specs.Lists.{if◌then◌else◌, pad, laid, slot_with, same_list, some}
+use Rattle.rows.specs.Lists.{pad, laid, slot_with, same_list, some}
 use Rattle.rows.specs.Limits.{processes, row_slots, request_slots}
 use Rattle.rows.specs.Tables.{State, empty}
 use Rattle.rows.specs.Setters.{with_sources}

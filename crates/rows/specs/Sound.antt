@@ -1,9 +1,9 @@
 -- Sound tables (docs/MANUAL.md, chapter 6): a named definition for each of the 27 clauses, and their conjunction in five parts.
-use Rattle.std.specs.Prelude.{ℕ, suc, pred, max, Bool, true, false, not, ◌&&◌, ◌||◌, List, [], ◌∷◌, map, length, ◌==◌, nat_eq, nat_le, nat_lt}
+use Rattle.std.specs.Prelude.{ℕ, suc, pred, max, Bool, true, false, not, ◌&&◌, ◌||◌, List, [], ◌∷◌, map, length, ◌==◌, nat_eq, nat_le, nat_lt, if◌then◌else◌}
 use Rattle.rows.specs.declared.Row.{Row}
 use Rattle.rows.specs.declared.Request.{Request}
 use Rattle.rows.specs.declared.Process.{Process}
-use Rattle.rows.specs.Lists.{if◌then◌else◌, any, all, each, top_of, rises, member, distinct, between, some, nonzero}
+use Rattle.rows.specs.Lists.{any, all, each, top_of, rises, member, distinct, between, some, nonzero}
 use Rattle.rows.specs.Limits.{processes, nodes, greatest_operation, all_rights, greatest_number, row_slots, request_slots, greatest_depth, most_items}
 use Rattle.rows.specs.Codes.{is_operation, is_subdirectory, is_client, is_server, is_end, is_copied, fetched_mark, greatest_mark, in_clist, is_node, is_clist, is_system, owner_of, within}
 use Rattle.rows.specs.Tables.{State, row_of, request_of, is_listed, numbers, lists, goes_back}

@@ -1,9 +1,9 @@
 -- The tables: rows, requests, process records, the next number; look-up; comes from, first chain, on loan, lent.
-use Rattle.std.specs.Prelude.{ℕ, zero, suc, max, Bool, true, false, ◌&&◌, ◌||◌, List, [], ◌∷◌, ◌++◌, map, replicate, ◌==◌, slice_index_or}
+use Rattle.std.specs.Prelude.{ℕ, zero, suc, max, Bool, true, false, ◌&&◌, ◌||◌, List, [], ◌∷◌, ◌++◌, map, replicate, ◌==◌, slice_index_or, if◌then◌else◌}
 use Rattle.rows.specs.declared.Row.{Row}
 use Rattle.rows.specs.declared.Request.{Request}
 use Rattle.rows.specs.declared.Process.{Process}
-use Rattle.rows.specs.Lists.{if◌then◌else◌, any, first_with, member, some, nonzero}
+use Rattle.rows.specs.Lists.{any, first_with, member, some, nonzero}
 use Rattle.rows.specs.Limits.{processes}
 use Rattle.rows.specs.Codes.{is_end}
 

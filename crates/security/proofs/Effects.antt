@@ -10,7 +10,8 @@ use Rattle.rows.specs.declared.Row.{Row}
 use Rattle.rows.specs.declared.Request.{Request}
 use Rattle.rows.specs.declared.Process.{Process}
 use borrow.Author.Tests.{eqb-true, eq-eqb}
-use Rattle.rows.specs.Lists.{if◌then◌else◌, any, member, some}
+use Rattle.std.specs.Prelude.{if◌then◌else◌}
+use Rattle.rows.specs.Lists.{any, member, some}
 use Rattle.rows.specs.Codes.{client_end, server_end, in_node, in_clist, is_node}
 use Rattle.rows.proofs.Places.{clist-not-node}
 use Rattle.rows.proofs.RowSources.{node-there}

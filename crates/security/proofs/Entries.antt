@@ -84,7 +84,7 @@ along-call fs log w a l =
 along-lines : (fs : List Form) (log : Log) (w : Replied) → Along fs log w → (ls : List (List ℕ)) → Along fs (fetches_after log ls (replies_to w ls)) (lent_after w ls)
 unfolding fetches_after replies_to lent_after
 along-lines fs log w a [] = a
-along-lines fs log w a (l ∷ ls) = along-lines fs _ _ (along-call fs log w a l) ls
+along-lines fs log w a (l ∷ ls) = let w' = call_entry w.tables w.processes l in along-lines fs (note_fetch log l w'.reply) w' (along-call fs log w a l) ls
 
 pub state-in : (w : Replied) (reply : List ℕ) (st : State) → Sound st → w ≡ reply_with reply st → state_in w ≡ st
 unfolding state_in reply_with

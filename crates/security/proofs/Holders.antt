@@ -6,7 +6,8 @@ use mathlib.Core.Path.{◌≡◌, refl, sym, ap, ◌∙◌, subst}
 use lib.Dec.{eqb}
 use Rattle.rows.specs.declared.Row.{Row}
 use Rattle.rows.specs.declared.Request.{Request}
-use Rattle.rows.specs.Lists.{if◌then◌else◌, filter, all, first_with, member, some}
+use Rattle.std.specs.Prelude.{if◌then◌else◌}
+use Rattle.rows.specs.Lists.{filter, all, first_with, member, some}
 use Rattle.rows.specs.Codes.{is_end, in_clist, with_system}
 use Rattle.rows.specs.Tables.{State, no_request, row_of, request_of, lists}
 use Rattle.rows.specs.Sound.{requests_rise, is_fetched, same}
@@ -196,7 +197,9 @@ along-lines : (fs : List Form) (h : History) (log : Log) (hs : Homes) (w : Repli
     → Along fs (history_after h ls (replies_to w ls)) (fetches_after log ls (replies_to w ls)) (homes_after fs h hs ls (replies_to w ls)) (lent_after w ls)
 unfolding history_after fetches_after homes_after replies_to lent_after
 along-lines fs h log hs w a [] = a
-along-lines fs h log hs w a (l ∷ ls) = along-lines fs _ _ _ _ (along-call fs h log hs w a l) ls
+along-lines fs h log hs w a (l ∷ ls) =
+    let w' = call_entry w.tables w.processes l in
+    along-lines fs (note_line h l w'.reply) (note_fetch log l w'.reply) (line_homes fs h l w'.reply hs) w' (along-call fs h log hs w a l) ls
 
 -- ==== who has what
 along-opening : (t p text : List ℕ) → accepts (open_entry t p text).reply ≡ true → Along (forms_of text) (begun text) [] (form_homes (forms_of text)) (open_entry t p text)

@@ -7,7 +7,8 @@ use mathlib.Core.Path.{◌≡◌, refl, sym, ap, ◌∙◌, subst}
 use mathlib.Core.Logic.{⊎_elim}
 use borrow.Author.Tests.{eqb-true, ne_eqb}
 use Rattle.rows.specs.declared.Row.{Row}
-use Rattle.rows.specs.Lists.{if◌then◌else◌, all, first_with, member, some}
+use Rattle.std.specs.Prelude.{if◌then◌else◌}
+use Rattle.rows.specs.Lists.{all, first_with, member, some}
 use Rattle.rows.specs.Codes.{is_end, in_node, in_clist, with_system, is_node, is_system}
 use Rattle.rows.specs.Tables.{State, no_row, row_of, process_at, is_listed, numbers, empty}
 use Rattle.rows.specs.Setters.{with_place}

@@ -10,7 +10,8 @@ use lib.ListN.{get_or}
 use borrow.Author.Tests.{eqb-true, eq-eqb, ne_eqb, leb-true, le-ltb}
 use Rattle.rows.specs.declared.Row.{Row}
 use Rattle.rows.specs.declared.Request.{Request}
-use Rattle.rows.specs.Lists.{if◌then◌else◌, any, all, member, between, some}
+use Rattle.std.specs.Prelude.{if◌then◌else◌}
+use Rattle.rows.specs.Lists.{any, all, member, between, some}
 use Rattle.rows.specs.Limits.{greatest_depth}
 use Rattle.rows.specs.Codes.{is_operation, is_subdirectory, is_client, is_server, is_end, in_node, in_clist, is_node, may_hold, may_transfer, may_register, within}
 use Rattle.rows.specs.Tables.{State, no_row, no_request, row_of, request_of, process_at, is_listed, numbers, sources, depth_over, on_loan, is_lent}

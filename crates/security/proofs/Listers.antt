@@ -6,7 +6,8 @@ use mathlib.Core.Path.{◌≡◌, refl, sym, ap, ◌∙◌}
 use lib.Dec.{eqb}
 use borrow.Author.Tests.{eqb-true}
 use Rattle.rows.specs.declared.Request.{Request}
-use Rattle.rows.specs.Lists.{if◌then◌else◌, filter, any, all, each, first_with, rises, member, some}
+use Rattle.std.specs.Prelude.{if◌then◌else◌}
+use Rattle.rows.specs.Lists.{filter, any, all, each, first_with, rises, member, some}
 use Rattle.rows.specs.Codes.{in_clist, with_system}
 use Rattle.rows.specs.Tables.{no_request, request_of, lists}
 use Rattle.rows.specs.Sound.{is_fetched, older_fetched_by}

@@ -371,7 +371,7 @@ lines-said : (h : History) (w : Replied) (L : Loans) → Along h w → ((q e : �
     → (q e : ℕ) → HasOnLoan (history_after h ls (replies_to w ls)) q e ↔ said_after h L ls (replies_to w ls) q e
 unfolding history_after replies_to said_after reply_with
 lines-said h w L a f [] = f
-lines-said h w L a f (l ∷ ls) = lines-said _ _ _ (along-call h w a l) now ls
+lines-said h w L a f (l ∷ ls) = lines-said (note_line h l reply) (call_entry w.tables w.processes l) (said_now h (note_line h l reply) L) (along-call h w a l) now ls
   where
     reply : List ℕ
     reply = (call_entry w.tables w.processes l).reply

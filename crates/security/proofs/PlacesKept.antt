@@ -9,7 +9,8 @@ use lib.Dec.{eqb}
 use borrow.Author.Tests.{eqb-true}
 use Rattle.rows.specs.declared.Row.{Row}
 use Rattle.rows.specs.declared.Request.{Request}
-use Rattle.rows.specs.Lists.{if◌then◌else◌, filter, all, first_with, rises, member, some}
+use Rattle.std.specs.Prelude.{if◌then◌else◌}
+use Rattle.rows.specs.Lists.{filter, all, first_with, rises, member, some}
 use Rattle.rows.specs.Codes.{operation, client_end, server_end, is_operation, is_client, is_server, is_end, in_clist, with_system, is_clist}
 use Rattle.rows.specs.Tables.{State, no_row, no_request, row_of, request_of, is_listed, numbers, lists}
 use Rattle.rows.specs.Setters.{with_place}

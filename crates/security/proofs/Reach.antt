@@ -7,7 +7,8 @@ use mathlib.Core.Logic.{⊎_elim}
 use lib.Dec.{eqb}
 use borrow.Author.Tests.{eqb-true}
 use Rattle.rows.specs.declared.Row.{Row}
-use Rattle.rows.specs.Lists.{if◌then◌else◌, some}
+use Rattle.std.specs.Prelude.{if◌then◌else◌}
+use Rattle.rows.specs.Lists.{some}
 use Rattle.rows.specs.Codes.{is_subdirectory, is_end, in_node, is_node, may_hold}
 use Rattle.rows.specs.Tables.{State, no_row, row_of, process_at, numbers, bears, comes_from}
 use Rattle.rows.specs.declared.Process.{Process}

@@ -11,7 +11,8 @@ use borrow.Author.Tests.{eqb-true, ne_eqb, le-leb, lt-ltb, le-ltb}
 use Rattle.rows.specs.declared.Row.{Row}
 use Rattle.rows.specs.declared.Request.{Request}
 use Rattle.rows.specs.declared.Process.{Process}
-use Rattle.rows.specs.Lists.{if◌then◌else◌, any, all, first_with, rises, member, some}
+use Rattle.std.specs.Prelude.{if◌then◌else◌}
+use Rattle.rows.specs.Lists.{any, all, first_with, rises, member, some}
 use Rattle.rows.specs.Codes.{is_end, in_clist, with_system, fetched_mark}
 use Rattle.rows.specs.Tables.{State, no_row, no_request, row_of, request_of, process_at, is_listed, numbers, lists}
 use Rattle.rows.specs.Setters.{with_place, with_items, with_fetched, in_prime_node}

@@ -1,9 +1,9 @@
 -- (rule P17) What an accepted call does, told row by row and request by request: what goes, what stays and where, what each list and record is after it.
-use Rattle.std.specs.Prelude.{ℕ, suc, ◌+◌, ◌≤◌, Bool, false, not, ◌&&◌, ◌||◌, map, ◌≡◌, ltb, eqb, length}
+use Rattle.std.specs.Prelude.{ℕ, suc, ◌+◌, ◌≤◌, Bool, false, not, ◌&&◌, ◌||◌, map, ◌≡◌, ltb, eqb, length, if◌then◌else◌}
 use Rattle.rows.specs.declared.Row.{Row}
 use Rattle.rows.specs.declared.Request.{Request}
 use Rattle.rows.specs.declared.Process.{Process}
-use Rattle.rows.specs.Lists.{if◌then◌else◌, any, member, some}
+use Rattle.rows.specs.Lists.{any, member, some}
 use Rattle.rows.specs.Codes.{is_end, in_clist, with_system, fetched_mark}
 use Rattle.rows.specs.Tables.{State, row_of, request_of, open_on, process_at, numbers, comes_from, lists}
 use Rattle.rows.specs.Setters.{with_place, with_items, with_fetched, in_prime_node, went_through}

@@ -2,8 +2,8 @@
 -- A row is at its home: in the node that it was written into, or with the process that it was made for. A row on loan is with
 -- whoever fetched the newest request that has it on loan, and with the system until that is fetched.
 -- Ruled out: a kernel whose answers are all right, and that keeps a row in another c-list than these answers say.
-use Rattle.std.specs.Prelude.{ℕ, suc, true, ◌&&◌, List, [], ◌∷◌, ◌≡◌}
-use Rattle.rows.specs.Lists.{if◌then◌else◌, first_with, some}
+use Rattle.std.specs.Prelude.{ℕ, suc, true, ◌&&◌, List, [], ◌∷◌, ◌≡◌, if◌then◌else◌}
+use Rattle.rows.specs.Lists.{first_with, some}
 use Rattle.rows.specs.Codes.{in_node, in_clist, with_system}
 use Rattle.rows.specs.Tables.{row_of}
 use Rattle.calls.specs.declared.Item.{Item}

@@ -1,11 +1,11 @@
 -- (rule P25) Isolation: what a process is answered is decided by what it can see, its view. If a call of another leaves the view, the next call is answered
 -- as it would have been, but for the number that a new row or request takes, and for the three refusals that tell of shared room (16, 17, 18).
 -- Ruled out: a kernel whose answers depend on a row of another's c-list, on a loan that the process neither made nor fetched, on another's node.
-use Rattle.std.specs.Prelude.{ℕ, ◌<◌, ◌≤◌, Bool, true, false, not, ◌&&◌, List, [], map, ◌≡◌, ◌⊎◌, ltb, eqb}
+use Rattle.std.specs.Prelude.{ℕ, ◌<◌, ◌≤◌, Bool, true, false, not, ◌&&◌, List, [], map, ◌≡◌, ◌⊎◌, ltb, eqb, if◌then◌else◌}
 use Rattle.rows.specs.declared.Row.{Row}
 use Rattle.rows.specs.declared.Request.{Request}
 use Rattle.rows.specs.declared.Process.{Process}
-use Rattle.rows.specs.Lists.{if◌then◌else◌, filter, any, member}
+use Rattle.rows.specs.Lists.{filter, any, member}
 use Rattle.rows.specs.Codes.{is_client, is_server, is_end, in_node, in_clist}
 use Rattle.rows.specs.Tables.{State, row_of, process_at, sources, lists, on_loan, is_lent}
 use Rattle.rows.specs.Sound.{sound, is_fetched}

@@ -1,10 +1,10 @@
 -- (rule P16) Where everything is, at all times: an end that no open request lists is at home, a listed one with whoever fetched the newest request
 -- that lists it, or with the system; a copy is with whoever fetched its request, or with the system.
 -- Ruled out: a kernel that gives an end to the wrong lender, and would be found out only by a later closing; that leaves a fetched copy with the system.
-use Rattle.std.specs.Prelude.{ℕ, true, List, [], ◌∷◌, ◌≡◌}
+use Rattle.std.specs.Prelude.{ℕ, true, List, [], ◌∷◌, ◌≡◌, if◌then◌else◌}
 use Rattle.rows.specs.declared.Row.{Row}
 use Rattle.rows.specs.declared.Request.{Request}
-use Rattle.rows.specs.Lists.{if◌then◌else◌, filter, some}
+use Rattle.rows.specs.Lists.{filter, some}
 use Rattle.rows.specs.Codes.{is_client, is_end, in_clist, with_system, is_clist}
 use Rattle.rows.specs.Tables.{State, row_of, request_of, lists}
 use Rattle.rows.specs.Sound.{is_fetched}

@@ -1,6 +1,6 @@
 -- Sessions: an accepted opening, then accepted calls. Every statement of this crate is about the states that sessions reach.
-use Rattle.std.specs.Prelude.{ℕ, List, [], ◌∷◌, map, true, ◌≡◌}
-use Rattle.rows.specs.Lists.{if◌then◌else◌, first_with, member}
+use Rattle.std.specs.Prelude.{ℕ, List, [], ◌∷◌, map, true, ◌≡◌, if◌then◌else◌}
+use Rattle.rows.specs.Lists.{first_with, member}
 use Rattle.rows.specs.Codes.{in_clist}
 use Rattle.rows.specs.Tables.{State, row_of, numbers}
 use Rattle.rows.specs.Sound.{sound}

@@ -13,7 +13,7 @@ use types.Logic.{Logic, sem}
 use types.Kit.{Item, ‵, raw, ◌⊛◌, ⋆, ◌$◌, ◌∵◌, !, qed, move, use1, use2, split, join, fjoin, frame, done}
 use denote.RattleType.{owns}
 use denote.Laws.{Is}
-use denote.Plain.{uint_Makes}
+use denote.Plain.{uint_Makes, uint_row_laws}
 use denote.Builtin.{u8, usize}
 use denote.Ref.{Bor}
 use denote.Slice.{slice_ty, slice_val, ShrSlice, shr_slice_Lawful, shr_slice_copy}
@@ -42,7 +42,7 @@ module _ {M : Type 1} {𝓤 : Ura M} (𝓛 : Logic 𝓤) where
   pub goes_at : (κ : Lft) (q : Share) (s : Bor (List ℕ)) (n : ℕ) → n < 2 ^ 64
       → ent 𝓤 (⋆ 𝓛 (Token κ q ∷ ‵ (Own κ s) ∷ [])) (sep 𝓤 (AskedAt κ q s n) (sem 𝓛 (Own κ s)))
   goes_at κ q s n fits =
-      qed 𝓛 (Token κ q ∷ ‵ (Own κ s) ∷ []) ∵ move ! (1 ∷ []) $ use1 𝓛 (‵ (Own κ s) ⊛ ‵ (Own κ s)) ((shr_slice_copy 𝓛 (named 0) κ u8).twice s (v s ∷ [])) $ split ! $
+      qed 𝓛 (Token κ q ∷ ‵ (Own κ s) ∷ []) ∵ move ! (1 ∷ []) $ use1 𝓛 (‵ (Own κ s) ⊛ ‵ (Own κ s)) ((shr_slice_copy 𝓛 (named 0) κ u8 (uint_row_laws w8)).twice s (v s ∷ [])) $ split ! $
       nothing ! $ owned ! usize (Is usize) (uint_Makes 𝓛 w64) n _ (refl, fits) $ fjoin ! $ move ! (1 ∷ 0 ∷ []) $ fjoin ! $
       -- [what the function's parameters own; what the line owns; the token]
       move ! (2 ∷ 0 ∷ []) $ use2 𝓛 (raw (AskedAt κ q s n)) (qed 𝓛 (Token κ q ∷ ‵ (owns (ShrSlice (named 0) κ u8 ∷ usize ∷ []) (s, (n, tt)) (v s ∷ [], (vint w64 n ∷ [], tt))) ∷ []) ∵ join ! $ frame ! $ done !) $ frame ! $ done !

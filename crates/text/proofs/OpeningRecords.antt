@@ -10,7 +10,8 @@ use lib.Dec.{eqb}
 use borrow.Author.Tests.{eqb-true}
 use Rattle.rows.specs.declared.Row.{Row}
 use Rattle.rows.specs.declared.Process.{Process}
-use Rattle.rows.specs.Lists.{any, all, each, between, some, if◌then◌else◌}
+use Rattle.std.specs.Prelude.{if◌then◌else◌}
+use Rattle.rows.specs.Lists.{any, all, each, between, some}
 use Rattle.rows.specs.Limits.{processes, nodes}
 use Rattle.rows.specs.Tables.{no_process, empty, process_at, is_listed}
 use Rattle.rows.specs.Sound.{record_unused, record_in_range, process_placed, placed_from}

@@ -14,7 +14,8 @@ use borrow.Author.Tests.{lt-ltb, le-ltb, le-leb, ltb-true, leb-true}
 use mir.Val.{bool_byte}
 use Rattle.rows.proofs.Bools.{clash, and_l, and_r, and_i}
 use Rattle.rows.proofs.Lists.{filter-append}
-use Rattle.rows.specs.Lists.{pad, nonzero, filter, some, if◌then◌else◌}
+use Rattle.std.specs.Prelude.{if◌then◌else◌}
+use Rattle.rows.specs.Lists.{pad, nonzero, filter, some}
 use Rattle.calls.specs.Answers.{Value, num}
 use Rattle.text.specs.Answers.{decimal, value_text, spaced, digits_of}
 use Rattle.text.specs.vocabulary.Replies.{in_reply, Puts, listed_text}

@@ -1,6 +1,6 @@
 -- Answers as text: one line for the opening, then one a call.
-use Rattle.std.specs.Prelude.{ℕ, zero, suc, ◌+◌, ◌/◌, ◌%◌, List, [], ◌∷◌, ◌++◌, map, ltb, eqb}
-use Rattle.rows.specs.Lists.{if◌then◌else◌, bytes}
+use Rattle.std.specs.Prelude.{ℕ, zero, suc, ◌+◌, ◌/◌, ◌%◌, List, [], ◌∷◌, ◌++◌, map, ltb, eqb, if◌then◌else◌}
+use Rattle.rows.specs.Lists.{bytes}
 use Rattle.calls.specs.declared.Answer.{Answer}
 use Rattle.calls.specs.Answers.{Value, num, dash, refusal_of, values_of}
 

@@ -1,6 +1,6 @@
 -- A call line (docs/MANUAL.md, chapter 3): the call that it asks for, or the refusal of its text, 2, 3, 4 or 6.
-use Rattle.std.specs.Prelude.{ℕ, zero, suc, Bool, not, ◌&&◌, List, [], ◌∷◌, map, leb, ltb, eqb, length, get_or}
-use Rattle.rows.specs.Lists.{if◌then◌else◌, all, distinct, between}
+use Rattle.std.specs.Prelude.{ℕ, zero, suc, Bool, not, ◌&&◌, List, [], ◌∷◌, map, leb, ltb, eqb, length, get_or, if◌then◌else◌}
+use Rattle.rows.specs.Lists.{all, distinct, between}
 use Rattle.rows.specs.Limits.{processes, all_rights, greatest_number, most_items, most_pairs, most_bytes}
 use Rattle.calls.specs.declared.Item.{Item}
 use Rattle.calls.specs.declared.Items.{Items}

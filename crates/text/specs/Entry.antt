@@ -1,6 +1,6 @@
 -- The two entry points on the lent words (docs/MANUAL.md, chapter 1): any words, any bytes in; the reply and every word out.
-use Rattle.std.specs.Prelude.{ℕ, Bool, not, ◌&&◌, List, [], ◌∷◌}
-use Rattle.rows.specs.Lists.{if◌then◌else◌, some}
+use Rattle.std.specs.Prelude.{ℕ, Bool, not, ◌&&◌, List, [], ◌∷◌, if◌then◌else◌}
+use Rattle.rows.specs.Lists.{some}
 use Rattle.rows.specs.Tables.{State, is_listed, empty}
 use Rattle.rows.specs.Layout.{words_of, records_of, state_of, right_lengths, sound_words, cleared_tables, cleared_processes}
 use Rattle.calls.specs.declared.Call.{Call}

@@ -1,7 +1,7 @@
 -- The opening text (docs/MANUAL.md, chapter 2): its lines, its forms, the number and line of its refusal, and the state that it opens.
-use Rattle.std.specs.Prelude.{ℕ, zero, suc, ◌+◌, ◌-◌, Bool, true, false, not, ◌&&◌, ◌||◌, List, [], ◌∷◌, leb, ltb, eqb, length, set, take}
+use Rattle.std.specs.Prelude.{ℕ, zero, suc, ◌+◌, ◌-◌, Bool, true, false, not, ◌&&◌, ◌||◌, List, [], ◌∷◌, leb, ltb, eqb, length, set, take, if◌then◌else◌}
 use Rattle.rows.specs.declared.Row.{Row}
-use Rattle.rows.specs.Lists.{if◌then◌else◌, any, all, between}
+use Rattle.rows.specs.Lists.{any, all, between}
 use Rattle.rows.specs.Limits.{processes, nodes, greatest_operation, all_rights, most_entries, most_bytes}
 use Rattle.rows.specs.Codes.{operation, subdirectory, is_operation, in_node}
 use Rattle.rows.specs.Tables.{State}

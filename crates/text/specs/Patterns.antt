@@ -1,7 +1,7 @@
 -- Forms are read by patterns (docs/MANUAL.md, 2.1): `#` stands for a number, `@` for a word, any other byte for itself.
-use Rattle.std.specs.Prelude.{ℕ, suc, ◌+◌, ◌*◌, ◌-◌, Bool, true, false, not, ◌&&◌, List, [], ◌∷◌, leb, ltb, eqb, length, get_or, drop}
+use Rattle.std.specs.Prelude.{ℕ, suc, ◌+◌, ◌*◌, ◌-◌, Bool, true, false, not, ◌&&◌, List, [], ◌∷◌, leb, ltb, eqb, length, get_or, drop, if◌then◌else◌}
 use Prim.Native.String.{String}
-use Rattle.rows.specs.Lists.{if◌then◌else◌, between, bytes}
+use Rattle.rows.specs.Lists.{between, bytes}
 use Rattle.rows.specs.Limits.{greatest_number}
 use Rattle.text.specs.declared.Run.{Run}
 use Rattle.text.specs.declared.Read.{Read}

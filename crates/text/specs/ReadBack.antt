@@ -1,7 +1,7 @@
 -- Calls written as lines, and answers read from their text: whoever calls writes the first and reads the second.
-use Rattle.std.specs.Prelude.{ℕ, zero, suc, ◌≤◌, Bool, true, false, ◌&&◌, List, [], ◌∷◌, ◌++◌, map, ◌≡◌, eqb, leb, length}
+use Rattle.std.specs.Prelude.{ℕ, zero, suc, ◌≤◌, Bool, true, false, ◌&&◌, List, [], ◌∷◌, ◌++◌, map, ◌≡◌, eqb, leb, length, if◌then◌else◌}
 use Prim.Native.String.{String}
-use Rattle.rows.specs.Lists.{if◌then◌else◌, all, distinct, some, bytes}
+use Rattle.rows.specs.Lists.{all, distinct, some, bytes}
 use Rattle.rows.specs.Limits.{greatest_number, most_pairs, most_bytes}
 use Rattle.calls.specs.declared.Item.{Item}
 use Rattle.calls.specs.declared.Items.{Items}

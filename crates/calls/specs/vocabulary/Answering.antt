@@ -1,9 +1,9 @@
 -- What the tests of answer say: of the ends that a request still lists.
-use Rattle.std.specs.Prelude.{ℕ, ◌≤◌, Bool, true, ◌&&◌, List, ◌≡◌, ltb, length}
+use Rattle.std.specs.Prelude.{ℕ, ◌≤◌, Bool, true, ◌&&◌, List, ◌≡◌, ltb, length, if◌then◌else◌}
 use Rattle.rows.specs.declared.Request.{Request}
 use Rattle.rows.specs.declared.Found.{Found}
 use Rattle.rows.specs.declared.Found.TheVariants.{Nothing}
-use Rattle.rows.specs.Lists.{if◌then◌else◌, any, member, some}
+use Rattle.rows.specs.Lists.{any, member, some}
 use Rattle.rows.specs.Codes.{is_end}
 use Rattle.rows.specs.Tables.{State, row_of, lists}
 use Rattle.rows.specs.Sound.{sound}

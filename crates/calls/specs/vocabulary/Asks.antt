@@ -1,6 +1,6 @@
 -- What the functions of ask answer: the items with their rows looked up, the tests of each item, the items lent one after the other.
-use Rattle.std.specs.Prelude.{ℕ, suc, ◌+◌, ◌<◌, ◌≤◌, Bool, true, false, not, ◌&&◌, List, [], ◌∷◌, ◌≡◌, length}
-use Rattle.rows.specs.Lists.{if◌then◌else◌, any, some, pad, top_of}
+use Rattle.std.specs.Prelude.{ℕ, suc, ◌+◌, ◌<◌, ◌≤◌, Bool, true, false, not, ◌&&◌, List, [], ◌∷◌, ◌≡◌, length, if◌then◌else◌}
+use Rattle.rows.specs.Lists.{any, some, pad, top_of}
 use Rattle.rows.specs.Tables.{State, row_of}
 use Rattle.rows.specs.Setters.{with_rows, with_place}
 use Rattle.rows.specs.Sound.{sound}

@@ -1,7 +1,6 @@
 -- What fetch and ask do to the lent words: rows that go to a place, items lent one after the other.
-use Rattle.std.specs.Prelude.{ℕ, suc, ◌≤◌, List, map, ◌≡◌}
+use Rattle.std.specs.Prelude.{ℕ, suc, ◌≤◌, List, map, ◌≡◌, if◌then◌else◌}
 use Rattle.rows.specs.declared.Row.{Row}
-use Rattle.rows.specs.Lists.{if◌then◌else◌}
 use Rattle.rows.specs.Tables.{State, open_on}
 use Rattle.rows.specs.Setters.{with_rows, with_place}
 use Rattle.rows.specs.vocabulary.Represents.{Represents}

@@ -1,8 +1,7 @@
 -- What the look-ups that the calls share answer, over words that represent a state with so many rows or requests.
-use Rattle.std.specs.Prelude.{ℕ, suc, ◌≤◌, List, ◌≡◌, eqb, length}
+use Rattle.std.specs.Prelude.{ℕ, suc, ◌≤◌, List, ◌≡◌, eqb, length, if◌then◌else◌}
 use Rattle.rows.specs.declared.Found.{Found}
 use Rattle.rows.specs.declared.Found.TheVariants.{Nothing}
-use Rattle.rows.specs.Lists.{if◌then◌else◌}
 use Rattle.rows.specs.Tables.{State, row_of, depth_over}
 use Rattle.rows.specs.Layout.{row_slot}
 use Rattle.rows.specs.Codes.{in_clist}

@@ -1,6 +1,5 @@
 -- Marks in bits: those that words hold, one for each slot, and how many they are.
-use Rattle.std.specs.Prelude.{ℕ, zero, suc, ◌/◌, ◌%◌, ◌^◌, ◌≤◌, ◌<◌, Bool, false, not, List, [], ◌∷◌, ◌++◌, ◌≡◌, eqb, get_or}
-use Rattle.rows.specs.Lists.{if◌then◌else◌}
+use Rattle.std.specs.Prelude.{ℕ, zero, suc, ◌/◌, ◌%◌, ◌^◌, ◌≤◌, ◌<◌, Bool, false, not, List, [], ◌∷◌, ◌++◌, ◌≡◌, eqb, get_or, if◌then◌else◌}
 
 -- the bits of a word; the words that have one for each slot (src/bits.rt)
 abbrev pub BITS : ℕ

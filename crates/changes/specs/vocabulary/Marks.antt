@@ -1,8 +1,8 @@
 -- Marks of what is to be removed, one for each slot, oldest first; what is left, and the slots that it moves to.
-use Rattle.std.specs.Prelude.{ℕ, zero, suc, ◌+◌, ◌-◌, ◌*◌, ◌≤◌, ◌<◌, min, Bool, true, false, not, ◌||◌, List, [], ◌∷◌, ◌++◌, ◌≡◌, length, get_or, take, drop}
+use Rattle.std.specs.Prelude.{ℕ, zero, suc, ◌+◌, ◌-◌, ◌*◌, ◌≤◌, ◌<◌, min, Bool, true, false, not, ◌||◌, List, [], ◌∷◌, ◌++◌, ◌≡◌, length, get_or, take, drop, if◌then◌else◌}
 use Rattle.rows.specs.declared.Row.{Row}
 use Rattle.rows.specs.declared.Request.{Request}
-use Rattle.rows.specs.Lists.{if◌then◌else◌, any, all, pad, member}
+use Rattle.rows.specs.Lists.{any, all, pad, member}
 use Rattle.rows.specs.Tables.{sources}
 use Rattle.rows.specs.vocabulary.Sizes.{ROWS, REQUESTS, SOURCE, VIA, DEPTH}
 

@@ -1,9 +1,9 @@
 -- Lists and places as the pass over the requests, from the oldest on, leaves them, before what is marked is removed;
 -- and what the functions of the pass say.
-use Rattle.std.specs.Prelude.{ℕ, ◌≤◌, Bool, true, false, not, ◌&&◌, ◌||◌, List, [], ◌∷◌, ◌++◌, map, ◌≡◌, length}
+use Rattle.std.specs.Prelude.{ℕ, ◌≤◌, Bool, true, false, not, ◌&&◌, ◌||◌, List, [], ◌∷◌, ◌++◌, map, ◌≡◌, length, if◌then◌else◌}
 use Rattle.rows.specs.declared.Row.{Row}
 use Rattle.rows.specs.declared.Request.{Request}
-use Rattle.rows.specs.Lists.{if◌then◌else◌, all, pad, member, some, nonzero}
+use Rattle.rows.specs.Lists.{all, pad, member, some, nonzero}
 use Rattle.rows.specs.Codes.{in_clist}
 use Rattle.rows.specs.Tables.{State, numbers}
 use Rattle.rows.specs.Sound.{sound}

@@ -1,6 +1,5 @@
 -- What is printed of two texts that were read.
-use Rattle.std.specs.Prelude.{ℕ, ◌*◌, ◌≤◌, ◌<◌, List, [], ◌∷◌, ◌++◌, ◌≡◌, refl, eqb, length, drop}
-use Rattle.rows.specs.Lists.{if◌then◌else◌}
+use Rattle.std.specs.Prelude.{ℕ, ◌*◌, ◌≤◌, ◌<◌, List, [], ◌∷◌, ◌++◌, ◌≡◌, refl, eqb, length, drop, if◌then◌else◌}
 use Rattle.text.specs.declared.Reply.{Reply}
 use Rattle.text.specs.declared.Verdict.{Verdict}
 use Rattle.text.specs.Answers.{no_text}

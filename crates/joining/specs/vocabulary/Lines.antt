@@ -1,6 +1,6 @@
 -- The joined text by slots: one for each node, each process and `(open)`.
-use Rattle.std.specs.Prelude.{ℕ, zero, suc, ◌+◌, ◌-◌, ◌*◌, ◌≤◌, ◌<◌, true, false, ◌||◌, List, [], ◌++◌, map, ◌≡◌, refl, ltb, length, take, drop}
-use Rattle.rows.specs.Lists.{if◌then◌else◌, all, bytes}
+use Rattle.std.specs.Prelude.{ℕ, zero, suc, ◌+◌, ◌-◌, ◌*◌, ◌≤◌, ◌<◌, true, false, ◌||◌, List, [], ◌++◌, map, ◌≡◌, refl, ltb, length, take, drop, if◌then◌else◌}
+use Rattle.rows.specs.Lists.{all, bytes}
 use Rattle.rows.specs.Limits.{nodes, processes}
 use Rattle.text.specs.declared.Reply.{Reply}
 use Rattle.text.specs.Opening.{Form, node_form, process_form}

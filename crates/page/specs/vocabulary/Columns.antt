@@ -1,6 +1,5 @@
 -- Sizes of a line, named in contracts as in code, and what its functions say of the bytes lent to them.
-use Rattle.std.specs.Prelude.{ℕ, ◌+◌, ◌*◌, ◌-◌, ◌/◌, ◌%◌, ◌<◌, List, ◌++◌, ◌≡◌, eqb, leb, ltb, length, get_or, drop}
-use Rattle.rows.specs.Lists.{if◌then◌else◌}
+use Rattle.std.specs.Prelude.{ℕ, ◌+◌, ◌*◌, ◌-◌, ◌/◌, ◌%◌, ◌<◌, List, ◌++◌, ◌≡◌, eqb, leb, ltb, length, get_or, drop, if◌then◌else◌}
 use Rattle.rows.specs.Layout.{rows_in}
 use Rattle.page.specs.Page.{lines_from}
 

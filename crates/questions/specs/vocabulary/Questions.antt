@@ -1,7 +1,7 @@
 -- What the questions answer, over the lent words: of every state that the words t represent (and that is sound, where the answer needs it).
-use Rattle.std.specs.Prelude.{ℕ, suc, ◌+◌, ◌≤◌, Bool, true, ◌&&◌, List, ◌++◌, ◌≡◌, eqb, length, get_or, drop}
+use Rattle.std.specs.Prelude.{ℕ, suc, ◌+◌, ◌≤◌, Bool, true, ◌&&◌, List, ◌++◌, ◌≡◌, eqb, length, get_or, drop, if◌then◌else◌}
 use Rattle.rows.specs.declared.Row.{Row}
-use Rattle.rows.specs.Lists.{if◌then◌else◌, some}
+use Rattle.rows.specs.Lists.{some}
 use Rattle.rows.specs.Codes.{is_client}
 use Rattle.rows.specs.Tables.{State, row_of, reaches, bears, lent_itself, on_loan, comes_from, is_lent, first_chain}
 use Rattle.rows.specs.Sound.{sound}

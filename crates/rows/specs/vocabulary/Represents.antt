@@ -1,8 +1,8 @@
 -- What contracts over the lent words say first: the words represent a state; and what a change makes of that state.
-use Rattle.std.specs.Prelude.{◌≡◌, ℕ, Bool, true, ◌&&◌, List, map, ◌==◌}
+use Rattle.std.specs.Prelude.{◌≡◌, ℕ, Bool, true, ◌&&◌, List, map, ◌==◌, if◌then◌else◌}
 use Rattle.rows.specs.declared.Row.{Row}
 use Rattle.rows.specs.declared.Request.{Request}
-use Rattle.rows.specs.Lists.{if◌then◌else◌, all, each, member}
+use Rattle.rows.specs.Lists.{all, each, member}
 use Rattle.rows.specs.Tables.{State, numbers, sources}
 use Rattle.rows.specs.Setters.{with_rows, with_requests}
 use Rattle.rows.specs.Sound.{rows_rise, requests_rise, rows_fit, requests_fit, items_few}

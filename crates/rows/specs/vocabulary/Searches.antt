@@ -1,6 +1,6 @@
 -- What the searches of a column say: numbers that rise, and the position of a number.
-use Rattle.std.specs.Prelude.{◌≡◌, ℕ, ◌+◌, ◌<◌, ◌≤◌, Bool, true, ◌&&◌, List, ◌≢◌, nat_le, slice_index}
-use Rattle.rows.specs.Lists.{if◌then◌else◌, some}
+use Rattle.std.specs.Prelude.{◌≡◌, ℕ, ◌+◌, ◌<◌, ◌≤◌, Bool, true, ◌&&◌, List, ◌≢◌, nat_le, slice_index, if◌then◌else◌}
+use Rattle.rows.specs.Lists.{some}
 use Rattle.rows.specs.Layout.{leading}
 use Rattle.rows.specs.declared.Found.{Found}
 use Rattle.rows.specs.declared.Found.TheVariants.{At, Nothing}

@@ -1,10 +1,10 @@
 -- What contracts say of slots: where a row or a request stands, and what a slot holds.
-use Rattle.std.specs.Prelude.{ℕ, zero, suc, ◌<◌, List, [], ◌∷◌, length, ◌==◌}
+use Rattle.std.specs.Prelude.{ℕ, zero, suc, ◌<◌, List, [], ◌∷◌, length, ◌==◌, if◌then◌else◌}
 use Rattle.rows.specs.declared.Row.{Row}
 use Rattle.rows.specs.declared.Request.{Request}
 use Rattle.rows.specs.declared.Found.{Found}
 use Rattle.rows.specs.declared.Found.TheVariants.{At, Nothing}
-use Rattle.rows.specs.Lists.{if◌then◌else◌, slot_with}
+use Rattle.rows.specs.Lists.{slot_with}
 use Rattle.rows.specs.Setters.{with_sources}
 unfoldable pub use Rattle.rows.specs.Layout.{slotted}
 

@@ -1,9 +1,9 @@
 -- What the functions that test soundness say of one slot, of marks and of the listing: slots are given plus 1, 0 for none.
-use Rattle.std.specs.Prelude.{ℕ, zero, suc, ◌+◌, ◌*◌, ◌<◌, ◌≤◌, Bool, true, false, not, ◌&&◌, ◌||◌, List, [], ◌∷◌, map, ◌≡◌, leb, ltb, eqb, get_or, set}
+use Rattle.std.specs.Prelude.{ℕ, zero, suc, ◌+◌, ◌*◌, ◌<◌, ◌≤◌, Bool, true, false, not, ◌&&◌, ◌||◌, List, [], ◌∷◌, map, ◌≡◌, leb, ltb, eqb, get_or, set, if◌then◌else◌}
 use Rattle.rows.specs.declared.Row.{Row}
 use Rattle.rows.specs.declared.Request.{Request}
 use Rattle.rows.specs.declared.Process.{Process}
-use Rattle.rows.specs.Lists.{if◌then◌else◌, any, all, distinct, some, nonzero}
+use Rattle.rows.specs.Lists.{any, all, distinct, some, nonzero}
 use Rattle.rows.specs.Codes.{is_system}
 use Rattle.rows.specs.Tables.{State, row_of, is_listed, lists, goes_back}
 use Rattle.rows.specs.Sound.{numbers_apart, fetched_in_range, port_stands, ports_stand, requesters_listed, items_apart, one_per_port, is_fetched, older_fetched, same, system_holds}

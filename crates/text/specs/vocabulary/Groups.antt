@@ -1,6 +1,6 @@
 -- Groups of two numbers as the code keeps them, flags and padded runs; and lines that have a head, groups and an end.
-use Rattle.std.specs.Prelude.{ℕ, suc, ◌+◌, ◌≡◌, Bool, true, false, ◌&&◌, not, List, map, eqb, length, get_or}
-use Rattle.rows.specs.Lists.{if◌then◌else◌, all, distinct, pad}
+use Rattle.std.specs.Prelude.{ℕ, suc, ◌+◌, ◌≡◌, Bool, true, false, ◌&&◌, not, List, map, eqb, length, get_or, if◌then◌else◌}
+use Rattle.rows.specs.Lists.{all, distinct, pad}
 use Rattle.text.specs.declared.Read.{Read}
 use Rattle.text.specs.declared.Head.{Head}
 use Rattle.text.specs.declared.Groups.{Groups}

@@ -1,6 +1,6 @@
 -- What the reader of an opening text tells of it: an entry, entries, a line, what is given, and how the passes end.
-use Rattle.std.specs.Prelude.{ℕ, suc, ◌+◌, ◌<◌, ◌≡◌, Bool, true, false, ◌&&◌, ◌||◌, List, [], ◌∷◌, eqb, length, get_or, drop}
-use Rattle.rows.specs.Lists.{if◌then◌else◌, all, any}
+use Rattle.std.specs.Prelude.{ℕ, suc, ◌+◌, ◌<◌, ◌≡◌, Bool, true, false, ◌&&◌, ◌||◌, List, [], ◌∷◌, eqb, length, get_or, drop, if◌then◌else◌}
+use Rattle.rows.specs.Lists.{all, any}
 use Rattle.text.specs.declared.Read.{Read}
 use Rattle.text.specs.declared.Entry.{Entry}
 use Rattle.text.specs.declared.EntryRead.{EntryRead}

@@ -1,6 +1,6 @@
 -- Texts in a reply: the bytes, 0 after them, and their number.
-use Rattle.std.specs.Prelude.{ℕ, ◌≡◌, List, [], ◌∷◌, ◌++◌, map, eqb, length, take, drop}
-use Rattle.rows.specs.Lists.{if◌then◌else◌, pad, nonzero}
+use Rattle.std.specs.Prelude.{ℕ, ◌≡◌, List, [], ◌∷◌, ◌++◌, map, eqb, length, take, drop, if◌then◌else◌}
+use Rattle.rows.specs.Lists.{pad, nonzero}
 use Rattle.calls.specs.Answers.{Value, num, told_value}
 use Rattle.text.specs.declared.Reply.{Reply}
 use Rattle.text.specs.Answers.{spaced, ok_text, no_text}
