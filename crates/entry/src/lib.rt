@@ -1,4 +1,4 @@
-// The two entry points, for any words and any bytes: open and call, and both under the names that C calls.
+// The two entry points, for any words and any bytes: open and call, and both as C calls them (crate entry_c).
 // ---- functions
 
 #![tactic(auto)]

@@ -7,23 +7,23 @@ ghost use Rattle.rows.specs.vocabulary.Sizes.{IsTables};
 ghost use Rattle.page.specs.vocabulary.Columns.{LINE};
 
 use feed::KEPT;
-use libc::STDERR_FILENO;
 use page::LINE;
 use page::lines::write_lines;
 use rows::find::rows_in;
 use rows::layout::{RECORDS, TABLES};
+use std::io::Write;
 use stdio::sessions::{run, write_out};
 use stdio::{End, PART};
 
 // Writes the page, as many lines at once as `out` has room for: a page may be longer.
-fn print_page(tables: &[u32], out: &mut [u8]) -> End
+fn print_page<W: Write>(writer: &mut W, tables: &[u32], out: &mut [u8]) -> End
     requires { IsTables tables.now × (LINE ≤ length out.old) }
 {
     let rows = rows_in(tables);
     let mut from = 0;
     while from < rows {
         let n = write_lines(tables, from, out);
-        if !write_out(out, n) {
+        if !write_out(writer, out, n) {
             return End::NotWritten;
         }
         from += n / LINE;
@@ -32,23 +32,26 @@ fn print_page(tables: &[u32], out: &mut [u8]) -> End
 }
 
 // The page of a session that was read to its end.
-fn page_after(end: End, tables: &[u32], out: &mut [u8]) -> End
+fn page_after<W: Write>(end: End, writer: &mut W, tables: &[u32], out: &mut [u8]) -> End
     requires { IsTables tables.now × (LINE ≤ length out.old) }
 {
     match end {
-        End::Good => print_page(tables, out),
+        End::Good => print_page(writer, tables, out),
         End::NotRead => End::NotRead,
         End::NotWritten => End::NotWritten,
     }
 }
 
-fn main() {
+fn main(rt: HostRuntime) {
     let mut tables = [0u32; TABLES];
     let mut processes = [0u32; RECORDS];
     let mut kept = [0u8; KEPT];
     let mut part = [0u8; PART];
     let mut out = [0u8; PART];
+    let mut writer = rt.stdout();
     let read = run(
+        &mut rt.stdin(),
+        &mut writer,
         &mut tables,
         &mut processes,
         &mut kept,
@@ -56,14 +59,18 @@ fn main() {
         &mut out,
         false,
     );
-    let end = page_after(read, &tables, &mut out);
+    let end = page_after(read, &mut writer, &tables, &mut out);
     match end {
         End::Good => {}
         End::NotRead => {
-            io::write_all(STDERR_FILENO, b"holders: the input cannot be read\n");
+            let _ = rt
+                .stderr()
+                .write_all(b"holders: the input cannot be read\n");
         }
         End::NotWritten => {
-            io::write_all(STDERR_FILENO, b"holders: the output cannot be written\n");
+            let _ = rt
+                .stderr()
+                .write_all(b"holders: the output cannot be written\n");
         }
     }
 }

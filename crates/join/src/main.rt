@@ -4,7 +4,7 @@
 
 use crate::texts::join;
 use joining::{DIRECTORY, Joining};
-use libc::STDERR_FILENO;
+use std::io::Write;
 use stdio::{End, PART};
 use text::kept_lines::KEPT_LINE;
 
@@ -23,20 +23,30 @@ mod texts;
 // bytes printed at most before they are written: less than the longest joined text
 const LINES: usize = 4096;
 
-fn main() {
+fn main(rt: HostRuntime) {
     let mut first = [0u32; DIRECTORY];
     let mut second = [0u32; DIRECTORY];
     let mut line = [0u8; KEPT_LINE];
     let mut part = [0u8; PART];
     let mut out = [0u8; LINES];
-    let end = join(&mut first, &mut second, &mut line, &mut part, &mut out);
+    let end = join(
+        &mut rt.stdin(),
+        &mut rt.stdout(),
+        &mut first,
+        &mut second,
+        &mut line,
+        &mut part,
+        &mut out,
+    );
     match end {
         End::Good => {}
         End::NotRead => {
-            io::write_all(STDERR_FILENO, b"join: the input cannot be read\n");
+            let _ = rt.stderr().write_all(b"join: the input cannot be read\n");
         }
         End::NotWritten => {
-            io::write_all(STDERR_FILENO, b"join: the output cannot be written\n");
+            let _ = rt
+                .stderr()
+                .write_all(b"join: the output cannot be written\n");
         }
     }
 }

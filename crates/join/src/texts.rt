@@ -1,5 +1,5 @@
-// Two opening texts from standard input, and the joined text to standard output; what is kept of the input and what is
-// joined is decided in the crate joining.
+// Two opening texts from a reader, and the joined text to a writer; what is kept of the input and what is joined is
+// decided in the crate joining.
 ghost use Rattle.std.specs.Prelude.{◌≡◌, ◌≤◌, length};
 ghost use Rattle.text.specs.vocabulary.Sizes.{REPLY, KEPT-LINE};
 ghost use Rattle.joining.specs.vocabulary.Directories.{DIRECTORY};
@@ -8,12 +8,13 @@ ghost use Rattle.joining.specs.vocabulary.Reading.{Ready, ReadyTexts};
 use crate::Turn;
 use joining::answers::write_answer;
 use joining::{Joining, SLOTS, feeding};
-use libc::STDIN_FILENO;
+use std::io::{Read, Write};
 use stdio::End;
 use stdio::sessions::write_out;
 
 // Reads once, and feeds what came. At the end of the input nothing more is read.
-fn read_once(
+fn read_once<R: Read>(
+    reader: &mut R,
     first: &mut [u32],
     second: &mut [u32],
     line: &mut [u8],
@@ -24,35 +25,43 @@ fn read_once(
     requires { ReadyTexts j n line.old first.old second.old }
     ensures { ReadyTexts result.joining result.line line.new first.new second.new }
 {
-    let got = libc::read(STDIN_FILENO, part);
-    if got > 0 {
-        let m = io::count(got, part);
-        let fed = feeding::feed(first, second, line, j, n, &part[..m]);
-        let joining = fed.joining;
-        return Turn {
-            joining,
-            line: fed.line,
-            going: feeding::is_going(joining),
-            read: true,
-        };
-    }
+    let read = match reader.read(part) {
+        Ok(0) => true,
+        Ok(m) => {
+            let fed = feeding::feed(first, second, line, j, n, &part[..m]);
+            let joining = fed.joining;
+            return Turn {
+                joining,
+                line: fed.line,
+                going: feeding::is_going(joining),
+                read: true,
+            };
+        }
+        Err(_) => false,
+    };
     Turn {
         joining: j,
         line: n,
         going: false,
-        read: got == 0,
+        read,
     }
 }
 
 // Prints the answer, as many lines at once as `out` has room for: the joined text may be longer.
-fn print_answer(first: &[u32], second: &[u32], j: Joining, out: &mut [u8]) -> End
+fn print_answer<W: Write>(
+    writer: &mut W,
+    first: &[u32],
+    second: &[u32],
+    j: Joining,
+    out: &mut [u8],
+) -> End
     requires { Ready j first.now second.now × (REPLY ≤ length out.old) }
 {
     let v = feeding::finish(first, second, j);
     let mut from = 0;
     while from < SLOTS {
         let written = write_answer(first, second, v, from, out);
-        if !write_out(out, written.printed) {
+        if !write_out(writer, out, written.printed) {
             return End::NotWritten;
         }
         from = written.next;
@@ -61,7 +70,9 @@ fn print_answer(first: &[u32], second: &[u32], j: Joining, out: &mut [u8]) -> En
 }
 
 // Reads two texts, turn after turn from a number of them that no input uses up, and prints them joined.
-pub fn join(
+pub fn join<R: Read, W: Write>(
+    reader: &mut R,
+    writer: &mut W,
     first: &mut [u32],
     second: &mut [u32],
     line: &mut [u8],
@@ -77,7 +88,7 @@ pub fn join(
     let mut read = true;
     let mut turns = u64::MAX;
     while going && turns > 0 {
-        let next = read_once(first, second, line, here, kept, part);
+        let next = read_once(reader, first, second, line, here, kept, part);
         here = next.joining;
         kept = next.line;
         going = next.going;
@@ -87,5 +98,5 @@ pub fn join(
     if !read {
         return End::NotRead;
     }
-    print_answer(first, second, here, out)
+    print_answer(writer, first, second, here, out)
 }

@@ -1,4 +1,4 @@
-// What the programs share: a session read from standard input in parts, its answers printed or not.
+// What the programs share: a session read from an input in parts, its answers printed to an output or not.
 
 #![tactic(auto)]
 

@@ -1,5 +1,5 @@
-// A session from standard input: it reads and writes; what is kept of the input, what is answered and when is decided in
-// the crate feed.
+// A session from a reader to a writer, the standard input and output of the programs: what is kept of the input, what is
+// answered and when is decided in the crate feed.
 ghost use Rattle.std.specs.Prelude.{◌≡◌, ◌≤◌, true, length};
 ghost use Rattle.rows.specs.vocabulary.Sizes.{IsTables, IsRecords};
 ghost use Rattle.text.specs.vocabulary.Sizes.{REPLY};
@@ -7,22 +7,22 @@ ghost use Rattle.feed.specs.vocabulary.Buffers.{KEPT, Stands, Ready};
 
 use crate::{End, Turn};
 use feed::{Kept, Stage, sessions};
-use libc::{STDIN_FILENO, STDOUT_FILENO};
+use std::io::{Read, Write};
 
 // ---- writing
-// Writes n bytes to standard output; whether it could.
-pub fn write_out(out: &[u8], n: usize) -> bool
+// Writes n bytes to the output; whether it could.
+pub fn write_out<W: Write>(writer: &mut W, out: &[u8], n: usize) -> bool
     requires { n ≤ length out.now }
 {
-    io::write_all(STDOUT_FILENO, &out[0..n])
+    writer.write_all(&out[0..n]).is_ok()
 }
 
 // The same, if answers are printed.
-fn print(prints: bool, out: &[u8], n: usize) -> bool
+fn print<W: Write>(writer: &mut W, prints: bool, out: &[u8], n: usize) -> bool
     requires { n ≤ length out.now }
 {
     if prints {
-        return write_out(out, n);
+        return write_out(writer, out, n);
     }
     true
 }
@@ -47,7 +47,8 @@ fn goes_on(k: Kept) -> bool {
 }
 
 // Feeds a part, and writes what is printed before it returns.
-fn answer_part(
+fn answer_part<W: Write>(
+    writer: &mut W,
     tables: &mut [u32],
     processes: &mut [u32],
     kept: &mut [u8],
@@ -65,7 +66,7 @@ fn answer_part(
     let mut written = true;
     while written && at < part.len() {
         let fed = sessions::feed(tables, processes, kept, here, part, at, out);
-        written = print(prints, out, fed.printed);
+        written = print(writer, prints, out, fed.printed);
         here = fed.kept;
         at = fed.next;
     }
@@ -79,7 +80,8 @@ fn answer_part(
 }
 
 // Writes what is printed at the end of the input.
-fn answer_end(
+fn answer_end<W: Write>(
+    writer: &mut W,
     tables: &mut [u32],
     processes: &mut [u32],
     kept: &[u8],
@@ -90,11 +92,13 @@ fn answer_end(
     requires { Stands k kept.now × (REPLY ≤ length out.old) }
 {
     let n = sessions::finish(tables, processes, kept, k, out);
-    end_of(print(prints, out, n))
+    end_of(print(writer, prints, out, n))
 }
 
 // Reads once, and answers what came: a part, or the end of the input.
-fn read_once(
+fn read_once<R: Read, W: Write>(
+    reader: &mut R,
+    writer: &mut W,
     tables: &mut [u32],
     processes: &mut [u32],
     kept: &mut [u8],
@@ -108,15 +112,13 @@ fn read_once(
     ensures { result.going ≡ true →
         Ready result.kept kept.new tables.new processes.new }
 {
-    let got = libc::read(STDIN_FILENO, part);
-    if got > 0 {
-        let n = io::count(got, part);
-        return answer_part(tables, processes, kept, k, &part[..n], out, prints);
-    }
-    let mut end = End::NotRead;
-    if got == 0 {
-        end = answer_end(tables, processes, kept, k, out, prints);
-    }
+    let end = match reader.read(part) {
+        Ok(0) => answer_end(writer, tables, processes, kept, k, out, prints),
+        Ok(n) => {
+            return answer_part(writer, tables, processes, kept, k, &part[..n], out, prints);
+        }
+        Err(_) => End::NotRead,
+    };
     Turn {
         kept: k,
         going: false,
@@ -127,7 +129,9 @@ fn read_once(
 // ---- the session
 // Turn after turn, from a number of them that no input uses up: a proved loop has to end, and nothing says that the
 // input does.
-pub fn run(
+pub fn run<R: Read, W: Write>(
+    reader: &mut R,
+    writer: &mut W,
     tables: &mut [u32],
     processes: &mut [u32],
     kept: &mut [u8],
@@ -143,7 +147,9 @@ pub fn run(
     let mut going = true;
     let mut turns = u64::MAX;
     while going && turns > 0 {
-        let next = read_once(tables, processes, kept, here, part, out, prints);
+        let next = read_once(
+            reader, writer, tables, processes, kept, here, part, out, prints,
+        );
         here = next.kept;
         going = next.going;
         end = next.end;

@@ -3,18 +3,20 @@
 #![tactic(auto)]
 
 use feed::KEPT;
-use libc::STDERR_FILENO;
 use rows::layout::{RECORDS, TABLES};
+use std::io::Write;
 use stdio::sessions::run;
 use stdio::{End, PART};
 
-fn main() {
+fn main(rt: HostRuntime) {
     let mut tables = [0u32; TABLES];
     let mut processes = [0u32; RECORDS];
     let mut kept = [0u8; KEPT];
     let mut part = [0u8; PART];
     let mut out = [0u8; PART];
     let end = run(
+        &mut rt.stdin(),
+        &mut rt.stdout(),
         &mut tables,
         &mut processes,
         &mut kept,
@@ -25,10 +27,12 @@ fn main() {
     match end {
         End::Good => {}
         End::NotRead => {
-            io::write_all(STDERR_FILENO, b"tablet: the input cannot be read\n");
+            let _ = rt.stderr().write_all(b"tablet: the input cannot be read\n");
         }
         End::NotWritten => {
-            io::write_all(STDERR_FILENO, b"tablet: the output cannot be written\n");
+            let _ = rt
+                .stderr()
+                .write_all(b"tablet: the output cannot be written\n");
         }
     }
 }

@@ -1,0 +1,11 @@
+-- After each turn the texts are read so far.
+use Rattle.std.proofs.Common.{◌≤◌, length}
+use Rattle.text.specs.vocabulary.Sizes.{REPLY}
+use Rattle.joining.specs.vocabulary.Reading.{ReadyTexts}
+use Rattle.join.proofs.texts.join.Given as goal
+
+abbrev pub invariant-loop-going : goal.invariant-loop-going
+invariant-loop-going g l = ReadyTexts l.here l.kept l.line l.first l.second × (REPLY ≤ length l.out)
+
+abbrev pub decreases-loop-going : goal.decreases-loop-going
+decreases-loop-going g l = l.turns
