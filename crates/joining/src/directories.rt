@@ -1,4 +1,4 @@
-// A directory: the forms of a text in words, an entry in one of them (specs/contracts/Directories.antt).
+// A directory: the forms of a text in words, an entry in one of them (specs/vocabulary/Directories.antt).
 ghost use Rattle.std.specs.Prelude.{◌≡◌, List, map, ◌≤◌};
 ghost use Rattle.text.specs.Opening.{Form, prime_of};
 ghost use Rattle.text.specs.vocabulary.Sizes.{NODES};

@@ -120,7 +120,7 @@ pub fn state(tables: &Tables) -> Option<String> {
     let records = tables.processes[..used].iter();
     let records = records.map(|p| made("process", &record_fields(p)) + " ∷ ");
     Some(format!(
-        "(state ({rows}[]) ({requests}[]) ({}replicate {} noProcess) {})",
+        "(state ({rows}[]) ({requests}[]) ({}replicate {} no_process) {})",
         records.collect::<String>(),
         PROCESSES as usize - used,
         tables.next

@@ -29,7 +29,7 @@ fn bit_name(at: usize, bit: u32) -> String {
 fn bits(text: &str, from: usize) -> Vec<Case> {
     let positions = (0..BYTES).flat_map(|at| (0..BITS).map(move |bit| (at, bit)));
     let each = positions.map(|(at, bit)| {
-        let bit_of = format!("bitOf {} {} ({text})", from + at, 1 << bit);
+        let bit_of = format!("bit_of {} {} ({text})", from + at, 1 << bit);
         claim(bit_name(at, bit), bit_of)
     });
     each.collect()
@@ -55,12 +55,12 @@ pub fn of_texts(texts: &[u8]) -> Vec<Case> {
 pub fn of_call(tables: &Tables, line: &[u8]) -> Option<Vec<Case>> {
     let state = state(tables)?;
     let line_text = bytes(line);
-    let mut cases = bits(&format!("answerTo {state} {line_text}"), 0);
+    let mut cases = bits(&format!("answer_to {state} {line_text}"), 0);
     let mut after = tables.clone();
     call(&mut after, line);
-    let tells = ["tellNext", "tellRows", "tellRequests", "tellProcesses"];
+    let tells = ["tell_next", "tell_rows", "tell_requests", "tell_processes"];
     for (tell, numbers) in tells.iter().zip(state_numbers(&after)?) {
-        let told = format!("{tell} (stateAfter {state} {line_text})");
+        let told = format!("{tell} (state_after {state} {line_text})");
         cases.push(claim(format!("part-{tell}"), same(&told, &list(numbers))));
     }
     Some(cases)

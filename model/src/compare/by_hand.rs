@@ -98,7 +98,7 @@ fn clauses_told(case: &cases::Case) -> Option<String> {
         true => state(&lent.tables)?,
         false => {
             let (tables, records) = lent.words()?;
-            format!("(stateOf {} {})", runs(&tables), runs(&records))
+            format!("(state_of {} {})", runs(&tables), runs(&records))
         }
     };
     Some(clauses_alone(&state, &case.breaks))
@@ -158,7 +158,7 @@ fn answers(case: &cases::Case) -> String {
 
 fn of_session(case: &cases::Case) -> Option<String> {
     let after = state_numbers(&after(case, Tables::empty())?)?.concat();
-    let said = format!("sessionThen {}", bytes(&case.session().0));
+    let said = format!("session_then {}", bytes(&case.session().0));
     Some(same(
         &said,
         &format!("{} ++ {}", answers(case), list(after)),
@@ -167,7 +167,7 @@ fn of_session(case: &cases::Case) -> Option<String> {
 
 fn of_calls(case: &cases::Case, tables: &Tables) -> Option<String> {
     let after = state_numbers(&after(case, tables.clone())?)?.concat();
-    let said = format!("calledAll {} {}", state(tables)?, lines(case));
+    let said = format!("called_all {} {}", state(tables)?, lines(case));
     Some(same(
         &said,
         &format!("{} ++ {}", answers(case), list(after)),
@@ -183,8 +183,8 @@ fn of_words(case: &cases::Case, lent: &Lent) -> Option<String> {
     };
     let lent = format!("{} {}", runs(&before), runs(&records));
     let said = match case.steps.first()? {
-        Step::Open { text, .. } => format!("openedThen {lent} {} {}", bytes(text), lines(case)),
-        Step::Call { .. } => format!("wordsThen {lent} {}", lines(case)),
+        Step::Open { text, .. } => format!("opened_then {lent} {} {}", bytes(text), lines(case)),
+        Step::Call { .. } => format!("words_then {lent} {}", lines(case)),
     };
     let expected = format!(
         "{} ++ {}",

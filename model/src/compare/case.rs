@@ -20,7 +20,7 @@ impl Case {
     /// The theorem with its proof: it computes to true.
     pub fn theorem(&self) -> String {
         let Case { name, claim, .. } = self;
-        let of_joining = ["join ", "printedOn "].iter().any(|f| claim.contains(f));
+        let of_joining = ["join ", "printed_on "].iter().any(|f| claim.contains(f));
         let joining = if of_joining { JOINING } else { "" };
         format!("pub {name} : T ({claim})\n{UNFOLDING}{joining}\n{name} = tt\n\n")
     }
@@ -28,11 +28,11 @@ impl Case {
 
 /// Everything is unfolded, so that the claim computes; joining only where the claim is about it, which
 /// saves time.
-const UNFOLDING: &str = "unfolding Rattle·rows.specs.Computes.computes \
-Rattle·closing.specs.Computes.computes Rattle·calls.specs.Computes.computes \
-Rattle·text.specs.Computes.computes Rattle·page.specs.Computes.computes Rattle·history.specs.Computes.computes \
-Rattle·compare·specs.specs.Help.helps";
-const JOINING: &str = " Rattle·joining.specs.Computes.computes";
+const UNFOLDING: &str = "unfolding Rattle.rows.specs.Computes.computes \
+Rattle.closing.specs.Computes.computes Rattle.calls.specs.Computes.computes \
+Rattle.text.specs.Computes.computes Rattle.page.specs.Computes.computes Rattle.history.specs.Computes.computes \
+Rattle.compare.specs.Help.helps";
+const JOINING: &str = " Rattle.joining.specs.Computes.computes";
 
 /// The name of the case of a sort with a number, from 1.
 pub fn name(sort: &str, at: usize) -> String {
@@ -41,5 +41,5 @@ pub fn name(sort: &str, at: usize) -> String {
 
 /// The claim that two lists are the same.
 pub fn same(left: &str, right: &str) -> String {
-    format!("sameList ({left}) ({right})")
+    format!("same_list ({left}) ({right})")
 }

@@ -27,7 +27,7 @@ pub fn full() -> Vec<Case> {
 /// left to the model here.
 fn without_sound(case: Case) -> Case {
     Case {
-        claim: case.claim.replacen("called ", "calledSound ", 1),
+        claim: case.claim.replacen("called ", "called_sound ", 1),
         ..case
     }
 }

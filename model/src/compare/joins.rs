@@ -16,7 +16,7 @@ fn of_texts(texts: &[u8], printed: &[u8]) -> String {
 fn of_parts(parts: &[&[u8]], printed: &[u8]) -> String {
     let each = parts.iter().map(|part| bytes(part) + " ∷ ");
     let parts = format!("({}[])", each.collect::<String>());
-    same(&format!("printedOn {parts}"), &bytes(printed))
+    same(&format!("printed_on {parts}"), &bytes(printed))
 }
 
 fn made(name: String, about: String, claim: String, texts: Vec<u8>, joined: &[u8]) -> Case {

@@ -20,7 +20,7 @@ pub fn lent(rng: &mut Rng, count: usize) -> Vec<Case> {
                 "sound tables, the model says that {} rows are lent",
                 lent.len()
             ),
-            claim: same(&format!("tellLent {state}"), &list(lent.into_iter().rev())),
+            claim: same(&format!("tell_lent {state}"), &list(lent.into_iter().rev())),
             files: vec![("tables", tables.print().into_bytes())],
         });
     }

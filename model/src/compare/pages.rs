@@ -13,24 +13,24 @@ use crate::words::PROCESS_WORDS;
 
 /// The definitions' page at the end of this session is this one.
 pub fn of_session(input: &[u8], page: &[u8]) -> String {
-    same(&format!("sessionPage {}", bytes(input)), &bytes(page))
+    same(&format!("session_page {}", bytes(input)), &bytes(page))
 }
 
 /// Their page of these tables is this one; none where the tables are no state of the definitions.
 pub fn of_tables(tables: &Tables, page: &[u8]) -> Option<String> {
-    let said = format!("statePage {}", state(tables)?);
+    let said = format!("state_page {}", state(tables)?);
     Some(same(&said, &bytes(page)))
 }
 
 /// Their page of these words is this one, and so are the lines from each of the first slots on.
 pub fn of_words(tables: &[u32], records: &[u32], page: &[u8]) -> String {
-    let said = format!("wordsPage {} {}", runs(tables), runs(records));
+    let said = format!("words_page {} {}", runs(tables), runs(records));
     let later = (0..SLOTS).flat_map(|from| lines_from(tables, from, usize::MAX));
     let expected: Vec<u8> = page.iter().copied().chain(later).collect();
     same(&said, &bytes(&expected))
 }
 
-/// As `wordsPage` of help.txt has them.
+/// As `words_page` of help.txt has them.
 const SLOTS: usize = 3;
 
 /// Of a random session the calls; of one of conformance/ the most bytes; of words the most rows.

@@ -49,7 +49,7 @@ fn of_session(case: &cases::Case, rows: usize) -> Vec<Case> {
         let (Some(before), Some(after), true) = (before, state_numbers(&tables), few) else {
             continue;
         };
-        let said = format!("callsThen {before} ({lines}[])");
+        let said = format!("calls_then {before} ({lines}[])");
         found.push(Case {
             name: String::new(),
             about: format!("{}, calls from {}", case.at, at * CALLS + 1),

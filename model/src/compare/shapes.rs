@@ -16,16 +16,16 @@ fn with_port(client: u64, requests: &str, next: u64) -> String {
         "row {server} 4 {client} 0 0 101 1 0 2 0 ∷ row {client} 3 {client} 0 0 101 1 0 2 0"
     );
     let operation = "row 1 1 1 0 7 1 0 0 1 0";
-    let records = "process 1 1 0 ∷ replicate 63 noProcess";
+    let records = "process 1 1 0 ∷ replicate 63 no_process";
     format!("(state ({ends} ∷ {operation} ∷ []) ({requests}) ({records}) {next})")
 }
 
 fn with_list(items: &str) -> String {
-    with_port(3, &format!("requestWith 5 3 1 0 ({items}) ∷ []"), 6)
+    with_port(3, &format!("request_with 5 3 1 0 ({items}) ∷ []"), 6)
 }
 
 fn with_records(count: u32) -> String {
-    format!("(state [] [] (replicate {count} noProcess) 1)")
+    format!("(state [] [] (replicate {count} no_process) 1)")
 }
 
 pub fn shapes() -> Vec<Case> {

@@ -18,8 +18,8 @@ type Lent = (Vec<u32>, Vec<u32>);
 /// One of the two entry points of the model.
 type Entry = fn(&mut [u32], &mut [u32], &[u8]) -> Vec<u8>;
 
-const CALL: (&str, Entry) = ("calledWords", call_entry);
-const OPEN: (&str, Entry) = ("openedWords", open_entry);
+const CALL: (&str, Entry) = ("called_words", call_entry);
+const OPEN: (&str, Entry) = ("opened_words", open_entry);
 
 /// The definitions reply, and leave the words, as the model does.
 fn case(name: String, about: String, entry: (&str, Entry), lent: Lent, text: &[u8]) -> Case {

@@ -11,19 +11,15 @@ const HELP: &str = include_str!("help.txt");
 
 /// What every module of cases uses.
 const HEAD: &str = "-- Cases that the model wrote.
-use Prim.Native.Nat.{ℕ}
-use mathlib.Core.Bool.{Bool, true, false, not, _&&_}
-use mathlib.Core.List.{List, [], _∷_, _++_}
-use lib.Dec.{T}
-use lib.ListN.{replicate}
-use Rattle·rows.specs.Lists.{sameList, bytes}
-use Rattle·rows.specs.Tables.{noProcess}
-use Rattle·rows.specs.Sound.{sound}
-use Rattle·rows.specs.Layout.{stateOf}
-use Rattle·text.specs.Session.{session}
-use Rattle·joining.specs.Written.{join}
-use Rattle·joining.specs.Feeding.{printedOn}
-use Rattle·compare·specs.specs.Help.{row, request, requestWith, process, state, tellNext, tellRows, tellRequests, tellProcesses, tellLent, clauses, answerTo, stateAfter, calledSound, called, calledAll, callsThen, sessionThen, calledWords, openedWords, wordsThen, openedThen, sessionPage, statePage, wordsPage, told, bitOf}
+use Rattle.std.specs.Prelude.{ℕ, Bool, true, false, not, ◌&&◌, List, [], ◌∷◌, ◌++◌, replicate, T}
+use Rattle.rows.specs.Lists.{same_list, bytes}
+use Rattle.rows.specs.Tables.{no_process}
+use Rattle.rows.specs.Sound.{sound}
+use Rattle.rows.specs.Layout.{state_of}
+use Rattle.text.specs.Session.{session}
+use Rattle.joining.specs.Written.{join}
+use Rattle.joining.specs.Feeding.{printed_on}
+use Rattle.compare.specs.Help.{row, request, request_with, process, state, tell_next, tell_rows, tell_requests, tell_processes, tell_lent, clauses, answer_to, state_after, called_sound, called, called_all, calls_then, session_then, called_words, opened_words, words_then, opened_then, session_page, state_page, words_page, told, bit_of}
 
 ";
 
