@@ -5,7 +5,7 @@ use mathlib.Core.Path.{◌≡◌, refl, sym, ap, ◌∙◌}
 use native.Mathlib.Nat.{not-suc-le-zero, le_of_suc-le-suc}
 use native.Mathlib.Omega.{arith}
 use lib.ListN.{length, get_or, set, drop, length-append}
-use Rattle.rows.specs.Tables.{row_of, numbers, first_chain}
+use Rattle.rows.specs.Tables.{row_of, first_chain}
 use Rattle.rows.specs.vocabulary.Sizes.{ROWS, SOURCE}
 use Rattle.rows.proofs.Slots.{represented-well, row-found, row-words, source-of}
 use Rattle.tables.proofs.Sound.{sound-open}

@@ -1,0 +1,10 @@
+-- The bits of the pairs looked at are right, and no other is set.
+use Prim.Native.Nat.{◌≤◌, ◌-◌}
+use Rattle.questions.proofs.PairMarks.{AskedTo}
+use Rattle.questions.proofs.pairs.asking.Given as goal
+
+abbrev pub invariant-loop-k : goal.invariant-loop-k
+invariant-loop-k l = (l.k ≤ 16) × AskedTo l.requests l.q l.k l.bits
+
+abbrev pub decreases-loop-k : goal.decreases-loop-k
+decreases-loop-k l = 16 - l.k
