@@ -27,7 +27,5 @@ pub mod MarksRows
 pub mod MarksRequests
 -- process records that go home: one, and the loop over a run of them
 pub mod HomesAll
--- what the functions of homes.rt are lent, for their walks
-pub mod HomesLent
 -- the parts of a closing joined
 pub mod CloseParts
