@@ -1,0 +1,49 @@
+-- `directories::register`: no such row, or what the row gives.
+use native.Mathlib.Omega.{arith}
+use mathlib.Core.Path.{ap, sym}
+use Rattle.rows.specs.declared.Process.{Process}
+use Rattle.rows.specs.Codes.{in_clist}
+use Rattle.rows.specs.Layout.{records_in}
+use Rattle.rows.proofs.Slots.{at-below}
+use Rattle.calls.specs.declared.Call.TheVariants.{Register}
+use Rattle.calls.specs.Calls.{refusals}
+use Rattle.calls.proofs.LookedUp.{found_in}
+use Rattle.calls.proofs.Added.{at-process}
+use Rattle.calls.proofs.Judging.{not-in-clist, refused-agrees, records-stay}
+use Rattle.calls.proofs.Refusing.{not-held, register-seven}
+use Rattle.calls.proofs.Effected.{register-records}
+use Rattle.calls.proofs.directories.register.Goals as goal
+
+pub returns-in_default : goal.returns-in_default
+unfolding refusals
+returns-in_default c =
+    let found = c.held_by in
+    let pre = c.requires in
+    let a = c.args in record {
+      performs = (λ st sd rep same listed.
+          let away = not-in-clist st a.p a.e found.result (found.ensures.found st (rep, c.count_rows-n.ensures.counted st rep) pre.2.1) c.in_default.is in
+          refused-agrees st (Register a.p a.e) rep same 7 (register-seven st a.p a.e (not-held st a.p a.e away)) (λ z. absurd (omega arith)));
+      long = pre.0;
+    }
+
+pub register_row-requires : goal.register_row-requires
+register_row-requires c =
+    let found = c.held_by in
+    let count = c.count_rows-n in
+    (c.requires.0, count.ensures.within, at-below count.result found.result c.in-At.i found.ensures.within c.in-At.is)
+
+pub returns : goal.returns
+returns c =
+    let row = c.register_row in
+    let found = c.held_by in
+    let count = c.count_rows-n in
+    let read = c.record_at-x in
+    let pre = c.requires in
+    let a = c.args in record {
+      performs = (λ st sd rep same listed.
+          let counted = count.ensures.counted st rep in
+          let (at, here) = found_in st (in_clist a.p) a.e found.result c.in-At.i (found.ensures.found st (rep, counted) pre.2.1) c.in-At.is in
+          let node = ap (λ (x : Process). x.active) (sym (at-process st (records_in a.ps.now) same a.p pre.2.0 read.result read.ensures)) in
+          records-stay st (Register a.p a.e) same (register-records st a.p a.e) row.result (row.ensures.answers st a.p a.e sd (rep, counted) (at, here) node));
+      long = row.ensures.long;
+    }

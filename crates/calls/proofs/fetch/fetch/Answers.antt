@@ -1,0 +1,42 @@
+-- `fetch::fetch`: no such row, or what the end gives.
+use native.Mathlib.Omega.{arith}
+use Rattle.rows.specs.Codes.{in_clist}
+use Rattle.rows.proofs.Slots.{at-below}
+use Rattle.calls.proofs.LookedUp.{found_in}
+use Rattle.calls.proofs.Refusing.{not-held, seven}
+use Rattle.calls.specs.Rules.{not_held}
+use Rattle.calls.specs.declared.Call.TheVariants.{Fetch}
+use Rattle.calls.specs.Calls.{refusals, refusals_fetch}
+use Rattle.calls.proofs.Judging.{not-in-clist, refused-agrees, records-stay}
+use Rattle.calls.proofs.Effected.{fetch-records}
+use Rattle.calls.proofs.fetch.fetch.Goals as goal
+
+pub returns-in_default : goal.returns-in_default
+unfolding refusals refusals_fetch
+returns-in_default c =
+    let found = c.held_by in
+    let a = c.args in record {
+      performs = (λ ps st sd rep same listed.
+          let away = not-in-clist st a.p a.e found.result (found.ensures.found st (rep, c.count_rows-n.ensures.counted st rep) c.requires.1.1) c.in_default.is in
+          refused-agrees st (Fetch a.p a.e) rep same 7 (seven (not_held st a.p a.e) _ (not-held st a.p a.e away)) (λ z. absurd (omega arith)));
+      long = c.requires.0;
+    }
+
+pub fetch_end-requires : goal.fetch_end-requires
+fetch_end-requires c =
+    let found = c.held_by in
+    let count = c.count_rows-n in
+    (c.requires.0, count.ensures.within, at-below count.result found.result c.in-At.i found.ensures.within c.in-At.is)
+
+pub returns : goal.returns
+returns c =
+    let end = c.fetch_end in
+    let found = c.held_by in
+    let count = c.count_rows-n in
+    let a = c.args in record {
+      performs = (λ ps st sd rep same listed.
+          let counted = count.ensures.counted st rep in
+          let here = found_in st (in_clist a.p) a.e found.result c.in-At.i (found.ensures.found st (rep, counted) c.requires.1.1) c.in-At.is in
+          records-stay st (Fetch a.p a.e) same (fetch-records st a.p a.e) end.result (end.ensures.answers st a.e sd (rep, counted) here c.requires.1.1));
+      long = end.ensures.long;
+    }
