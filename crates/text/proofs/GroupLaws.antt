@@ -14,7 +14,7 @@ use Rattle.rows.proofs.LayoutColumns.{length-pad, get_d-pad}
 use Rattle.rows.specs.Lists.{all, member, distinct, pad}
 use Rattle.calls.specs.Calls.{four_from, sixteen_from}
 use Rattle.text.specs.CallLines.{Group, group_of, item_ranged, item_of, pair_ranged, Gathered, packed, no_item, gathered, add_group}
-use Rattle.text.specs.Patterns.{counted, form}
+use Rattle.text.specs.Patterns.{form}
 use Rattle.text.specs.vocabulary.Groups.{groups_of, groups_from, seen_with}
 use Rattle.text.specs.vocabulary.Sizes.{GROUPS}
 use Rattle.text.specs.declared.Groups.{Groups}

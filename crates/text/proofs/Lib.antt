@@ -53,5 +53,3 @@ pub mod WrittenLaws
 pub mod SecondPass
 -- the forms written, then the lines left; the verdict
 pub mod WrittenForms
--- for the walks of the functions that read a line through a reader
-pub mod LineReader

@@ -11,11 +11,8 @@ use lib.Seq.{drop-drop, drop-cons, append_snoc, get_or-set_same, get_or-set_othe
 use borrow.Author.Tests.{eq-eqb, ne_eqb, eqb-true}
 use Rattle.rows.proofs.Bools.{clash}
 use Rattle.rows.specs.Lists.{all, any}
-use Rattle.rows.specs.Sound.{same}
 use Rattle.rows.proofs.Lists.{same-everywhere}
-use Rattle.text.specs.CallLines.{ranged}
 use Rattle.text.specs.Opening.{lines_of, with_byte, Entries, entries_from, add_entry, entry_ranged, Form, node_form, gives_node, gives_process, process_form}
-use Rattle.text.specs.Patterns.{counted}
 use Rattle.text.specs.vocabulary.Openings.{first_line, entries_read, entry_read, Gives}
 use Rattle.text.specs.vocabulary.Sizes.{NODES}
 use Rattle.rows.specs.vocabulary.Sizes.{PROCESSES}

@@ -11,7 +11,7 @@ use borrow.Author.Tests.{eqb-true, eq-eqb, lt-ltb}
 use Rattle.rows.specs.declared.Row.{Row}
 use Rattle.rows.specs.Lists.{any, all, each, top_of, rises, between}
 use Rattle.rows.specs.Limits.{processes, nodes, greatest_operation, all_rights}
-use Rattle.rows.specs.Codes.{operation, is_operation, is_subdirectory, is_end, is_copied}
+use Rattle.rows.specs.Codes.{is_operation, is_subdirectory, is_end, is_copied}
 use Rattle.rows.specs.Tables.{empty}
 use Rattle.rows.proofs.Bools.{and_l, and_r, and_i, or_l, or_r, all-and}
 use Rattle.rows.proofs.Places.{copied-no-end}

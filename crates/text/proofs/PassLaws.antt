@@ -9,9 +9,7 @@ use lib.Dec.{eqb}
 use lib.ListN.{drop, length, take, drop_of_length-le}
 use borrow.Author.Tests.{eq-eqb, ne_eqb, eqb-true, eqb-false}
 use Rattle.rows.proofs.Bools.{clash}
-use Rattle.rows.specs.Sound.{same}
 use Rattle.text.specs.Opening.{Form, Line, FirstPass, last_line, read_to, form_line, form_refusal, first_pass, stopped_by, bad_line, line_of, node_form, process_form, lines_of}
-use Rattle.text.specs.Patterns.{whole}
 use Rattle.text.specs.vocabulary.Openings.{line_read, NodeTold, FormSteps, Steps, Gives, gone-on, stopped, first_line, Ends}
 use Rattle.text.specs.declared.Entry.{Entry}
 use Rattle.text.specs.declared.Given.{Given}

@@ -1,0 +1,12 @@
+-- `opening_lines::skip_in_line` meets its contract: the line ends where it ended.
+use Prim.Native.Nat.{◌≤◌, ◌-◌}
+use mathlib.Core.Path.{◌≡◌}
+use lib.ListN.{length}
+use Rattle.text.specs.vocabulary.Openings.{line_end}
+use Rattle.text.proofs.opening_lines.skip_in_line.Given as goal
+
+abbrev pub invariant-loop-i : goal.invariant-loop-i
+invariant-loop-i l = (l.at ≤ l.i) × (l.i ≤ length l.text) × (line_end l.text l.i ≡ line_end l.text l.at)
+
+abbrev pub decreases-loop-i : goal.decreases-loop-i
+decreases-loop-i l = length l.text - l.i
