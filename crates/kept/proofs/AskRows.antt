@@ -10,7 +10,7 @@ use borrow.Author.Tests.{eqb-true, le-leb}
 use native.Mathlib.Omega.{arith}
 use Rattle.rows.specs.declared.Row.{Row}
 use Rattle.rows.specs.Lists.{all, top_of, member, some}
-use Rattle.rows.specs.Limits.{processes, row_slots}
+use Rattle.rows.specs.Limits.{row_slots}
 use Rattle.rows.specs.Codes.{is_subdirectory, is_end, in_clist, with_system, is_node, is_system}
 use Rattle.rows.specs.Tables.{State, no_row, row_of, numbers, lists}
 use Rattle.rows.specs.Sound.{rows_rise, rows_fit, object_in_range, objects_in_range, right_in_range, rights_in_range, place_in_range, places_in_range, sources_right, depths_right, copies_match, is_paired_with, other_end, end_paired, ends_paired, copy_listed, copies_listed, is_fetched, awaits_fetch, same, system_holds, processes_placed, sourced, has_right_sources, has_right_depth, matches_source}

@@ -1,5 +1,5 @@
 -- Places: only ends are moved by a return, to a listed process; the system holds what awaits a fetch; each process is where it may be.
-use Prim.Native.Nat.{ℕ, ◌-◌}
+use Prim.Native.Nat.{ℕ}
 use mathlib.Core.Bool.{Bool, true, false, not, cond, ◌&&◌, ◌||◌}
 use mathlib.Core.List.{List, [], ◌∷◌, map}
 use mathlib.Core.Path.{◌≡◌, refl, sym, ap, ◌∙◌, subst}
@@ -10,7 +10,6 @@ use Rattle.rows.specs.declared.Row.{Row}
 use Rattle.rows.specs.declared.Request.{Request}
 use Rattle.rows.specs.declared.Process.{Process}
 use Rattle.rows.specs.Lists.{any, all, each, member, some}
-use Rattle.rows.specs.Limits.{processes}
 use Rattle.rows.specs.Codes.{is_end, is_subdirectory, is_node, is_clist, is_system, in_clist, owner_of}
 use Rattle.rows.specs.Tables.{State, no_row, no_request, row_of, request_of, is_listed, lists, numbers}
 use Rattle.rows.specs.Sound.{requests_rise, place_in_range, places_in_range, may_be_listed, is_fetched, older_fetched_by, older_fetched, awaits_fetch, same, system_holds, processes_placed, requesters_listed}

@@ -3,7 +3,7 @@ use Prim.Native.Nat.{ℕ, ◌<◌}
 use mathlib.Core.Bool.{Bool, true, false, not, cond, ◌&&◌, ◌||◌}
 use mathlib.Core.List.{List, map}
 use mathlib.Core.Path.{◌≡◌, refl, sym, ap, ◌∙◌}
-use mathlib.Core.Logic.{◌⊎◌, ⊎_elim}
+use mathlib.Core.Logic.{⊎_elim}
 use lib.Dec.{ltb, eqb}
 use borrow.Author.Tests.{eqb-false}
 use native.Mathlib.Omega.{arith}
@@ -11,7 +11,7 @@ use Rattle.rows.specs.declared.Row.{Row}
 use Rattle.rows.specs.declared.Request.{Request}
 use Rattle.rows.specs.Lists.{member, rises, some}
 use Rattle.rows.specs.Codes.{is_end, in_clist}
-use Rattle.rows.specs.Tables.{State, no_request, row_of, request_of, lists, numbers}
+use Rattle.rows.specs.Tables.{State, no_request, row_of, request_of, lists}
 use Rattle.rows.specs.Sound.{requests_rise, object_in_range, objects_in_range, right_in_range, rights_in_range, sources_right, depths_right, copies_match, is_paired_with, other_end, end_paired, ends_paired, copy_listed, copies_listed, has_right_sources, has_right_depth, matches_source, source_of, via_of, sourced}
 use Rattle.rows.proofs.Bools.{false_of, clash, and_l, and_i, or_l, pos-some, true-or-false}
 use Rattle.rows.proofs.Keyed.{first-none, rises-range, older_of}

@@ -9,7 +9,7 @@ use borrow.Author.Tests.{eqb-true}
 use Rattle.rows.specs.declared.Row.{Row}
 use Rattle.rows.specs.declared.Request.{Request}
 use Rattle.rows.specs.Lists.{any, all, rises, member, distinct, some, nonzero}
-use Rattle.rows.specs.Limits.{processes, most_items}
+use Rattle.rows.specs.Limits.{most_items}
 use Rattle.rows.specs.Codes.{fetched_mark, is_subdirectory, is_end, in_clist, with_system, is_node, is_system}
 use Rattle.rows.specs.Tables.{State, no_row, no_request, row_of, request_of, open_on, is_listed, numbers, lists}
 use Rattle.rows.specs.Sound.{rows_rise, requests_rise, numbers_apart, below_next, next_in_range, rows_fit, requests_fit, records_fit, objects_in_range, rights_in_range, place_in_range, places_in_range, mark_in_range, fetched_in_range, sources_right, depths_right, copies_match, records_in_range, end_paired, ends_paired, port_stands, ports_stand, requesters_listed, items_few, items_apart, items_lent, may_be_listed, one_per_port, copy_listed, copies_listed, is_fetched, older_fetched_by, older_fetched, awaits_fetch, same, system_holds, processes_placed, has_right_depth, matches_source}

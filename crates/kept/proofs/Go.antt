@@ -10,7 +10,7 @@ use Rattle.rows.specs.declared.Row.{Row}
 use Rattle.rows.specs.declared.Process.{Process}
 use Rattle.std.specs.Prelude.{if◌then◌else◌}
 use Rattle.rows.specs.Lists.{between, some}
-use Rattle.rows.specs.Limits.{processes, nodes}
+use Rattle.rows.specs.Limits.{nodes}
 use Rattle.rows.specs.Codes.{is_subdirectory, in_clist, is_node, owner_of}
 use Rattle.rows.specs.Tables.{State, no_process, row_of, process_at, is_listed}
 use Rattle.rows.specs.Sound.{records_fit, object_in_range, objects_in_range, place_in_range, places_in_range, record_unused, record_in_range, records_in_range, requesters_listed, process_placed, placed_from, processes_placed}

@@ -1,5 +1,5 @@
 -- Rows as the rules of the calls name them: held rows, copies, depths.
-use Prim.Native.Nat.{ℕ, ◌-◌}
+use Prim.Native.Nat.{ℕ}
 use mathlib.Core.Bool.{true, false, ◌&&◌}
 use mathlib.Core.List.{List}
 use mathlib.Core.Path.{◌≡◌}
@@ -10,7 +10,7 @@ use Rattle.rows.specs.declared.Row.{Row}
 use Rattle.rows.specs.declared.Process.{Process}
 use Rattle.rows.specs.Lists.{member, between}
 use Rattle.rows.specs.Limits.{nodes, greatest_operation, greatest_depth}
-use Rattle.rows.specs.Codes.{operation, is_operation, is_subdirectory, is_client, is_server, is_end, is_copied, in_clist}
+use Rattle.rows.specs.Codes.{is_operation, is_subdirectory, is_client, is_server, is_end, is_copied, in_clist}
 use Rattle.rows.specs.Tables.{State, row_of, is_listed, numbers, depth_over}
 use Rattle.rows.specs.Sound.{object_in_range, depth_right, has_right_depth}
 use Rattle.rows.proofs.Bools.{clash, and_l, and_i, or_cases, or-fl, or-fr, or_map, not_f}
