@@ -1,0 +1,19 @@
+-- `changing::kernel_clear_item` meets its contract: where the length and the slot fit, the change's own; else nothing changes.
+use native.Mathlib.Omega.{arith}
+use mathlib.Core.Path.{refl}
+use Rattle.rows.proofs.Slots.{represented-length}
+use Rattle.test_exports.proofs.Answers.{no-request-slot}
+use Rattle.test_exports.proofs.changing.kernel_clear_item.Goals as goal
+
+pub returns-then-t-ne-TABLES : goal.returns-then-t-ne-TABLES
+returns-then-t-ne-TABLES c = record { represents = (λ k st q rep e. absurd (c.if-t-ne-TABLES.true (represented-length rep))); other = (λ not. refl) }
+
+pub returns-then-j-ge-REQUESTS : goal.returns-then-j-ge-REQUESTS
+returns-then-j-ge-REQUESTS c = record { represents = (λ k st q rep e. no-request-slot st q rep c.args.j e c.if-j-ge-REQUESTS.true); other = (λ not. refl) }
+
+pub returns-then-k-ge-ITEMS : goal.returns-then-k-ge-ITEMS
+returns-then-k-ge-ITEMS c = record { represents = (λ k st q rep e. absurd (omega (arith, k, c.if-k-ge-ITEMS.true))); other = (λ not. refl) }
+
+pub returns : goal.returns
+returns c =
+    record { represents = (λ k. c.clear_item.ensures.represents); other = (λ not. absurd (not (c.if-t-ne-TABLES.false, c.if-j-ge-REQUESTS.false, c.if-k-ge-ITEMS.false))) }

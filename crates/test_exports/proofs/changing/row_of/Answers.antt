@@ -1,0 +1,6 @@
+-- `changing::row_of` meets its contract: field by field.
+use mathlib.Core.Path.{refl}
+use Rattle.test_exports.proofs.changing.row_of.Goals as goal
+
+pub returns : goal.returns
+returns c = refl
