@@ -28,7 +28,7 @@ use Rattle.calls.specs.declared.Call.TheVariants.{Revoke}
 use Rattle.calls.specs.Answers.{refusal_of}
 use Rattle.kept.proofs.Allowed.{RevokeAllowed}
 use Rattle.history.specs.History.{OnLoan, History}
-use Rattle.history.specs.Notes.{no_loan, loan_of, stands, is_closed, loans_settled as settling, note_revoke}
+use Rattle.history.specs.Notes.{no_loan, loan_of, stands, loans_settled as settling, note_revoke}
 use Rattle.history.specs.Reading.{note_call}
 use Rattle.history.specs.Chains.{a_request, Gone, HasOnLoan}
 use Rattle.history.specs.Demand3.{ClosedWith, Returned}

@@ -10,7 +10,7 @@ use Rattle.rows.specs.declared.Row.{Row}
 use Rattle.rows.specs.declared.Request.{Request}
 use Rattle.rows.specs.Lists.{all, first_with, member, some}
 use Rattle.rows.specs.Codes.{is_end}
-use Rattle.rows.specs.Tables.{State, no_request, row_of, numbers, request_of, open_on, bears}
+use Rattle.rows.specs.Tables.{State, no_request, row_of, request_of, open_on, bears}
 use Rattle.rows.proofs.Bools.{and_l, and_r, and_i, pos-some, some-pos}
 use Rattle.rows.proofs.Keyed.{first_key, first-there, all_first}
 use Rattle.tables.proofs.Sound.{Sound}
