@@ -6,7 +6,7 @@ use mathlib.Core.List.{List, [], reverse}
 use mathlib.Core.Path.{◌≡◌, refl, sym, ap, subst, ◌∙◌}
 use lib.Dec.{eqb}
 use borrow.Author.Tests.{eqb-true, eq-eqb}
-use Rattle.rows.specs.Lists.{any, all}
+use Rattle.rows.specs.Lists.{any}
 use Rattle.rows.specs.Tables.{empty}
 use Rattle.rows.specs.Layout.{right_lengths}
 use Rattle.tables.proofs.Words.{state-words}

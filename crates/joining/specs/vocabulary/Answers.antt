@@ -1,12 +1,11 @@
 -- What is printed of two texts that were read.
-use Rattle.std.specs.Prelude.{ℕ, ◌*◌, ◌≤◌, ◌<◌, List, [], ◌∷◌, ◌++◌, ◌≡◌, refl, eqb, length, drop, if◌then◌else◌}
+use Rattle.std.specs.Prelude.{ℕ, ◌*◌, ◌≤◌, ◌<◌, List, [], ◌∷◌, ◌≡◌, refl, eqb, length, if◌then◌else◌}
 use Rattle.text.specs.declared.Reply.{Reply}
 use Rattle.text.specs.declared.Verdict.{Verdict}
 use Rattle.text.specs.Answers.{no_text}
 use Rattle.text.specs.vocabulary.Replies.{in_reply}
 use Rattle.text.specs.vocabulary.Sizes.{REPLY}
 use Rattle.joining.specs.declared.Written.{Written}
-use Rattle.joining.specs.Written.{join}
 use Rattle.joining.specs.vocabulary.Lines.{SLOTS, Accepted, Puts, WritesSlots}
 
 -- room for all that may be printed: that of a reply for each slot
