@@ -10,7 +10,7 @@ use borrow.Author.Tests.{eqb-true}
 use Rattle.rows.specs.declared.Row.{Row}
 use Rattle.rows.specs.Lists.{any, member, some}
 use Rattle.rows.specs.Codes.{is_end, is_node}
-use Rattle.rows.specs.Tables.{State, row_of, numbers, sources, reaches, marked, on_loan, lent_itself, is_lent}
+use Rattle.rows.specs.Tables.{State, row_of, sources, reaches, marked, on_loan, lent_itself, is_lent}
 use Rattle.rows.specs.Setters.{with_place}
 use Rattle.rows.specs.Sound.{rows_rise}
 use Rattle.rows.proofs.Bools.{clash, bool_eq, and_l, or_l, or_r, or_cases, any-eq, member-here, member-there}

@@ -11,7 +11,7 @@ use Rattle.rows.specs.declared.Request.{Request}
 use Rattle.std.specs.Prelude.{if◌then◌else◌}
 use Rattle.rows.specs.Lists.{filter, any, first_with, rises, member, some}
 use Rattle.rows.specs.Codes.{is_operation, is_subdirectory, is_client, is_server, is_end, in_clist, with_system, is_node, is_clist, is_system}
-use Rattle.rows.specs.Tables.{State, row_of, request_of, numbers, sources, lists, on_loan, is_lent}
+use Rattle.rows.specs.Tables.{State, row_of, request_of, sources, lists, on_loan, is_lent}
 use Rattle.rows.specs.Sound.{requests_rise, is_fetched}
 use Rattle.rows.proofs.Keyed.{rises-rest}
 use Rattle.tables.proofs.Picked.{older-other}

@@ -12,7 +12,6 @@ use Rattle.rows.specs.Lists.{all, first_with, member, some}
 use Rattle.rows.specs.Codes.{is_end, in_node, in_clist, with_system, is_node, is_system}
 use Rattle.rows.specs.Tables.{State, no_row, row_of, process_at, is_listed, numbers, empty}
 use Rattle.rows.specs.Setters.{with_place}
-use Rattle.rows.specs.Limits.{processes}
 use Rattle.rows.proofs.Bools.{clash, false_of, all_filter, all-mono, and_l, and_r, not_t, pos-some, member-cases, true-or-false}
 use Rattle.rows.proofs.Places.{copied-no-end, system-no-node}
 use Rattle.rows.proofs.Lists.{filter_same}

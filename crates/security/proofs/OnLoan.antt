@@ -9,7 +9,7 @@ use lib.Dec.{ltb, eqb}
 use borrow.Author.Tests.{eqb-true, eq-eqb, ltb-true, lt-ltb}
 use Rattle.rows.specs.Lists.{any, first_with, member, some}
 use Rattle.rows.specs.Codes.{is_end}
-use Rattle.rows.specs.Tables.{State, no_request, row_of, request_of, numbers, lists}
+use Rattle.rows.specs.Tables.{State, no_request, row_of, request_of, lists}
 use Rattle.rows.specs.Setters.{with_place}
 use Rattle.rows.specs.Sound.{requests_rise}
 use Rattle.rows.proofs.Bools.{false_of, true_of, and_l, and_r, and_i, and-false, or_r, or_cases, or-false, not_t, any_append, member-there, true-or-false}

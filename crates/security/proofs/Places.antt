@@ -11,7 +11,7 @@ use Rattle.rows.specs.declared.Row.{Row}
 use Rattle.rows.specs.declared.Request.{Request}
 use Rattle.rows.specs.Lists.{filter, any, all, member, some}
 use Rattle.rows.specs.Codes.{is_end, in_clist}
-use Rattle.rows.specs.Tables.{State, no_request, row_of, request_of, numbers, lists}
+use Rattle.rows.specs.Tables.{State, no_request, row_of, request_of, lists}
 use Rattle.rows.specs.Setters.{with_place}
 use Rattle.rows.specs.Sound.{requests_rise, is_fetched, older_fetched}
 use Rattle.rows.proofs.Bools.{clash, false_of, bool_eq, and_l, and_r, all-mono, true-or-false}

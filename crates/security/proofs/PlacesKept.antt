@@ -19,7 +19,6 @@ use Rattle.rows.proofs.Bools.{clash, false_of, and_l, and_r, not_t, or-false, so
 use Rattle.rows.proofs.Keyed.{rises-rest}
 use Rattle.rows.proofs.Places.{copied-no-end}
 use Rattle.rows.proofs.RowSources.{row-there}
-use Rattle.rows.specs.Limits.{processes}
 use Rattle.tables.proofs.Picked.{all_found}
 use Rattle.tables.proofs.Sound.{Sound}
 use Rattle.tables.proofs.SoundFacts.{row_below, clist-is, manager-listed, row-object}
@@ -29,7 +28,7 @@ use Rattle.calls.specs.declared.Items.{Items}
 use Rattle.calls.specs.declared.Call.{Call}
 use Rattle.calls.specs.declared.Call.TheVariants.{Ask}
 use Rattle.calls.specs.Rules.{with_new_rows, with_record, copy_of}
-use Rattle.calls.specs.Loans.{items_of, item_row, moves, copies, copy_lent, new_request}
+use Rattle.calls.specs.Loans.{items_of, item_row, moves, copy_lent, new_request}
 use Rattle.kept.proofs.AddRow.{none-lists}
 use Rattle.kept.proofs.AskCopy.{lendable}
 use Rattle.kept.proofs.AskFacts.{asked, asked_state, lists-copy}
