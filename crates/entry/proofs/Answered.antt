@@ -5,7 +5,6 @@ use mathlib.Core.List.{List}
 use mathlib.Core.Path.{◌≡◌, refl, sym, ap, ◌∙◌}
 use Rattle.rows.specs.declared.Process.{Process}
 use Rattle.rows.specs.Lists.{some}
-use Rattle.rows.specs.Limits.{processes}
 use Rattle.rows.specs.Tables.{State, is_listed}
 use Rattle.rows.specs.Layout.{records_in, records_of}
 use Rattle.rows.specs.vocabulary.Represents.{Represents}
