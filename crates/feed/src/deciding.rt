@@ -1,6 +1,6 @@
 // An opening line by line: whether it is decided, its reply, and the stage after it.
 ghost use Rattle.std.specs.Prelude.{◌≡◌, ◌<◌, length};
-ghost use Rattle.feed.specs.Feeding.{undecided as undecidedText};
+ghost use Rattle.feed.specs.Feeding.{undecided as undecided_text};
 ghost use Rattle.feed.specs.vocabulary.Buffers.{StageOf};
 
 use crate::Stage;
@@ -10,7 +10,7 @@ use text::opening_text::first_pass;
 // Whether an opening waits for more lines: each line is a form that is not refused, and `(open)` has not come.
 // Ruled out: an opening that is refused at its last line waits; one with `(open)` waits.
 pub fn undecided(text: &[u8]) -> bool
-    ensures { result ≡ undecidedText text.now }
+    ensures { result ≡ undecided_text text.now }
 {
     let passed = first_pass(text);
     let lines = count_lines(text);
