@@ -6,8 +6,8 @@ use mathlib.Core.Path.{◌≡◌, refl, ap, sym, subst, ◌∙◌}
 use native.Mathlib.Omega.{arith}
 use borrow.Author.Tests.{ne_eqb, eqb-true}
 use lib.Dec.{eqb}
-use Rattle.rows.specs.declared.Found.{Found}
-use Rattle.rows.specs.declared.Found.TheVariants.{Nothing}
+use Rattle.std.specs.Prelude.{Option}
+use Rattle.std.specs.Prelude.{None}
 use Rattle.rows.specs.declared.Process.{Process}
 use Rattle.rows.specs.Tables.{State, no_row, row_of}
 use Rattle.rows.specs.Codes.{in_clist}
@@ -31,11 +31,11 @@ pub test-fails : (b : Bool) (x : ℕ) {y z : ℕ} → b ≡ false → z ≡ y �
 test-fails b x {y} {z} h e = rw h e
 
 -- ---- the look-up found nothing
-pub not_in : (st : State) (place e : ℕ) → (place ≡ 0 → ⊥) → (r : Found) → r ≡ slot_in st place e → r ≡ Nothing → eqb (row_of st.rows e).place place ≡ false
+pub not_in : (st : State) (place e : ℕ) → (place ≡ 0 → ⊥) → (r : Option ℕ) → r ≡ slot_in st place e → r ≡ None → eqb (row_of st.rows e).place place ≡ false
 unfolding slot_in no_row
 not_in st place e ne r f none = pick (eqb (row_of st.rows e).place place) refl f
   where
-    pick : (b : Bool) → eqb (row_of st.rows e).place place ≡ b → r ≡ cond b (found_slot (row_slot st.rows e)) Nothing → b ≡ false
+    pick : (b : Bool) → eqb (row_of st.rows e).place place ≡ b → r ≡ cond b (found_slot (row_slot st.rows e)) None → b ≡ false
     pick true q f =
         let gone = row-absent st.rows e (found_nothing (row_slot st.rows e) f none) in
         absurd (ne (sym (eqb-true (row_of st.rows e).place place q) ∙ (λ i. (gone i).place)))
@@ -88,6 +88,6 @@ records-stay st c same keeps r a =
     pick false = refl
 
 -- the caller does not hold the row
-pub not-in-clist : (st : State) (p e : ℕ) (r : Found) → r ≡ slot_in st (in_clist p) e → r ≡ Nothing → eqb (row_of st.rows e).place (in_clist p) ≡ false
+pub not-in-clist : (st : State) (p e : ℕ) (r : Option ℕ) → r ≡ slot_in st (in_clist p) e → r ≡ None → eqb (row_of st.rows e).place (in_clist p) ≡ false
 unfolding in_clist
 not-in-clist st p e r f none = not_in st (100 + p) e (λ z. omega arith) r f none

@@ -8,8 +8,8 @@ use native.Mathlib.Numerals.{add-one}
 use lib.Dec.{ltb, eqb}
 use lib.ListN.{length, get_or}
 use Rattle.rows.specs.declared.Request.{Request}
-use Rattle.rows.specs.declared.Found.{Found}
-use Rattle.rows.specs.declared.Found.TheVariants.{At, Nothing}
+use Rattle.std.specs.Prelude.{Option}
+use Rattle.std.specs.Prelude.{Some, None}
 use Rattle.rows.specs.Lists.{any, filter, member, some, nonzero}
 use Rattle.rows.specs.Codes.{client_end, server_end, is_client, is_server, is_end}
 use Rattle.rows.specs.Tables.{State, no_row, no_request, row_of, lists}
@@ -30,36 +30,36 @@ use Rattle.calls.proofs.Joined.{any-filter, four-tests}
 
 -- ---- one item
 module _ (st : State) (e : ℕ) where
-  pub end-absent : row_slot st.rows e ≡ 0 → Nothing ≡ end_slot st e
+  pub end-absent : row_slot st.rows e ≡ 0 → None ≡ end_slot st e
   unfolding end_slot found_slot
   end-absent s = rw s (pick (is_end (row_of st.rows e).kind))
     where
-      pick : (b : Bool) → Nothing ≡ cond b Nothing Nothing
+      pick : (b : Bool) → ◌≡◌ {A = Option ℕ} None (cond b None None)
       pick true = refl
       pick false = refl
 
-  pub end-here : (i : ℕ) → row_slot st.rows e ≡ suc i → is_end (row_of st.rows e).kind ≡ true → At i ≡ end_slot st e
+  pub end-here : (i : ℕ) → row_slot st.rows e ≡ suc i → is_end (row_of st.rows e).kind ≡ true → Some i ≡ end_slot st e
   unfolding end_slot found_slot
   end-here i s h = rw (h, s) refl
 
-  pub end-other : is_end (row_of st.rows e).kind ≡ false → Nothing ≡ end_slot st e
+  pub end-other : is_end (row_of st.rows e).kind ≡ false → None ≡ end_slot st e
   unfolding end_slot
   end-other h = rw h refl
 
   -- what the look-up says of the item
-  pub no_end : (r : Found) → r ≡ end_slot st e → r ≡ Nothing → end_item st e ≡ false
+  pub no_end : (r : Option ℕ) → r ≡ end_slot st e → r ≡ None → end_item st e ≡ false
   unfolding end_slot no_row is_end is_client is_server client_end server_end
   no_end r f none = and-rf (some e) (is_end (row_of st.rows e).kind) (pick (is_end (row_of st.rows e).kind) refl f)
     where
-      pick : (b : Bool) → is_end (row_of st.rows e).kind ≡ b → r ≡ cond b (found_slot (row_slot st.rows e)) Nothing → b ≡ false
+      pick : (b : Bool) → is_end (row_of st.rows e).kind ≡ b → r ≡ cond b (found_slot (row_slot st.rows e)) None → b ≡ false
       pick true q f = sym q ∙ (λ i. is_end (row-absent st.rows e (found_nothing (row_slot st.rows e) f none) i).kind)
       pick false q f = refl
 
-  pub an-end : {t : List ℕ} → Represents t st → (r : Found) (i : ℕ) → r ≡ end_slot st e → r ≡ At i → (row_slot st.rows e ≡ suc i) × (end_item st e ≡ true)
+  pub an-end : {t : List ℕ} → Represents t st → (r : Option ℕ) (i : ℕ) → r ≡ end_slot st e → r ≡ Some i → (row_slot st.rows e ≡ suc i) × (end_item st e ≡ true)
   unfolding end_slot
   an-end rep r i f a = pick (is_end (row_of st.rows e).kind) refl f
     where
-      pick : (b : Bool) → is_end (row_of st.rows e).kind ≡ b → r ≡ cond b (found_slot (row_slot st.rows e)) Nothing → (row_slot st.rows e ≡ suc i) × (some e && b ≡ true)
+      pick : (b : Bool) → is_end (row_of st.rows e).kind ≡ b → r ≡ cond b (found_slot (row_slot st.rows e)) None → (row_slot st.rows e ≡ suc i) × (some e && b ≡ true)
       pick true q f = let at = found_at (row_slot st.rows e) i f a in (at, rw (row-some rep e i at).1 refl)
       pick false q f = let z : ◌≡◌ {A = ℕ} 0 1 = cc in absurd (omega arith)
 

@@ -7,8 +7,8 @@ use native.Mathlib.Omega.{arith}
 use borrow.Author.Tests.{eq-eqb, ne_eqb}
 use lib.Dec.{eqb}
 use lib.ListN.{get_or}
-use Rattle.rows.specs.declared.Found.{Found}
-use Rattle.rows.specs.declared.Found.TheVariants.{At, Nothing}
+use Rattle.std.specs.Prelude.{Option}
+use Rattle.std.specs.Prelude.{Some, None}
 use Rattle.rows.specs.Lists.{some}
 use Rattle.rows.specs.Codes.{subdirectory, is_subdirectory}
 use Rattle.rows.specs.Tables.{State, no_row, row_of, depth_over, reaches, lent_itself, is_lent}
@@ -26,28 +26,28 @@ use Rattle.calls.specs.vocabulary.Lookups.{slot_in, NotTooDeep}
 
 -- ---- a row in a place
 module _ (st : State) (place e : ℕ) where
-  pub in-absent : row_slot st.rows e ≡ 0 → Nothing ≡ slot_in st place e
+  pub in-absent : row_slot st.rows e ≡ 0 → None ≡ slot_in st place e
   unfolding slot_in found_slot
   in-absent s = rw s (pick (eqb (row_of st.rows e).place place))
     where
-      pick : (b : Bool) → Nothing ≡ cond b Nothing Nothing
+      pick : (b : Bool) → ◌≡◌ {A = Option ℕ} None (cond b None None)
       pick true = refl
       pick false = refl
 
-  pub in_place : (i : ℕ) → row_slot st.rows e ≡ suc i → (row_of st.rows e).place ≡ place → At i ≡ slot_in st place e
+  pub in_place : (i : ℕ) → row_slot st.rows e ≡ suc i → (row_of st.rows e).place ≡ place → Some i ≡ slot_in st place e
   unfolding slot_in found_slot
   in_place i s h = rw (eq-eqb (row_of st.rows e).place place h, s) refl
 
-  pub elsewhere : ((row_of st.rows e).place ≡ place → ⊥) → Nothing ≡ slot_in st place e
+  pub elsewhere : ((row_of st.rows e).place ≡ place → ⊥) → None ≡ slot_in st place e
   unfolding slot_in
   elsewhere h = rw (ne_eqb (row_of st.rows e).place place h) refl
 
   -- what is found is in the place, and stands in the slot
-  pub found_in : (r : Found) (i : ℕ) → r ≡ slot_in st place e → r ≡ At i → (row_slot st.rows e ≡ suc i) × (eqb (row_of st.rows e).place place ≡ true)
+  pub found_in : (r : Option ℕ) (i : ℕ) → r ≡ slot_in st place e → r ≡ Some i → (row_slot st.rows e ≡ suc i) × (eqb (row_of st.rows e).place place ≡ true)
   unfolding slot_in
   found_in r i f a = pick (eqb (row_of st.rows e).place place) refl f
     where
-      pick : (b : Bool) → eqb (row_of st.rows e).place place ≡ b → r ≡ cond b (found_slot (row_slot st.rows e)) Nothing → (row_slot st.rows e ≡ suc i) × (b ≡ true)
+      pick : (b : Bool) → eqb (row_of st.rows e).place place ≡ b → r ≡ cond b (found_slot (row_slot st.rows e)) None → (row_slot st.rows e ≡ suc i) × (b ≡ true)
       pick true q f = (found_at (row_slot st.rows e) i f a, refl)
       pick false q f = let z : ◌≡◌ {A = ℕ} 0 1 = cc in absurd (omega arith)
 

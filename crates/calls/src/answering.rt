@@ -13,21 +13,21 @@ use crate::{Answer, lookups};
 use closing::close::close_request;
 use rows::codes::{A_SERVER_END, is_end};
 use rows::layout::{KIND, Q_NUMBER};
-use rows::{Found, Request, find, read};
+use rows::{Request, find, read};
 
 // The slot of the row e, where it is an end.
-fn end_at(t: &[u32], n: usize, e: u32) -> Found
+fn end_at(t: &[u32], n: usize, e: u32) -> Option<usize>
     requires { IsTables t.now × (n ≤ ROWS) }
     ensures within { Within n result }
     ensures found { FindsEnd t.now n e result }
 {
-    let Found::At(i) = find::row_among(t, n, e) else {
-        return Found::Nothing;
+    let Some(i) = find::row_among(t, n, e) else {
+        return None;
     };
     if is_end(t[KIND + i]) {
-        return Found::At(i);
+        return Some(i);
     }
-    Found::Nothing
+    None
 }
 
 // Whether the item e is an end whose port has an open request.
@@ -35,10 +35,10 @@ fn end_busy(t: &[u32], n: usize, m: usize, e: u32) -> bool
     requires { IsTables t.now × (n ≤ ROWS) × (m ≤ REQUESTS) }
     ensures { EndBusy t.now n m e result }
 {
-    let Found::At(i) = end_at(t, n, e) else {
+    let Some(i) = end_at(t, n, e) else {
         return false;
     };
-    let Found::At(_) = lookups::asked_at(t, m, i) else {
+    let Some(_) = lookups::asked_at(t, m, i) else {
         return false;
     };
     true
@@ -74,10 +74,8 @@ fn listed_newer(t: &[u32], m: usize, q: u32, e: u32) -> bool
     ensures { ListedNewer t.now m q e result }
 {
     let mut found = false;
-    let mut k = 0;
-    while k < m {
+    for k in 0..m {
         found = newer_lists(t, k, q, e) | found;
-        k += 1;
     }
     found
 }
@@ -87,10 +85,10 @@ fn end_away(t: &[u32], n: usize, m: usize, q: u32, p: u32, e: u32) -> bool
     requires { IsTables t.now × (n ≤ ROWS) × (m ≤ REQUESTS) }
     ensures { EndAway t.now n m q p e result }
 {
-    let Found::At(_) = end_at(t, n, e) else {
+    let Some(_) = end_at(t, n, e) else {
         return false;
     };
-    let Found::At(_) = lookups::held_by(t, n, p, e) else {
+    let Some(_) = lookups::held_by(t, n, p, e) else {
         return true;
     };
     listed_newer(t, m, q, e)
@@ -142,7 +140,7 @@ fn answer_end(t: &mut [u32], n: usize, ps: &mut [u32], i: usize, p: u32, served:
         return Answer::Refused(8);
     }
     let m = find::count_requests(t);
-    let Found::At(j) = lookups::asked_at(t, m, i) else {
+    let Some(j) = lookups::asked_at(t, m, i) else {
         return Answer::Refused(11);
     };
     let k = answer_refusal(t, n, m, j, p, served);
@@ -164,7 +162,7 @@ pub fn answer(t: &mut [u32], ps: &mut [u32], p: u32, e: u32, served: bool) -> An
     ensures long { IsTables t.new × IsRecords ps.new }
 {
     let n = find::count_rows(t);
-    let Found::At(i) = lookups::held_by(t, n, p, e) else {
+    let Some(i) = lookups::held_by(t, n, p, e) else {
         return Answer::Refused(7);
     };
     answer_end(t, n, ps, i, p, served)

@@ -12,7 +12,7 @@ use crate::lend::add_request;
 use crate::{Answer, Item, ItemRow, ItemRows, Items, Looked, NewRequest, lookups, tests};
 use rows::codes::{A_CLIENT_END, GREATEST_DEPTH, is_end};
 use rows::layout::{KIND, OBJECT, RIGHTS};
-use rows::{Found, Rights, find, read};
+use rows::{Rights, find, read};
 
 // The item with its row, where p holds it; no item has no row.
 fn item_row(t: &[u32], n: usize, p: u32, item: Item) -> Looked
@@ -27,7 +27,7 @@ fn item_row(t: &[u32], n: usize, p: u32, item: Item) -> Looked
             copies: 0,
         });
     }
-    let Found::At(i) = lookups::held_by(t, n, p, item.row) else {
+    let Some(i) = lookups::held_by(t, n, p, item.row) else {
         return Looked::Missing;
     };
     let word = (i + 1) as u32;
@@ -196,7 +196,7 @@ pub fn ask(t: &mut [u32], p: u32, c: u32, items: Items) -> Answer
     ensures long { IsTables t.new }
 {
     let n = find::count_rows(t);
-    let Found::At(i) = lookups::held_by(t, n, p, c) else {
+    let Some(i) = lookups::held_by(t, n, p, c) else {
         return Answer::Refused(7);
     };
     let request = NewRequest {

@@ -8,7 +8,7 @@ use crate::Answer;
 use crate::numbers::four_from;
 use questions::chain;
 use rows::codes::GREATEST_DEPTH;
-use rows::{Found, find};
+use rows::find;
 
 // the rows of a chain at most: one of each depth
 const LONGEST_CHAIN: usize = 12;
@@ -34,7 +34,7 @@ pub fn chain(t: &[u32], e: u32) -> Answer
     ensures { PerformsApart t.now (Call.Chain e) t.now result }
 {
     let n = find::count_rows(t);
-    let Found::At(i) = find::row_among(t, n, e) else {
+    let Some(i) = find::row_among(t, n, e) else {
         return Answer::Refused(7);
     };
     chain_at(t, i)

@@ -5,7 +5,7 @@ ghost use Rattle.calls.specs.vocabulary.Performs.{PerformsApart};
 
 use crate::{Answer, lookups};
 use questions::question;
-use rows::{Found, find};
+use rows::find;
 
 // comes: 7 where there is no such row or no such open request.
 // Ruled out: no for a row that is made from a lent copy; an answer for a request that is closed.
@@ -14,11 +14,11 @@ pub fn comes(t: &[u32], e: u32, q: u32) -> Answer
     ensures { PerformsApart t.now (Call.Comes e q) t.now result }
 {
     let n = find::count_rows(t);
-    let Found::At(i) = find::row_among(t, n, e) else {
+    let Some(i) = find::row_among(t, n, e) else {
         return Answer::Refused(7);
     };
     let m = find::count_requests(t);
-    let Found::At(_) = lookups::request_among(t, m, q) else {
+    let Some(_) = lookups::request_among(t, m, q) else {
         return Answer::Refused(7);
     };
     let told = question::comes(t, i, q);

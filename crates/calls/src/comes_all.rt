@@ -10,7 +10,7 @@ use crate::{Answer, Sixteen, lookups, numbers};
 use questions::pairs;
 use questions::pairs::{PAIRS, PairMarks};
 use rows::layout::ROWS;
-use rows::{Found, find};
+use rows::find;
 
 // what is told of a pair: no, or yes, one more; or nothing, since comes is 7
 pub const NO: u32 = 1;
@@ -28,10 +28,10 @@ fn tell(t: &[u32], n: usize, m: usize, marks: &PairMarks, k: usize, e: u32, q: u
     if e == 0 {
         return 0;
     }
-    let Found::At(i) = find::row_among(t, n, e) else {
+    let Some(i) = find::row_among(t, n, e) else {
         return NOT_TOLD;
     };
-    let Found::At(_) = lookups::request_among(t, m, q) else {
+    let Some(_) = lookups::request_among(t, m, q) else {
         return NOT_TOLD;
     };
     let comes = pairs::is_marked(marks, i, k);
@@ -54,10 +54,8 @@ fn tell_each(
     ensures long { Sixteens result }
 {
     let mut told = [0u32; PAIRS];
-    let mut k = 0;
-    while k < PAIRS {
+    for k in 0..PAIRS {
         told[k] = tell(t, n, m, marks, k, es[k], qs[k]);
-        k += 1;
     }
     told
 }

@@ -15,7 +15,7 @@ use questions::question;
 use rows::codes::{A_SUBDIRECTORY, clist, is_end};
 use rows::layout::{KIND, OBJECT, RIGHTS, SOURCE, VIA};
 use rows::records::{record_at, set_record};
-use rows::{Found, Process, Rights, find, read};
+use rows::{Process, Rights, find, read};
 
 // The record of p in its prime node.
 // Ruled out: the record of another process changes; the row gone through stays.
@@ -104,7 +104,7 @@ pub fn go(t: &[u32], ps: &mut [u32], p: u32, e: u32) -> Answer
         return Answer::Done;
     }
     let n = find::count_rows(t);
-    let Found::At(i) = lookups::held_by(t, n, p, e) else {
+    let Some(i) = lookups::held_by(t, n, p, e) else {
         return Answer::Refused(7);
     };
     if t[KIND + i] != A_SUBDIRECTORY {
@@ -156,7 +156,7 @@ pub fn hold(t: &mut [u32], ps: &[u32], p: u32, s: u32) -> Answer
 {
     let x = record_at(ps, (p - 1) as usize);
     let n = find::count_rows(t);
-    let Found::At(i) = lookups::row_in(t, n, x.active, s) else {
+    let Some(i) = lookups::row_in(t, n, x.active, s) else {
         return Answer::Refused(7);
     };
     let via = lookups::row_word(t, n, x.through);
@@ -209,7 +209,7 @@ pub fn register(t: &mut [u32], ps: &[u32], p: u32, e: u32) -> Answer
 {
     let x = record_at(ps, (p - 1) as usize);
     let n = find::count_rows(t);
-    let Found::At(i) = lookups::held_by(t, n, p, e) else {
+    let Some(i) = lookups::held_by(t, n, p, e) else {
         return Answer::Refused(7);
     };
     register_row(t, n, i, x.active)
@@ -223,10 +223,8 @@ fn is_source(t: &[u32], n: usize, i: usize) -> bool
 {
     let word = (i + 1) as u32;
     let mut found = false;
-    let mut k = 0;
-    while k < n {
+    for k in 0..n {
         found = (t[SOURCE + k] == word) | (t[VIA + k] == word) | found;
-        k += 1;
     }
     found
 }
@@ -255,7 +253,7 @@ pub fn drop(t: &mut [u32], ps: &mut [u32], p: u32, e: u32) -> Answer
 {
     let x = record_at(ps, (p - 1) as usize);
     let n = find::count_rows(t);
-    let Found::At(i) = lookups::held_by(t, n, p, e) else {
+    let Some(i) = lookups::held_by(t, n, p, e) else {
         return Answer::Refused(7);
     };
     let k = drop_refusal(t, n, i, x.through, e);

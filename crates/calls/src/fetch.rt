@@ -10,7 +10,7 @@ use crate::{Answer, lookups};
 use changes::change;
 use rows::codes::{A_SERVER_END, clist};
 use rows::layout::{ITEMS, KIND};
-use rows::{Found, Request, find, read};
+use rows::{Request, find, read};
 
 // The row of one item goes to the place; item 0 is none.
 fn place_item(t: &mut [u32], n: usize, e: u32, place: u32)
@@ -21,7 +21,7 @@ fn place_item(t: &mut [u32], n: usize, e: u32, place: u32)
     if e == 0 {
         return;
     }
-    let Found::At(i) = find::row_among(t, n, e) else {
+    let Some(i) = find::row_among(t, n, e) else {
         return;
     };
     change::set_place(t, i, place);
@@ -80,7 +80,7 @@ fn fetch_end(t: &mut [u32], n: usize, i: usize, p: u32) -> Answer
         return Answer::Refused(8);
     }
     let m = find::count_requests(t);
-    let Found::At(j) = lookups::asked_at(t, m, i) else {
+    let Some(j) = lookups::asked_at(t, m, i) else {
         return Answer::Refused(11);
     };
     fetch_request(t, n, j, p)
@@ -94,7 +94,7 @@ pub fn fetch(t: &mut [u32], p: u32, e: u32) -> Answer
     ensures long { IsTables t.new }
 {
     let n = find::count_rows(t);
-    let Found::At(i) = lookups::held_by(t, n, p, e) else {
+    let Some(i) = lookups::held_by(t, n, p, e) else {
         return Answer::Refused(7);
     };
     fetch_end(t, n, i, p)

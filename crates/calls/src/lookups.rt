@@ -8,27 +8,27 @@ ghost use Rattle.calls.specs.vocabulary.Performs.{FindsAsked};
 
 use rows::codes::{GREATEST_DEPTH, clist};
 use rows::layout::{DEPTH, OBJECT, PLACE, Q_ASKER, Q_NUMBER, Q_PORT, SOURCE};
-use rows::{Found, find};
+use rows::find;
 
 // The slot of the row e, where it is in the place: a c-list, or a node.
 // Ruled out: the slot of a row that is in another place; nothing for a row that is there.
-pub fn row_in(t: &[u32], n: usize, place: u32, e: u32) -> Found
+pub fn row_in(t: &[u32], n: usize, place: u32, e: u32) -> Option<usize>
     requires { IsTables t.now × (n ≤ ROWS) }
     ensures within { Within n result }
     ensures found { FindsIn t.now n place e result }
 {
-    let Found::At(i) = find::row_among(t, n, e) else {
-        return Found::Nothing;
+    let Some(i) = find::row_among(t, n, e) else {
+        return None;
     };
     if t[PLACE + i] == place {
-        return Found::At(i);
+        return Some(i);
     }
-    Found::Nothing
+    None
 }
 
 // The slot of the row e, where it is in the c-list of p.
 // Ruled out: the slot of a row that another process holds; nothing for a row that p holds.
-pub fn held_by(t: &[u32], n: usize, p: u32, e: u32) -> Found
+pub fn held_by(t: &[u32], n: usize, p: u32, e: u32) -> Option<usize>
     requires { IsTables t.now × (n ≤ ROWS) }
     ensures within { Within n result }
     ensures found { FindsHeld t.now n p e result }
@@ -39,7 +39,7 @@ pub fn held_by(t: &[u32], n: usize, p: u32, e: u32) -> Found
 
 // The slot of the request q.
 // Ruled out: the slot of another request; one at or past the count.
-pub fn request_among(t: &[u32], m: usize, q: u32) -> Found
+pub fn request_among(t: &[u32], m: usize, q: u32) -> Option<usize>
     requires { IsTables t.now × (m ≤ REQUESTS) }
     ensures within { Within m result }
     ensures found { FindsRequestAmong t.now m q result }
@@ -49,7 +49,7 @@ pub fn request_among(t: &[u32], m: usize, q: u32) -> Found
 
 // The slot of the newest request on the port whose client end is c.
 // Ruled out: an older request on that port; nothing where one is open.
-pub fn open_among(t: &[u32], m: usize, c: u32) -> Found
+pub fn open_among(t: &[u32], m: usize, c: u32) -> Option<usize>
     requires { IsTables t.now × (m ≤ REQUESTS) }
     ensures within { Within m result }
     ensures found { FindsOpenAmong t.now m c result }
@@ -59,7 +59,7 @@ pub fn open_among(t: &[u32], m: usize, c: u32) -> Found
 
 // The slot of the request that the server sees at its end, which stands in slot i.
 // Ruled out: the request on the port whose number is that of the end; a request that lists the end.
-pub fn asked_at(t: &[u32], m: usize, i: usize) -> Found
+pub fn asked_at(t: &[u32], m: usize, i: usize) -> Option<usize>
     requires { IsTables t.now × (m ≤ REQUESTS) × (i < ROWS) }
     ensures within { Within m result }
     ensures found { FindsAsked t.now m i result }
@@ -74,7 +74,7 @@ pub fn row_word(t: &[u32], n: usize, e: u32) -> u32
     ensures within { result ≤ n }
     ensures word { IsWord t.now n e result }
 {
-    let Found::At(i) = find::row_among(t, n, e) else {
+    let Some(i) = find::row_among(t, n, e) else {
         return 0;
     };
     (i + 1) as u32

@@ -13,7 +13,7 @@ use closing::close::close_port;
 use questions::question::on_loan;
 use rows::codes::{A_CLIENT_END, AN_OPERATION, clist};
 use rows::layout::{KIND, OBJECT};
-use rows::{Found, find, read};
+use rows::{find, read};
 
 // A port from the operation row in slot i: the client end to p, the server end to the row's manager.
 // Ruled out: both ends to p; ends that come from no row.
@@ -70,7 +70,7 @@ pub fn port(t: &mut [u32], p: u32, e: u32) -> Answer
     ensures long { IsTables t.new }
 {
     let n = find::count_rows(t);
-    let Found::At(i) = lookups::held_by(t, n, p, e) else {
+    let Some(i) = lookups::held_by(t, n, p, e) else {
         return Answer::Refused(7);
     };
     port_row(t, n, i, p)
@@ -99,7 +99,7 @@ pub fn close(t: &mut [u32], ps: &mut [u32], p: u32, c: u32) -> Answer
     ensures long { IsTables t.new × IsRecords ps.new }
 {
     let n = find::count_rows(t);
-    let Found::At(i) = lookups::held_by(t, n, p, c) else {
+    let Some(i) = lookups::held_by(t, n, p, c) else {
         return Answer::Refused(7);
     };
     let k = close_refusal(t, i, c);

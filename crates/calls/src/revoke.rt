@@ -7,7 +7,7 @@ ghost use Rattle.calls.specs.vocabulary.Effects.{IsProcess};
 use crate::{Answer, lookups};
 use closing::close::close_request;
 use rows::layout::Q_ASKER;
-use rows::{Found, find};
+use rows::find;
 
 // revoke: 7 for what is no open request of the caller's.
 // Ruled out: another process's request closes; a request that is fetched stays open.
@@ -18,7 +18,7 @@ pub fn revoke(t: &mut [u32], ps: &mut [u32], p: u32, q: u32) -> Answer
     ensures long { IsTables t.new × IsRecords ps.new }
 {
     let m = find::count_requests(t);
-    let Found::At(j) = lookups::request_among(t, m, q) else {
+    let Some(j) = lookups::request_among(t, m, q) else {
         return Answer::Refused(7);
     };
     if t[Q_ASKER + j] != p {

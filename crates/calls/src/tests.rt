@@ -6,7 +6,6 @@ ghost use Rattle.calls.specs.vocabulary.Asks.{TellsOpen, RefusesRequest, SpaceUn
 
 use crate::lookups;
 use questions::question;
-use rows::Found;
 use rows::codes::{A_SUBDIRECTORY, GREATEST_DEPTH, LAST_NEXT};
 use rows::layout::{KIND, REQUESTS, ROWS};
 
@@ -54,7 +53,7 @@ pub fn has_open(t: &[u32], m: usize, c: u32) -> bool
     requires { IsTables t.now × (m ≤ REQUESTS) }
     ensures { TellsOpen t.now m c result }
 {
-    let Found::At(_) = lookups::open_among(t, m, c) else {
+    let Some(_) = lookups::open_among(t, m, c) else {
         return false;
     };
     true

@@ -63,10 +63,8 @@ fn count_words(marks: &SlotBits, words: usize) -> usize
     ensures { result ≡ gones (marks_in marks.now) (words * BITS) }
 {
     let mut total = 0;
-    let mut k = 0;
-    while k < words {
+    for k in 0..words {
         total += count_bits(marks[k]);
-        k += 1;
     }
     total
 }

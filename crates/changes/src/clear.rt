@@ -10,10 +10,8 @@ fn clear(column: &mut [u32], from: usize, to: usize)
     requires { (from ≤ to) × (to ≤ length column.old) }
     ensures { column.new ≡ cleared from to column.old }
 {
-    let mut i = from;
-    while i < to {
+    for i in from..to {
         column[i] = 0;
-        i += 1;
     }
 }
 
@@ -22,12 +20,10 @@ fn clear_all(part: &mut [u32], size: usize, columns: usize, from: usize, to: usi
     requires { (length part.old ≡ columns * size) × (from ≤ to) × (to ≤ size) }
     ensures { part.new ≡ on_parts (cleared from to) size columns part.old }
 {
-    let mut c = 0;
-    while c < columns {
+    for c in 0..columns {
         let a = c * size;
         let e = a + size;
         clear(&mut part[a..e], from, to);
-        c += 1;
     }
 }
 
@@ -48,10 +44,8 @@ fn clear_rows(part: &mut [u32], size: usize, columns: usize, from: usize, to: us
     requires { (length part.old ≡ columns * size) × (from ≤ to) × (to ≤ size) }
     ensures { part.new ≡ on_parts (cleared from to) size columns part.old }
 {
-    let mut i = from;
-    while i < to {
+    for i in from..to {
         clear_row(part, size, columns, i);
-        i += 1;
     }
 }
 

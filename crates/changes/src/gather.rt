@@ -15,13 +15,11 @@ fn list_left(slots: &mut [u16], marks: &SlotBits, from: usize, end: usize) -> us
 {
     let w = marks[from / BITS];
     let mut n = 0;
-    let mut i = from;
-    while i < end {
+    for i in from..end {
         slots[n] = i as u16;
         if (w >> (i % BITS)) % 2 == 0 {
             n += 1;
         }
-        i += 1;
     }
     n
 }
@@ -31,10 +29,8 @@ fn gather(column: &mut [u32], to: usize, slots: &[u16], n: usize)
     requires { (n ≤ length slots.now) × Ahead to (length column.old) slots.now n }
     ensures { column.new ≡ gathered to slots.now n column.old }
 {
-    let mut k = 0;
-    while k < n {
+    for k in 0..n {
         column[to + k] = column[slots[k] as usize];
-        k += 1;
     }
 }
 
@@ -45,12 +41,10 @@ fn gather_all(part: &mut [u32], size: usize, columns: usize, to: usize, slots: &
     ensures { part.new ≡ on_parts (gathered to slots.now n) size columns
         part.old }
 {
-    let mut c = 0;
-    while c < columns {
+    for c in 0..columns {
         let a = c * size;
         let e = a + size;
         gather(&mut part[a..e], to, slots, n);
-        c += 1;
     }
 }
 

@@ -43,12 +43,10 @@ fn request_bits(marks: &RequestMarks, count: usize) -> SlotBits
     ensures { SameMarks marks.now (marks_in result) count }
 {
     let mut packed = [0u64; WORDS];
-    let mut j = 0;
-    while j < count {
+    for j in 0..count {
         if marks[j] {
             bits::set(&mut packed, j);
         }
-        j += 1;
     }
     packed
 }

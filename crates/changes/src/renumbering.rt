@@ -17,10 +17,8 @@ fn ranks_run(to: &mut [u16], from: usize, end: usize, start: usize)
     requires { (from ≤ end) × (end ≤ ROWS) × (start ≤ from + 1) × (end < length to.old) }
     ensures { RanksRun from end start to.old to.new }
 {
-    let mut i = from;
-    while i < end {
+    for i in from..end {
         to[i + 1] = (start + (i - from)) as u16;
-        i += 1;
     }
 }
 
@@ -33,14 +31,12 @@ fn ranks_each(to: &mut [u16], marks: &SlotBits, from: usize, end: usize, start: 
         to.new result }
 {
     let w = marks[from / BITS];
-    let mut i = from;
     let mut next = start;
-    while i < end {
+    for i in from..end {
         to[i + 1] = next as u16;
         if (w >> (i % BITS)) % 2 == 0 {
             next += 1;
         }
-        i += 1;
     }
     next
 }
@@ -90,11 +86,9 @@ fn remap(column: &mut [u32], to: &[u16], from: usize, count: usize)
     requires { (from ≤ count) × (count ≤ length column.old) × (ROWS < length to.now) }
     ensures { Remapped to.now from count column.old column.new }
 {
-    let mut i = from;
-    while i < count {
+    for i in from..count {
         let s = column[i];
         column[i] = rank_at(to, s);
-        i += 1;
     }
 }
 

@@ -74,10 +74,8 @@ fn slide(column: &mut [u32], to: usize, from: usize, len: usize)
     requires { (to ≤ from) × (from + len ≤ length column.old) }
     ensures { column.new ≡ slid to from len column.old }
 {
-    let mut k = 0;
-    while k < len {
+    for k in 0..len {
         column[to + k] = column[from + k];
-        k += 1;
     }
 }
 
@@ -86,12 +84,10 @@ fn slide_all(part: &mut [u32], size: usize, columns: usize, to: usize, from: usi
     requires { (length part.old ≡ columns * size) × (to ≤ from) × (from + len ≤ size) }
     ensures { part.new ≡ on_parts (slid to from len) size columns part.old }
 {
-    let mut c = 0;
-    while c < columns {
+    for c in 0..columns {
         let a = c * size;
         let e = a + size;
         slide(&mut part[a..e], to, from, len);
-        c += 1;
     }
 }
 

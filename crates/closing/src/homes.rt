@@ -33,10 +33,8 @@ fn home_each(ps: &mut [Process], t: &[u32], n: usize, removed: &SlotBits)
     requires { IsTables t.now × (n ≤ ROWS) }
     ensures { HomesEach t.now n ps.old (marks_in removed.now) ps.new }
 {
-    let mut i = 0;
-    while i < ps.len() {
+    for i in 0..ps.len() {
         ps[i] = home(t, n, ps[i], removed);
-        i += 1;
     }
 }
 
@@ -57,11 +55,9 @@ fn any_away(ps: &[u32]) -> bool
     ensures { AwayIfAny ps.now result }
 {
     let mut away = false;
-    let mut k = 0;
-    while k < PROCESSES {
+    for k in 0..PROCESSES {
         let x = records::record_at(ps, k);
         away = (x.through != 0) | away;
-        k += 1;
     }
     away
 }

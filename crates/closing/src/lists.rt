@@ -8,7 +8,7 @@ use changes::bits::SlotBits;
 use changes::{bits, change};
 use rows::codes::clist;
 use rows::layout::{ITEMS, RequestMarks};
-use rows::{Found, Request, find, read};
+use rows::{Request, find, read};
 
 // One item of a closed request: its row goes to a c-list, unless it is out: removed, or sent back by an older closed
 // request.
@@ -21,7 +21,7 @@ fn item_back(t: &mut [u32], n: usize, e: u32, asker: u32, out: &mut SlotBits)
     if e == 0 {
         return;
     }
-    let Found::At(i) = find::row_among(t, n, e) else {
+    let Some(i) = find::row_among(t, n, e) else {
         return;
     };
     if bits::is_set(out, i) {
@@ -41,11 +41,9 @@ fn items_back(t: &mut [u32], n: usize, v: Request, out: &mut SlotBits)
 {
     let items = v.items;
     let asker = v.asker;
-    let mut k = 0;
-    while k < ITEMS {
+    for k in 0..ITEMS {
         let e = items[k];
         item_back(t, n, e, asker, out);
-        k += 1;
     }
 }
 
@@ -59,7 +57,7 @@ fn item_out(t: &mut [u32], n: usize, j: usize, k: usize, e: u32, out: &SlotBits)
     if e == 0 {
         return;
     }
-    let Found::At(i) = find::row_among(t, n, e) else {
+    let Some(i) = find::row_among(t, n, e) else {
         return;
     };
     if bits::is_set(out, i) {
@@ -75,11 +73,9 @@ fn items_out(t: &mut [u32], n: usize, j: usize, v: Request, out: &SlotBits)
     ensures long { IsTables t.new }
 {
     let items = v.items;
-    let mut k = 0;
-    while k < ITEMS {
+    for k in 0..ITEMS {
         let e = items[k];
         item_out(t, n, j, k, e, out);
-        k += 1;
     }
 }
 
@@ -107,10 +103,8 @@ pub fn settle_lists(t: &mut [u32], n: usize, m: usize, removed: &SlotBits, close
     ensures long { IsTables t.new }
 {
     let mut out = *removed;
-    let mut j = 0;
-    while j < m {
+    for j in 0..m {
         let closes = closed[j];
         settle_request(t, n, j, closes, &mut out);
-        j += 1;
     }
 }

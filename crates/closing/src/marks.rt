@@ -17,7 +17,7 @@ use rows::codes::is_end;
 use rows::layout::{
     KIND, NUMBER, OBJECT, Q_NUMBER, Q_PORT, REQUEST, REQUESTS, ROWS, RequestMarks, SOURCE, VIA,
 };
-use rows::{Found, find};
+use rows::find;
 
 // Whether the row in slot i is a seed.
 // Ruled out: an operation row whose manager's number is the port's; a row that bears the number of another request.
@@ -38,12 +38,10 @@ fn mark_seeds(t: &[u32], n: usize, s: Seed) -> SlotBits
     ensures { MarksSeeds t.now n s (marks_in result) }
 {
     let mut marks = [0u64; WORDS];
-    let mut i = 0;
-    while i < n {
+    for i in 0..n {
         if is_seed(t, i, s) {
             bits::set(&mut marks, i);
         }
-        i += 1;
     }
     marks
 }
@@ -84,13 +82,11 @@ fn mark_word(t: &[u32], marks: &mut SlotBits, first: usize, from: usize, end: us
 {
     let k = from / BITS;
     let mut w = marks[k];
-    let mut i = from;
-    while i < end {
+    for i in from..end {
         if derives(marks, first, t[SOURCE + i], t[VIA + i]) {
             w = w | (1u64 << (i % BITS));
             marks[k] = w;
         }
-        i += 1;
     }
 }
 
@@ -137,7 +133,7 @@ pub fn is_marked(t: &[u32], n: usize, e: u32, marks: &SlotBits) -> bool
     requires { IsTables t.now × (n ≤ ROWS) }
     ensures { TellsMark t.now n e (marks_in marks.now) result }
 {
-    let Found::At(i) = find::row_among(t, n, e) else {
+    let Some(i) = find::row_among(t, n, e) else {
         return false;
     };
     bits::is_set(marks, i)
@@ -150,12 +146,10 @@ pub fn mark_requests(t: &[u32], n: usize, m: usize, removed: &SlotBits, s: Seed)
     ensures { MarksRequests t.now n m (marks_in removed.now) s result }
 {
     let mut closed = [false; REQUESTS];
-    let mut j = 0;
-    while j < m {
+    for j in 0..m {
         let first = closes_first(s, t[Q_NUMBER + j]);
         let port = is_marked(t, n, t[Q_PORT + j], removed);
         closed[j] = first | port;
-        j += 1;
     }
     closed
 }

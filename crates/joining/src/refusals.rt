@@ -29,13 +29,11 @@ fn are_listed(first: &[u32], second: &[u32], codes: &[u32]) -> bool
     requires { IsHeld first.now × IsHeld second.now }
     ensures { ListsCodes first.now second.now codes.now result }
 {
-    let mut i = 0;
-    while i < codes.len() {
+    for i in 0..codes.len() {
         let e = entry_of(codes[i]);
         if !is_listed(first, second, e) {
             return false;
         }
-        i += 1;
     }
     true
 }

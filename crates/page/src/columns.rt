@@ -21,10 +21,8 @@ fn byte_or_space(text: &[u8], i: usize) -> u8
 pub fn put_left(columns: &mut [u8], text: &[u8])
     ensures { columns.new ≡ left_in (length columns.old) text.now }
 {
-    let mut i = 0;
-    while i < columns.len() {
+    for i in 0..columns.len() {
         columns[i] = byte_or_space(text, i);
-        i += 1;
     }
 }
 

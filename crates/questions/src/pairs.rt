@@ -20,10 +20,8 @@ fn asking(requests: &[u32; PAIRS], q: u32) -> u16
     ensures { BitsOfAsking requests.now q result }
 {
     let mut bits = 0u16;
-    let mut k = 0;
-    while k < PAIRS {
+    for k in 0..PAIRS {
         bits = bits | (((requests[k] == q) as u16) << k);
-        k += 1;
     }
     bits
 }
@@ -56,10 +54,8 @@ pub fn mark_pairs(t: &[u32], n: usize, requests: &[u32; PAIRS], marks: &mut Pair
     requires { IsTables t.now × (n ≤ ROWS) × NoneYet marks.old }
     ensures { MarksPairs t.now n requests.now marks.new }
 {
-    let mut i = 0;
-    while i < n {
+    for i in 0..n {
         marks[i + 1] = marks_of(t, i, requests, marks);
-        i += 1;
     }
 }
 

@@ -35,10 +35,8 @@ pub fn on_loan(t: &[u32], e: u32) -> bool
 {
     let count = requests_in(t);
     let mut found = false;
-    let mut j = 0;
-    while j < count {
+    for j in 0..count {
         found = lists_item(t, j, e) | found;
-        j += 1;
     }
     found
 }

@@ -1,27 +1,27 @@
 -- Slots over any key: where the element with a key stands in a list, newest first; a list cut there.
 use Rattle.std.proofs.Common.{◌≡◌, ℕ, zero, suc, ◌<◌, ◌≤◌, Bool, true, false, cond, ◌||◌, eqb, List, [], ◌∷◌, ◌++◌, map, length, sym, refl, ap, ◌∙◌, ⊎_elim, zero-le, le_of_suc-le-suc, eq-or-lt_of_le, arith, ne_eqb, eqb-true}
-use Rattle.rows.specs.declared.Found.{Found}
-use Rattle.rows.specs.declared.Found.TheVariants.{At, Nothing}
+use Rattle.std.specs.Prelude.{Option}
+use Rattle.std.specs.Prelude.{Some, None}
 use Rattle.rows.specs.Lists.{first_with, rises, member, each, slot_with}
 use Rattle.rows.specs.vocabulary.Slots.{Within, found_slot}
 use Rattle.rows.proofs.Bools.{false_of, true_of, clash, and_l, and_r, eqb-sym, eqb-sym-f, eqb-self, member-here, member-there}
 use Rattle.rows.proofs.Keyed.{older_of, first_key, rises-rest, rises-older, rises-range}
 
 -- ---- a look-up's answer as a slot plus 1
-pub found_at : {r : Found} (s i : ℕ) → r ≡ found_slot s → r ≡ At i → s ≡ suc i
+pub found_at : {r : Option ℕ} (s i : ℕ) → r ≡ found_slot s → r ≡ Some i → s ≡ suc i
 unfolding found_slot
 found_at zero i d e = cc
 found_at (suc s) i d e = ap suc (cc)
 
-pub found_nothing : {r : Found} (s : ℕ) → r ≡ found_slot s → r ≡ Nothing → s ≡ 0
+pub found_nothing : {r : Option ℕ} (s : ℕ) → r ≡ found_slot s → r ≡ None → s ≡ 0
 unfolding found_slot
 found_nothing zero d e = refl
 found_nothing (suc s) d e = cc
 
-pub at-below : (k : ℕ) (r : Found) (i : ℕ) → Within k r → r ≡ At i → i < k
+pub at-below : (k : ℕ) (r : Option ℕ) (i : ℕ) → Within k r → r ≡ Some i → i < k
 unfolding Within
-at-below k (At j) i h e = let same : j ≡ i = cc in omega arith
-at-below k Nothing i h e = let z : ◌≡◌ {A = ℕ} 0 1 = cc in absurd (omega arith)
+at-below k (Some j) i h e = let same : j ≡ i = cc in omega arith
+at-below k None i h e = let z : ◌≡◌ {A = ℕ} 0 1 = cc in absurd (omega arith)
 
 module _ {A : Type 0} (key : A → ℕ) where
   -- ---- the slot of a key, over any list

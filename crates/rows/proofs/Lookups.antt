@@ -2,8 +2,8 @@
 use Rattle.std.proofs.Common.{◌≡◌, ℕ, ◌+◌, ◌*◌, ◌<◌, ◌≤◌, true, List, length, get_or, take, drop, sym, ap, ◌∙◌, subst, arith, length-drop, length-take-le, get_or-drop, get_or-take}
 use native.Mathlib.Decide.{dec_lt}
 use lib.ListN.{get_or-eq_default}
-use Rattle.rows.specs.declared.Found.{Found}
-use Rattle.rows.specs.declared.Found.TheVariants.{At, Nothing}
+use Rattle.std.specs.Prelude.{Option}
+use Rattle.std.specs.Prelude.{Some, None}
 use Rattle.rows.specs.Limits.{row_slots, request_slots}
 use Rattle.rows.specs.Lists.{rises, slot_with, laid}
 use Rattle.rows.specs.Tables.{State}
@@ -31,7 +31,7 @@ module _ {st : State} {t : List ℕ} (rep : Represents t st) where
 
   -- ---- what a search among so many of them finds
   -- by halves, over keys that rise
-  halves : {A : Type 0} (key : A → ℕ) (l : List ℕ) (xs : List A) → Keys key l xs → rises key xs ≡ true → (k n : ℕ) (r : Found) → k ≡ length xs
+  halves : {A : Type 0} (key : A → ℕ) (l : List ℕ) (xs : List A) → Keys key l xs → rises key xs ≡ true → (k n : ℕ) (r : Option ℕ) → k ≡ length xs
       → LastAtIfAscending l k n r → r ≡ found_slot (slot_with key xs n)
   halves key l xs ks up k n r e p =
       last-slot key l n xs r ks (subst (λ (m : ℕ). LastAt l m n r) e (p (subst (λ (m : ℕ). Ascending m l) (sym e) (keys-rise key l xs ks up))))
@@ -86,28 +86,28 @@ module _ {st : State} {t : List ℕ} (rep : Represents t st) where
     few : k ≤ 1024
     few = omega (arith, (represented-well rep).rows-fit)
 
-    is-slot : (r : Found) → LastAt numbers-in (length st.rows) n r → r ≡ found_slot (row_slot st.rows n)
+    is-slot : (r : Option ℕ) → LastAt numbers-in (length st.rows) n r → r ≡ found_slot (row_slot st.rows n)
     unfolding row_slot
     is-slot r p = last-slot (λ r. r.number) numbers-in n st.rows r row-keys p
 
     same_word : last < k → get_or numbers-in last 0 ≡ get_or t (0 + last) 0
     same_word h = get_or-take 1024 (drop 0 t) last 0 (omega (arith, few)) ∙ (let first : last ≡ 0 + last = omega arith in ap (λ (j : ℕ). get_or t j 0) first)
 
-    pub row-hit : last < k → get_or t (0 + last) 0 ≡ n → At last ≡ found_slot (row_slot st.rows n)
-    row-hit h e = is-slot (At last) (half-hit numbers-in (length st.rows) n row-numbers.rise last (omega arith) (same_word h ∙ e))
+    pub row-hit : last < k → get_or t (0 + last) 0 ≡ n → Some last ≡ found_slot (row_slot st.rows n)
+    row-hit h e = is-slot (Some last) (half-hit numbers-in (length st.rows) n row-numbers.rise last (omega arith) (same_word h ∙ e))
 
-    pub row-missed : (last < k → get_or t (0 + last) 0 ≡ n → ⊥) → Nothing ≡ found_slot (row_slot st.rows n)
+    pub row-missed : (last < k → get_or t (0 + last) 0 ≡ n → ⊥) → None ≡ found_slot (row_slot st.rows n)
     row-missed other =
-        is-slot Nothing
+        is-slot None
         (last_none numbers-in n (length st.rows) row-numbers last (found (numbers-front numbers-in n (length st.rows) row-numbers))
         (λ h e. other (omega arith) (sym (same_word (omega arith)) ∙ e)))
 
-  pub request-search : (k q : ℕ) (r : Found) → k ≡ length st.requests → LastAtIfAscending (take 128 (drop 10240 t)) k q r
+  pub request-search : (k q : ℕ) (r : Option ℕ) → k ≡ length st.requests → LastAtIfAscending (take 128 (drop 10240 t)) k q r
       → r ≡ found_slot (request_slot st.requests q)
   unfolding request_slot
   request-search = halves (λ v. v.number) (take 128 (drop 10240 t)) st.requests request-keys (represented-well rep).requests-rise
 
   -- back from the newest
-  pub open-search : (k c : ℕ) (r : Found) → k ≡ length st.requests → LastAt (take 128 (drop 10368 t)) k c r → r ≡ found_slot (open_slot st.requests c)
+  pub open-search : (k c : ℕ) (r : Option ℕ) → k ≡ length st.requests → LastAt (take 128 (drop 10368 t)) k c r → r ≡ found_slot (open_slot st.requests c)
   unfolding open_slot
   open-search k c r e p = last-slot (λ v. v.port) (take 128 (drop 10368 t)) c st.requests r port-keys (subst (λ (m : ℕ). LastAt (take 128 (drop 10368 t)) m c r) e p)

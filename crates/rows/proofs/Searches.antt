@@ -4,8 +4,8 @@ use mathlib.Core.Bool.{false≢true}
 use native.Mathlib.Decide.{dec_lt}
 use borrow.Author.Tests.{eqb-false}
 use lib.ListN.{get_or-eq_default}
-use Rattle.rows.specs.declared.Found.{Found}
-use Rattle.rows.specs.declared.Found.TheVariants.{At, Nothing}
+use Rattle.std.specs.Prelude.{Option}
+use Rattle.std.specs.Prelude.{Some, None}
 use Rattle.rows.specs.Lists.{rises, member, some, slot_with}
 use Rattle.rows.specs.Layout.{leading}
 use Rattle.rows.specs.vocabulary.Slots.{found_slot}
@@ -40,11 +40,11 @@ module _ (l : List ℕ) (k n : ℕ) where
             ⊎_elim (λ e. rw (← e) x) (λ lt. let y : get_or l mid 0 < get_or l j 0 = u mid j lt j<k in omega arith) (eq-or-lt_of_le m≤j);
       }
 
-  pub half-hit : Ascending k l → (mid : ℕ) → mid < k → get_or l mid 0 ≡ n → LastAt l k n (At mid)
+  pub half-hit : Ascending k l → (mid : ℕ) → mid < k → get_or l mid 0 ≡ n → LastAt l k n (Some mid)
   unfolding Ascending LastAt
   half-hit u mid h e = (h, e, (λ j lt g d. let y : get_or l mid 0 < get_or l j 0 = u mid j lt g in omega arith))
 
-  pub half-none : (lo hi : ℕ) → hi ≤ lo → Bracket lo hi → LastAt l k n Nothing
+  pub half-none : (lo hi : ℕ) → hi ≤ lo → Bracket lo hi → LastAt l k n None
   unfolding LastAt
   half-none lo hi h b =
       λ j j<k e.
@@ -57,11 +57,11 @@ module _ (l : List ℕ) (k n : ℕ) where
   pub back_more : (i : ℕ) → 0 < i → FreeFrom i → (get_or l (i - 1) 0 ≡ n → ⊥) → FreeFrom (i - 1)
   back_more i h free x j g j<k e = ⊎_elim (λ d. x (rw d e)) (λ lt. free j (omega arith) j<k e) (eq-or-lt_of_le g)
 
-  pub back-hit : (i : ℕ) → 0 < i → i ≤ k → FreeFrom i → get_or l (i - 1) 0 ≡ n → LastAt l k n (At (i - 1))
+  pub back-hit : (i : ℕ) → 0 < i → i ≤ k → FreeFrom i → get_or l (i - 1) 0 ≡ n → LastAt l k n (Some (i - 1))
   unfolding LastAt
   back-hit i h g free e = (omega arith, e, (λ j lt. free j (omega arith)))
 
-  pub back_none : (i : ℕ) → i ≤ 0 → FreeFrom i → LastAt l k n Nothing
+  pub back_none : (i : ℕ) → i ≤ 0 → FreeFrom i → LastAt l k n None
   unfolding LastAt
   back_none i h free = λ j. free j (omega arith)
 
@@ -130,7 +130,7 @@ module _ (l : List ℕ) (n : ℕ) where
         up-to-close (get_or l i 0) (p.used i (omega arith)) (omega arith)
 
     -- where the last number up to n is not n, n is not there
-    pub last_none : (last : ℕ) → LastUpTo l n last → (last < k → get_or l last 0 ≡ n → ⊥) → LastAt l k n Nothing
+    pub last_none : (last : ℕ) → LastUpTo l n last → (last < k → get_or l last 0 ≡ n → ⊥) → LastAt l k n None
     unfolding LastAt Ascending
     last_none last q other j h e =
         let some-j : 0 < get_or l j 0 = p.used j h in
@@ -207,21 +207,21 @@ module _ {A : Type 0} (key : A → ℕ) where
   Keys l [] = Unit {0}
   Keys l (x ∷ xs) = (get_or l (length xs) 0 ≡ key x) × Keys l xs
 
-  pub last-slot : (l : List ℕ) (n : ℕ) (xs : List A) (r : Found) → Keys l xs → LastAt l (length xs) n r → r ≡ found_slot (slot_with key xs n)
+  pub last-slot : (l : List ℕ) (n : ℕ) (xs : List A) (r : Option ℕ) → Keys l xs → LastAt l (length xs) n r → r ≡ found_slot (slot_with key xs n)
   unfolding LastAt found_slot slot_with
-  last-slot l n [] (At i) ks p = absurd (omega (arith, p.0))
-  last-slot l n [] Nothing ks p = refl
-  last-slot l n (x ∷ xs) (At i) ks p = pick (last-slot l n xs (At i) ks.1) (eqb (key x) n) refl
+  last-slot l n [] (Some i) ks p = absurd (omega (arith, p.0))
+  last-slot l n [] None ks p = refl
+  last-slot l n (x ∷ xs) (Some i) ks p = pick (last-slot l n xs (Some i) ks.1) (eqb (key x) n) refl
     where
-      pick : (LastAt l (length xs) n (At i) → At i ≡ found_slot (slot_with key xs n)) → (b : Bool) → eqb (key x) n ≡ b → At i ≡ found_slot (cond b (suc (length xs)) (slot_with key xs n))
+      pick : (LastAt l (length xs) n (Some i) → Some i ≡ found_slot (slot_with key xs n)) → (b : Bool) → eqb (key x) n ≡ b → Some i ≡ found_slot (cond b (suc (length xs)) (slot_with key xs n))
       pick ih true q =
-          ⊎_elim (λ e. ap At e) (λ lt. absurd (p.2 (length xs) lt (omega arith) (ks.0 ∙ eqb-true (key x) n q))) (eq-or-lt_of_le (le_of_suc-le-suc p.0))
+          ⊎_elim (λ e. ap Some e) (λ lt. absurd (p.2 (length xs) lt (omega arith) (ks.0 ∙ eqb-true (key x) n q))) (eq-or-lt_of_le (le_of_suc-le-suc p.0))
       pick ih false q =
           ⊎_elim (λ e. absurd (eqb-false (key x) n q (sym ks.0 ∙ ap (λ (j : ℕ). get_or l j 0) (sym e) ∙ p.1)))
           (λ lt. ih (lt, p.1, (λ j g h. p.2 j g (omega arith)))) (eq-or-lt_of_le (le_of_suc-le-suc p.0))
-  last-slot l n (x ∷ xs) Nothing ks p = pick (last-slot l n xs Nothing ks.1) (eqb (key x) n) refl
+  last-slot l n (x ∷ xs) None ks p = pick (last-slot l n xs None ks.1) (eqb (key x) n) refl
     where
-      pick : (LastAt l (length xs) n Nothing → Nothing ≡ found_slot (slot_with key xs n)) → (b : Bool) → eqb (key x) n ≡ b → Nothing ≡ found_slot (cond b (suc (length xs)) (slot_with key xs n))
+      pick : (LastAt l (length xs) n None → None ≡ found_slot (slot_with key xs n)) → (b : Bool) → eqb (key x) n ≡ b → None ≡ found_slot (cond b (suc (length xs)) (slot_with key xs n))
       pick ih true q = absurd (p (length xs) (omega arith) (ks.0 ∙ eqb-true (key x) n q))
       pick ih false q = ih (λ j h. p j (omega arith))
 

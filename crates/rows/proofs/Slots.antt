@@ -3,8 +3,8 @@ use Rattle.std.proofs.Common.{◌≡◌, ℕ, zero, suc, ◌+◌, ◌*◌, ◌<�
 use Rattle.rows.specs.declared.Row.{Row}
 use Rattle.rows.specs.Lists.{filter, rises, laid, member, all, some, nonzero}
 use Rattle.rows.specs.Tables.{State, no_row, row_of, numbers, sources}
-use Rattle.rows.specs.declared.Found.{Found}
-use Rattle.rows.specs.declared.Found.TheVariants.{At}
+use Rattle.std.specs.Prelude.{Option}
+use Rattle.std.specs.Prelude.{Some}
 use Rattle.rows.specs.Limits.{row_slots, request_slots}
 use Rattle.rows.specs.Layout.{requests_at, row_slot, source_slot, row_word, row_field, rows_in, requests_in, raw_row}
 use Rattle.rows.specs.vocabulary.Represents.{sources_older, Represents}
@@ -30,10 +30,10 @@ unfolding requests_in request_slots
 requests-most t = omega (arith, leading_le (take 128 (drop requests_at t)), length-take 128 (drop requests_at t))
 
 -- what a look-up found is a slot of the table
-pub row_below : (t : List ℕ) (r : Found) (i : ℕ) → Within (rows_in t) r → r ≡ At i → i < 1024
+pub row_below : (t : List ℕ) (r : Option ℕ) (i : ℕ) → Within (rows_in t) r → r ≡ Some i → i < 1024
 row_below t r i h e = omega (arith, at-below (rows_in t) r i h e, rows-most t)
 
-pub request-below : (t : List ℕ) (r : Found) (j : ℕ) → Within (requests_in t) r → r ≡ At j → j < 128
+pub request-below : (t : List ℕ) (r : Option ℕ) (j : ℕ) → Within (requests_in t) r → r ≡ Some j → j < 128
 request-below t r j h e = omega (arith, at-below (requests_in t) r j h e, requests-most t)
 
 -- ---- the slot of a source

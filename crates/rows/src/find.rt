@@ -8,13 +8,12 @@ ghost use Rattle.rows.specs.vocabulary.Finds.{CountsRows, CountsRequests};
 ghost use Rattle.rows.specs.vocabulary.Finds.{FindsRowAmong, FindsRow, FindsRequest, FindsOpen};
 ghost use Rattle.rows.specs.vocabulary.Sizes.{ROWS, REQUESTS, IsTables};
 
-use crate::Found;
 use crate::layout::{KIND, NUMBER, Q_ASKER, Q_NUMBER, Q_PORT};
 
 // ---- searches of a column
 // The position of n among the first words of a column, which rise: by halves.
 // Ruled out: a position at or past the count; nothing where n is there.
-pub fn search(column: &[u32], count: usize, n: u32) -> Found
+pub fn search(column: &[u32], count: usize, n: u32) -> Option<usize>
     requires { count ≤ length column.now }
     ensures within { Within count result }
     ensures found { LastAtIfAscending column.now count n result }
@@ -25,7 +24,7 @@ pub fn search(column: &[u32], count: usize, n: u32) -> Found
         let mid = lo + (hi - lo) / 2;
         let x = column[mid];
         if x == n {
-            return Found::At(mid);
+            return Some(mid);
         }
         if x < n {
             lo = mid + 1;
@@ -33,12 +32,12 @@ pub fn search(column: &[u32], count: usize, n: u32) -> Found
             hi = mid;
         }
     }
-    Found::Nothing
+    None
 }
 
 // The last position of n among the first words of a column, in whatever order they stand: from the last word back.
 // Ruled out: an earlier position where n stands again; nothing where n is there.
-pub fn search_back(column: &[u32], count: usize, n: u32) -> Found
+pub fn search_back(column: &[u32], count: usize, n: u32) -> Option<usize>
     requires { count ≤ length column.now }
     ensures within { Within count result }
     ensures found { LastAt column.now count n result }
@@ -47,10 +46,10 @@ pub fn search_back(column: &[u32], count: usize, n: u32) -> Found
     while 0 < i {
         i -= 1;
         if column[i] == n {
-            return Found::At(i);
+            return Some(i);
         }
     }
-    Found::Nothing
+    None
 }
 
 // ---- how many slots are in use
@@ -197,21 +196,21 @@ fn last_up_to(column: &[u32], n: u32) -> usize
 
 // The slot of the row numbered n among so many rows: for callers that look up several.
 // Ruled out: the slot of another row; one at or past the count.
-pub fn row_among(t: &[u32], count: usize, n: u32) -> Found
+pub fn row_among(t: &[u32], count: usize, n: u32) -> Option<usize>
     requires { IsTables t.now × (count ≤ ROWS) }
     ensures within { Within count result }
     ensures found { FindsRowAmong t.now count n result }
 {
     let last = last_up_to(&t[NUMBER..KIND], n);
     if (last < count) & (t[NUMBER + last] == n) {
-        return Found::At(last);
+        return Some(last);
     }
-    Found::Nothing
+    None
 }
 
 // The slot of the row numbered n.
 // Ruled out: the slot of another row; a slot for a number that no row has, 0 too.
-pub fn row_slot(t: &[u32], n: u32) -> Found
+pub fn row_slot(t: &[u32], n: u32) -> Option<usize>
     requires { IsTables t.now }
     ensures within { Within (rows_in t.now) result }
     ensures found { FindsRow t.now n result }
@@ -223,7 +222,7 @@ pub fn row_slot(t: &[u32], n: u32) -> Found
 // ---- the slot of a request
 // The slot of the request numbered q.
 // Ruled out: the slot of another request; one past the requests in use.
-pub fn request_slot(t: &[u32], q: u32) -> Found
+pub fn request_slot(t: &[u32], q: u32) -> Option<usize>
     requires { IsTables t.now }
     ensures within { Within (requests_in t.now) result }
     ensures found { FindsRequest t.now q result }
@@ -234,7 +233,7 @@ pub fn request_slot(t: &[u32], q: u32) -> Found
 
 // The slot of the newest request on the port whose client end is c.
 // Ruled out: an older request on that port; nothing where one is open.
-pub fn open_on(t: &[u32], c: u32) -> Found
+pub fn open_on(t: &[u32], c: u32) -> Option<usize>
     requires { IsTables t.now }
     ensures within { Within (requests_in t.now) result }
     ensures found { FindsOpen t.now c result }

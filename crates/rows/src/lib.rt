@@ -43,12 +43,6 @@ pub struct Process {
 #[derive(Clone, Copy)]
 pub struct Rights(pub u32);
 
-// What a look-up answers: the slot of a row or request in its table.
-#[derive(Clone, Copy)]
-pub enum Found {
-    At(usize),
-    Nothing,
-}
 
 // ---- functions
 pub mod capcaps;

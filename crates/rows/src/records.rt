@@ -47,10 +47,8 @@ pub fn load(p: &[u32]) -> Records
         through: 0,
     };
     let mut ps = [none; PROCESSES];
-    let mut i = 0;
-    while i < PROCESSES {
+    for i in 0..PROCESSES {
         ps[i] = record_at(p, i);
-        i += 1;
     }
     ps
 }
@@ -60,11 +58,9 @@ pub fn store(ps: Records, p: &mut [u32])
     requires { IsRecords p.old }
     ensures { p.new ≡ records_of ps }
 {
-    let mut i = 0;
-    while i < PROCESSES {
+    for i in 0..PROCESSES {
         let x = ps[i];
         set_record(p, i, x);
-        i += 1;
     }
 }
 

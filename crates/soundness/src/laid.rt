@@ -16,10 +16,8 @@ pub fn zero_from(column: &[u32], k: usize) -> bool
     ensures { Decides result (ZeroFrom k column.now) }
 {
     let mut bits: u32 = 0;
-    let mut i = k;
-    while i < column.len() {
+    for i in k..column.len() {
         bits = bits | column[i];
-        i += 1;
     }
     bits == 0
 }
@@ -32,12 +30,10 @@ pub fn rising(column: &[u32], k: usize) -> bool
 {
     let mut rise = true;
     let mut last: u32 = 0;
-    let mut i = 0;
-    while i < k {
+    for i in 0..k {
         let n = column[i];
         rise = rise & (last < n);
         last = n;
-        i += 1;
     }
     rise
 }
@@ -66,12 +62,10 @@ pub fn rows_unused(t: &[u32], n: usize) -> bool
     ensures { Decides result (RowsUnused t.now n) }
 {
     let mut unused = true;
-    let mut c = 0;
-    while c < ROW_COLUMNS {
+    for c in 0..ROW_COLUMNS {
         let start = c * ROWS;
         let end = start + ROWS;
         unused = unused & zero_from(&t[start..end], n);
-        c += 1;
     }
     unused
 }
@@ -83,12 +77,10 @@ pub fn requests_unused(t: &[u32], m: usize) -> bool
     ensures { Decides result (RequestsUnused t.now m) }
 {
     let mut unused = true;
-    let mut c = 0;
-    while c < REQUEST_COLUMNS {
+    for c in 0..REQUEST_COLUMNS {
         let start = Q_NUMBER + c * REQUESTS;
         let end = start + REQUESTS;
         unused = unused & zero_from(&t[start..end], m);
-        c += 1;
     }
     unused
 }

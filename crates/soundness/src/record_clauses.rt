@@ -13,7 +13,7 @@ use rows::find::row_among;
 use rows::layout::{KIND, NEXT, NUMBER, PROCESSES, Q_NUMBER, Q_PORT};
 use rows::read::row_at;
 use rows::records::record_at;
-use rows::{Found, Process};
+use rows::Process;
 
 // ---- the next number
 // The last of the first k words of a column, 0 for none. Ruled out: the word after it; the first word.
@@ -56,11 +56,9 @@ pub fn records_sound(p: &[u32]) -> bool
     ensures { result ≡ all record_in_range (records_in p.now) }
 {
     let mut in_range = true;
-    let mut i = 0;
-    while i < PROCESSES {
+    for i in 0..PROCESSES {
         let x = record_at(p, i);
         in_range = in_range & record_in_range(x);
-        i += 1;
     }
     in_range
 }
@@ -73,7 +71,7 @@ pub fn process_placed(t: &[u32], n: usize, q: u32, x: Process) -> bool
     if x.through == 0 {
         return x.active == x.prime;
     }
-    let Found::At(i) = row_among(t, n, x.through) else {
+    let Some(i) = row_among(t, n, x.through) else {
         return false;
     };
     let r = row_at(t, i);
@@ -87,12 +85,10 @@ pub fn processes_placed(t: &[u32], p: &[u32], n: usize) -> bool
     ensures { OfRows t.now n result (λ rs. placed_from rs 1 (records_in p.now)) }
 {
     let mut placed = true;
-    let mut i = 0;
-    while i < PROCESSES {
+    for i in 0..PROCESSES {
         let x = record_at(p, i);
         let q = i as u32 + 1;
         placed = placed & process_placed(t, n, q, x);
-        i += 1;
     }
     placed
 }

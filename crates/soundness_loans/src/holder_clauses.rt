@@ -148,13 +148,11 @@ fn rows_held(t: &[u32], n: usize, listing: &[u8; ROWS]) -> bool
     ensures { result ≡ held_to t.now listing.now n }
 {
     let mut right = true;
-    let mut i = 0;
-    while i < n {
+    for i in 0..n {
         let code = listing[i];
         let held = system_holds(t[PLACE + i], code);
         let listed = copy_listed(t[REQUEST + i], code);
         right = (held & listed) & right;
-        i += 1;
     }
     right
 }

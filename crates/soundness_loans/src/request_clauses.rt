@@ -14,7 +14,6 @@ ghost use Rattle.soundness_loans.specs.vocabulary.Clauses.{items_listable, reque
 ghost use Rattle.soundness_loans.specs.vocabulary.Clauses.{ports_right, all_of_requests, is_free};
 ghost use Rattle.soundness_loans.specs.vocabulary.Clauses.{with_mark};
 
-use rows::Found;
 use rows::codes::{A_CLIENT_END, is_end};
 use rows::find::row_among;
 use rows::layout::{
@@ -33,7 +32,7 @@ pub fn slot_among(t: &[u32], n: usize, x: u32) -> usize
     if x == 0 {
         return 0;
     }
-    let Found::At(i) = row_among(t, n, x) else {
+    let Some(i) = row_among(t, n, x) else {
         return 0;
     };
     i + 1
@@ -248,13 +247,11 @@ fn numbers_apart(t: &[u32], n: usize, m: usize) -> bool
 {
     let mut apart = true;
     let mut s = 0;
-    let mut j = 0;
-    while j < m {
+    for j in 0..m {
         let q = t[Q_NUMBER + j];
         s = first_not_below(t, n, s, q);
         let taken = (s < n) & (t[NUMBER + s] == q);
         apart = !taken & apart;
-        j += 1;
     }
     apart
 }
@@ -265,10 +262,8 @@ fn requests_right(t: &[u32], p: &[u32], m: usize) -> bool
     ensures { OfRequests t.now m result (all (request_right (records_in p.now))) }
 {
     let mut right = true;
-    let mut j = 0;
-    while j < m {
+    for j in 0..m {
         right = request_right(t, p, j) & right;
-        j += 1;
     }
     right
 }
@@ -280,11 +275,9 @@ fn ports_right(t: &[u32], n: usize, m: usize) -> bool
 {
     let mut marks = [false; ROWS];
     let mut right = true;
-    let mut j = 0;
-    while j < m {
+    for j in 0..m {
         let s = standing_port(t, n, j);
         right = claim(&mut marks, s) & right;
-        j += 1;
     }
     right
 }

@@ -74,10 +74,8 @@ fn packed_sound(t: &[u32], packs: &[u32; PACKED], n: usize) -> bool
     ensures { OfFaithful t.now n result }
 {
     let mut right = true;
-    let mut i = 0;
-    while i < n {
+    for i in 0..n {
         right = sources_at(t, packs, i, n) & right;
-        i += 1;
     }
     right
 }

@@ -4,8 +4,8 @@ use native.Mathlib.Omega.{arith}
 use mathlib.Core.Path.{◌≡◌, ap, sym}
 use mathlib.Core.List.{List}
 use lib.ListN.{length}
-use Rattle.rows.specs.declared.Found.{Found}
-use Rattle.rows.specs.declared.Found.TheVariants.{At, Nothing}
+use Rattle.std.specs.Prelude.{Option}
+use Rattle.std.specs.Prelude.{Some, None}
 use Rattle.rows.specs.Tables.{State}
 use Rattle.rows.specs.vocabulary.Represents.{Represents}
 use Rattle.rows.specs.vocabulary.Slots.{found_slot, request_slot}
@@ -13,11 +13,11 @@ use Rattle.rows.specs.Layout.{row_slot}
 use Rattle.rows.proofs.Slots.{found_at, found_nothing, slot-le, rows-most, requests-most, represented-rows, represented-requests}
 
 -- a slot i was found: i + 1 stands for it
-pub plus_one : {r : Found} (s i : ℕ) → r ≡ found_slot s → r ≡ At i → found_slot (i + 1) ≡ found_slot s
+pub plus_one : {r : Option ℕ} (s i : ℕ) → r ≡ found_slot s → r ≡ Some i → found_slot (i + 1) ≡ found_slot s
 plus_one s i found at = ap found_slot (omega (arith, found_at s i found at))
 
 -- nothing was found: 0 stands for it
-pub zero-slot : {r : Found} (s : ℕ) → r ≡ found_slot s → r ≡ Nothing → found_slot 0 ≡ found_slot s
+pub zero-slot : {r : Option ℕ} (s : ℕ) → r ≡ found_slot s → r ≡ None → found_slot 0 ≡ found_slot s
 zero-slot s found at = ap found_slot (sym (found_nothing s found at))
 
 -- no row stands in a slot from 1,024 on

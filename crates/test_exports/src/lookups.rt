@@ -7,7 +7,7 @@ ghost use Rattle.rows.specs.vocabulary.Sizes.{IsTables};
 ghost use Rattle.test_exports.specs.vocabulary.Exports.{Unless};
 
 use rows::layout::TABLES;
-use rows::{Found, find};
+use rows::find;
 
 #[unsafe(no_mangle)]
 pub extern "C" fn kernel_rows_in(t: &[u32]) -> usize
@@ -40,7 +40,7 @@ pub extern "C" fn kernel_row_slot(t: &[u32], n: u32) -> usize
     if t.len() != TABLES {
         return 0;
     }
-    let Found::At(i) = find::row_slot(t, n) else {
+    let Some(i) = find::row_slot(t, n) else {
         return 0;
     };
     i + 1
@@ -55,7 +55,7 @@ pub extern "C" fn kernel_request_slot(t: &[u32], q: u32) -> usize
     if t.len() != TABLES {
         return 0;
     }
-    let Found::At(j) = find::request_slot(t, q) else {
+    let Some(j) = find::request_slot(t, q) else {
         return 0;
     };
     j + 1
@@ -70,7 +70,7 @@ pub extern "C" fn kernel_open_on(t: &[u32], c: u32) -> usize
     if t.len() != TABLES {
         return 0;
     }
-    let Found::At(j) = find::open_on(t, c) else {
+    let Some(j) = find::open_on(t, c) else {
         return 0;
     };
     j + 1

@@ -141,12 +141,10 @@ fn comes_form(line: &[u8]) -> Reading
 pub fn is_named(ns: &[u32], n: u32) -> bool
     ensures { result ≡ member n ns.now }
 {
-    let mut i = 0;
-    while i < ns.len() {
+    for i in 0..ns.len() {
         if n == ns[i] {
             return true;
         }
-        i += 1;
     }
     false
 }

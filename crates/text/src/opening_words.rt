@@ -25,10 +25,8 @@ use rows::layout::RECORD_WORDS;
 pub fn clear(run: &mut [u32])
     ensures { run.new ≡ replicate (length run.old) 0 }
 {
-    let mut i = 0;
-    while i < run.len() {
+    for i in 0..run.len() {
         run[i] = 0;
-        i += 1;
     }
 }
 

@@ -232,10 +232,8 @@ pub fn hand_out(r: Reply, out: &mut [u8]) -> usize
 {
     let n = r.length;
     let bytes = r.bytes;
-    let mut i = 0;
-    while i < n {
+    for i in 0..n {
         out[i] = bytes[i];
-        i += 1;
     }
     n
 }

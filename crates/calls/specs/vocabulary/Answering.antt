@@ -1,8 +1,8 @@
 -- What the tests of answer say: of the ends that a request still lists.
 use Rattle.std.specs.Prelude.{ℕ, ◌≤◌, Bool, true, ◌&&◌, List, ◌≡◌, ltb, length, if◌then◌else◌}
 use Rattle.rows.specs.declared.Request.{Request}
-use Rattle.rows.specs.declared.Found.{Found}
-use Rattle.rows.specs.declared.Found.TheVariants.{Nothing}
+use Rattle.std.specs.Prelude.{Option}
+use Rattle.std.specs.Prelude.{None}
 use Rattle.rows.specs.Lists.{any, member, some}
 use Rattle.rows.specs.Codes.{is_end}
 use Rattle.rows.specs.Tables.{State, row_of, lists}
@@ -23,10 +23,10 @@ abbrev pub HasBoth : List ℕ → ℕ → ℕ → State → Type 0
 HasBoth t n m st = Represents t st × (n ≡ length st.rows) × (m ≡ length st.requests)
 
 -- the slot of the row e where it is an end, as a look-up answers it
-unfoldable pub end_slot : State → ℕ → Found
-end_slot st e = if is_end (row_of st.rows e).kind then found_slot (row_slot st.rows e) else Nothing
+unfoldable pub end_slot : State → ℕ → Option ℕ
+end_slot st e = if is_end (row_of st.rows e).kind then found_slot (row_slot st.rows e) else None
 
-abbrev pub FindsEnd : List ℕ → ℕ → ℕ → Found → Type 0
+abbrev pub FindsEnd : List ℕ → ℕ → ℕ → Option ℕ → Type 0
 FindsEnd t n e r = (st : State) → HasRows t n st → r ≡ end_slot st e
 
 -- e is an item that is an end

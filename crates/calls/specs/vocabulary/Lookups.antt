@@ -1,7 +1,7 @@
 -- What the look-ups that the calls share answer, over words that represent a state with so many rows or requests.
 use Rattle.std.specs.Prelude.{ℕ, suc, ◌≤◌, List, ◌≡◌, eqb, length, if◌then◌else◌}
-use Rattle.rows.specs.declared.Found.{Found}
-use Rattle.rows.specs.declared.Found.TheVariants.{Nothing}
+use Rattle.std.specs.Prelude.{Option}
+use Rattle.std.specs.Prelude.{None}
 use Rattle.rows.specs.Tables.{State, row_of, depth_over}
 use Rattle.rows.specs.Layout.{row_slot}
 use Rattle.rows.specs.Codes.{in_clist}
@@ -21,22 +21,22 @@ abbrev pub StandsAt : State → ℕ → ℕ → Type 0
 StandsAt st e i = row_slot st.rows e ≡ suc i
 
 -- the slot of the row e where it is in the place, as a look-up answers it
-unfoldable pub slot_in : State → ℕ → ℕ → Found
-slot_in st place e = if eqb (row_of st.rows e).place place then found_slot (row_slot st.rows e) else Nothing
+unfoldable pub slot_in : State → ℕ → ℕ → Option ℕ
+slot_in st place e = if eqb (row_of st.rows e).place place then found_slot (row_slot st.rows e) else None
 
 -- r is the slot of row e, where it is in the place
-abbrev pub FindsIn : List ℕ → ℕ → ℕ → ℕ → Found → Type 0
+abbrev pub FindsIn : List ℕ → ℕ → ℕ → ℕ → Option ℕ → Type 0
 FindsIn t n place e r = (st : State) → HasRows t n st → r ≡ slot_in st place e
 
 -- r is the slot of row e, where process p holds it
-abbrev pub FindsHeld : List ℕ → ℕ → ℕ → ℕ → Found → Type 0
+abbrev pub FindsHeld : List ℕ → ℕ → ℕ → ℕ → Option ℕ → Type 0
 FindsHeld t n p e r = (st : State) → HasRows t n st → p ≤ PROCESSES → r ≡ slot_in st (in_clist p) e
 
 -- r is the slot of the request q; of the newest request on port c
-abbrev pub FindsRequestAmong : List ℕ → ℕ → ℕ → Found → Type 0
+abbrev pub FindsRequestAmong : List ℕ → ℕ → ℕ → Option ℕ → Type 0
 FindsRequestAmong t m q r = (st : State) → HasRequests t m st → r ≡ found_slot (request_slot st.requests q)
 
-abbrev pub FindsOpenAmong : List ℕ → ℕ → ℕ → Found → Type 0
+abbrev pub FindsOpenAmong : List ℕ → ℕ → ℕ → Option ℕ → Type 0
 FindsOpenAmong t m c r = (st : State) → HasRequests t m st → r ≡ found_slot (open_slot st.requests c)
 
 -- r is the source word of row e: its slot plus 1, 0 where there is none

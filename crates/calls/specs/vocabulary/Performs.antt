@@ -1,6 +1,6 @@
 -- What the calls' functions answer: the numbers of refusals, and that answer, words and records are the definition's.
 use Rattle.std.specs.Prelude.{ℕ, suc, ◌+◌, ◌≤◌, Bool, true, ◌&&◌, List, [], ◌∷◌, ◌≡◌, eqb, length}
-use Rattle.rows.specs.declared.Found.{Found}
+use Rattle.std.specs.Prelude.{Option}
 use Rattle.rows.specs.declared.Process.{Process}
 use Rattle.rows.specs.Lists.{any, member, some}
 use Rattle.rows.specs.Codes.{is_subdirectory, is_server, in_clist, in_node}
@@ -146,7 +146,7 @@ RefusesClose t i c r =
 
 -- ---- fetch, answer
 -- r is the slot of the request that the server sees at its end, which stands in slot i
-abbrev pub FindsAsked : List ℕ → ℕ → ℕ → Found → Type 0
+abbrev pub FindsAsked : List ℕ → ℕ → ℕ → Option ℕ → Type 0
 FindsAsked t m i r =
     (st : State) (e : ℕ) → HasRequests t m st → StandsAt st e i
     → r ≡ found_slot (open_slot st.requests (row_of st.rows e).object)

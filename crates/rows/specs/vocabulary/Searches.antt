@@ -2,20 +2,20 @@
 use Rattle.std.specs.Prelude.{◌≡◌, ℕ, ◌+◌, ◌<◌, ◌≤◌, Bool, true, ◌&&◌, List, ◌≢◌, nat_le, slice_index, if◌then◌else◌}
 use Rattle.rows.specs.Lists.{some}
 use Rattle.rows.specs.Layout.{leading}
-use Rattle.rows.specs.declared.Found.{Found}
-use Rattle.rows.specs.declared.Found.TheVariants.{At, Nothing}
+use Rattle.std.specs.Prelude.{Option}
+use Rattle.std.specs.Prelude.{Some, None}
 
 -- the first k words rise strictly
 unfoldable pub Ascending : ℕ → List ℕ → Type 0
 Ascending k l = (i j : ℕ) → i < j → j < k → slice_index l i < slice_index l j
 
 -- what is found is the last position of n among the first k words, if there is any
-unfoldable pub LastAt : List ℕ → ℕ → ℕ → Found → Type 0
-LastAt l k n (At i) = (i < k) × (slice_index l i ≡ n) × ((j : ℕ) → i < j → j < k → slice_index l j ≢ n)
-LastAt l k n Nothing = (j : ℕ) → j < k → slice_index l j ≢ n
+unfoldable pub LastAt : List ℕ → ℕ → ℕ → Option ℕ → Type 0
+LastAt l k n (Some i) = (i < k) × (slice_index l i ≡ n) × ((j : ℕ) → i < j → j < k → slice_index l j ≢ n)
+LastAt l k n None = (j : ℕ) → j < k → slice_index l j ≢ n
 
 -- the same, if the first k words rise
-abbrev pub LastAtIfAscending : List ℕ → ℕ → ℕ → Found → Type 0
+abbrev pub LastAtIfAscending : List ℕ → ℕ → ℕ → Option ℕ → Type 0
 LastAtIfAscending l k n r = Ascending k l → LastAt l k n r
 
 -- ---- words in use

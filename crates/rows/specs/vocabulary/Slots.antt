@@ -2,8 +2,8 @@
 use Rattle.std.specs.Prelude.{ℕ, zero, suc, ◌<◌, List, [], ◌∷◌, length, ◌==◌, if◌then◌else◌}
 use Rattle.rows.specs.declared.Row.{Row}
 use Rattle.rows.specs.declared.Request.{Request}
-use Rattle.rows.specs.declared.Found.{Found}
-use Rattle.rows.specs.declared.Found.TheVariants.{At, Nothing}
+use Rattle.std.specs.Prelude.{Option}
+use Rattle.std.specs.Prelude.{Some, None}
 use Rattle.rows.specs.Lists.{slot_with}
 use Rattle.rows.specs.Setters.{with_sources}
 unfoldable pub use Rattle.rows.specs.Layout.{slotted}
@@ -16,14 +16,14 @@ unfoldable pub open_slot : List Request → ℕ → ℕ
 open_slot vs c = slot_with (λ v. v.port) vs c
 
 -- a slot plus 1 as a look-up's answer
-unfoldable pub found_slot : ℕ → Found
-found_slot zero = Nothing
-found_slot (suc i) = At i
+unfoldable pub found_slot : ℕ → Option ℕ
+found_slot zero = None
+found_slot (suc i) = Some i
 
 -- what is found is below a count
-unfoldable pub Within : ℕ → Found → Type 0
-Within k (At i) = i < k
-Within k Nothing = Unit {0}
+unfoldable pub Within : ℕ → Option ℕ → Type 0
+Within k (Some i) = i < k
+Within k None = Unit {0}
 
 -- the number of the row at a slot plus 1, 0 for none
 unfoldable pub number_of_slot : List Row → ℕ → ℕ

@@ -25,7 +25,7 @@ pub answer_end-requires : goal.answer_end-requires
 answer_end-requires c =
     let found = c.held_by in
     let count = c.count_rows-n in
-    (c.requires.0, c.requires.1, count.ensures.within, omega (arith, count.ensures.within, at-below count.result found.result c.in-At.i found.ensures.within c.in-At.is))
+    (c.requires.0, c.requires.1, count.ensures.within, omega (arith, count.ensures.within, at-below count.result found.result c.in-Some.i found.ensures.within c.in-Some.is))
 
 pub returns : goal.returns
 returns c =
@@ -35,7 +35,7 @@ returns c =
     let a = c.args in record {
       performs = (λ st sd rep same listed.
           let counted = count.ensures.counted st rep in
-          let here = found_in st (in_clist a.p) a.e found.result c.in-At.i (found.ensures.found st (rep, counted) c.requires.2.1) c.in-At.is in
+          let here = found_in st (in_clist a.p) a.e found.result c.in-Some.i (found.ensures.found st (rep, counted) c.requires.2.1) c.in-Some.is in
           end.ensures.performs st a.e sd rep counted same here c.requires.2.1);
       long = end.ensures.long;
     }

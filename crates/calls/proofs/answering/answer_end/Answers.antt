@@ -50,7 +50,7 @@ pub answer_refusal-k-requires : goal.answer_refusal-k-requires
 answer_refusal-k-requires c =
     let found = c.asked_at in
     let count = c.count_requests-m in
-    (c.requires.0, c.requires.2, count.ensures.within, omega (arith, count.ensures.within, at-below count.result found.result c.in-At.j found.ensures.within c.in-At.is))
+    (c.requires.0, c.requires.2, count.ensures.within, omega (arith, count.ensures.within, at-below count.result found.result c.in-Some.j found.ensures.within c.in-Some.is))
 
 pub returns-then-k-ne0 : goal.returns-then-k-ne0
 unfolding refusals
@@ -62,7 +62,7 @@ returns-then-k-ne0 c =
       performs = (λ st e sd rep count same m few.
           let requests = counted.ensures.counted st rep in
           let server = is-server (row_of st.rows e).kind (sym (row-words rep e a.i m.0).kind ∙ c.if-t-i-ne-A_SERVER_END.false) in
-          let slot = found_at (open_slot st.requests (row_of st.rows e).object) c.in-At.j (found.ensures.found st e (rep, requests) m.0) c.in-At.is in
+          let slot = found_at (open_slot st.requests (row_of st.rows e).object) c.in-Some.j (found.ensures.found st e (rep, requests) m.0) c.in-Some.is in
           refused-agrees st (Call.Answer a.p e a.served) rep same no.result (no.ensures st e (rep, count, requests) (m.1, server, slot) few) c.if-k-ne0.true);
       long = (c.requires.0, c.requires.1);
     }
@@ -71,19 +71,19 @@ pub overflow_add-q : goal.overflow_add-q
 overflow_add-q c =
     let found = c.asked_at in
     let count = c.count_requests-m in
-    record { fits = omega (arith, count.ensures.within, at-below count.result found.result c.in-At.j found.ensures.within c.in-At.is) }
+    record { fits = omega (arith, count.ensures.within, at-below count.result found.result c.in-Some.j found.ensures.within c.in-Some.is) }
 
 pub offset_bounds-t-j : goal.offset_bounds-t-j
 offset_bounds-t-j c =
     let found = c.asked_at in
     let count = c.count_requests-m in
-    record { fits = omega (arith, count.ensures.within, at-below count.result found.result c.in-At.j found.ensures.within c.in-At.is) }
+    record { fits = omega (arith, count.ensures.within, at-below count.result found.result c.in-Some.j found.ensures.within c.in-Some.is) }
 
 pub bounds-t-j : goal.bounds-t-j
 bounds-t-j c =
     let found = c.asked_at in
     let count = c.count_requests-m in
-    omega (arith, c.requires.0, count.ensures.within, at-below count.result found.result c.in-At.j found.ensures.within c.in-At.is)
+    omega (arith, c.requires.0, count.ensures.within, at-below count.result found.result c.in-Some.j found.ensures.within c.in-Some.is)
 
 pub returns : goal.returns
 unfolding refusals asked_of
@@ -97,8 +97,8 @@ returns c =
           let port = (row_of st.rows e).object in
           let requests = counted.ensures.counted st rep in
           let server = is-server (row_of st.rows e).kind (sym (row-words rep e a.i m.0).kind ∙ c.if-t-i-ne-A_SERVER_END.false) in
-          let slot = found_at (open_slot st.requests port) c.in-At.j (found.ensures.found st e (rep, requests) m.0) c.in-At.is in
+          let slot = found_at (open_slot st.requests port) c.in-Some.j (found.ensures.found st e (rep, requests) m.0) c.in-Some.is in
           accepted-agrees st (Call.Answer a.p e a.served) (sym c.if-k-ne0.false ∙ no.ensures st e (rep, count, requests) (m.1, server, slot) few)
-          (answered-request st a.p e _ a.served _ (open-words rep port c.in-At.j slot).number (closed.ensures.closed st sd rep same)));
+          (answered-request st a.p e _ a.served _ (open-words rep port c.in-Some.j slot).number (closed.ensures.closed st sd rep same)));
       long = closed.ensures.long;
     }

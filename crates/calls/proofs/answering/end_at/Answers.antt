@@ -17,26 +17,26 @@ returns-in_default c =
 pub overflow_add-i : goal.overflow_add-i
 overflow_add-i c =
     let found = c.row_among in
-    record { fits = omega (arith, c.requires.1, at-below c.args.n found.result c.in-At.i found.ensures.within c.in-At.is) }
+    record { fits = omega (arith, c.requires.1, at-below c.args.n found.result c.in-Some.i found.ensures.within c.in-Some.is) }
 
 pub offset_bounds-t-i : goal.offset_bounds-t-i
 offset_bounds-t-i c =
     let found = c.row_among in
-    record { fits = omega (arith, c.requires.1, at-below c.args.n found.result c.in-At.i found.ensures.within c.in-At.is) }
+    record { fits = omega (arith, c.requires.1, at-below c.args.n found.result c.in-Some.i found.ensures.within c.in-Some.is) }
 
 pub bounds-t-i : goal.bounds-t-i
 bounds-t-i c =
     let found = c.row_among in
-    omega (arith, c.requires.0, c.requires.1, at-below c.args.n found.result c.in-At.i found.ensures.within c.in-At.is)
+    omega (arith, c.requires.0, c.requires.1, at-below c.args.n found.result c.in-Some.i found.ensures.within c.in-Some.is)
 
 pub returns-then-is_end : goal.returns-then-is_end
 returns-then-is_end c =
     let found = c.row_among in
     let a = c.args in record {
-      within = (unfold Within in at-below a.n found.result c.in-At.i found.ensures.within c.in-At.is);
+      within = (unfold Within in at-below a.n found.result c.in-Some.i found.ensures.within c.in-Some.is);
       found = (λ st h.
-          let slot : row_slot st.rows a.e ≡ suc c.in-At.i = found_at (row_slot st.rows a.e) c.in-At.i (found.ensures.found st h.0 h.1) c.in-At.is in
-          end-here st a.e c.in-At.i slot (ap is_end (sym (row-words h.0 a.e c.in-At.i slot).kind) ∙ sym c.is_end.ensures ∙ c.if-is_end.true));
+          let slot : row_slot st.rows a.e ≡ suc c.in-Some.i = found_at (row_slot st.rows a.e) c.in-Some.i (found.ensures.found st h.0 h.1) c.in-Some.is in
+          end-here st a.e c.in-Some.i slot (ap is_end (sym (row-words h.0 a.e c.in-Some.i slot).kind) ∙ sym c.is_end.ensures ∙ c.if-is_end.true));
     }
 
 pub returns : goal.returns
@@ -45,6 +45,6 @@ returns c =
     let a = c.args in record {
       within = (unfold Within in tt);
       found = (λ st h.
-          let slot : row_slot st.rows a.e ≡ suc c.in-At.i = found_at (row_slot st.rows a.e) c.in-At.i (found.ensures.found st h.0 h.1) c.in-At.is in
-          end-other st a.e (ap is_end (sym (row-words h.0 a.e c.in-At.i slot).kind) ∙ sym c.is_end.ensures ∙ c.if-is_end.false));
+          let slot : row_slot st.rows a.e ≡ suc c.in-Some.i = found_at (row_slot st.rows a.e) c.in-Some.i (found.ensures.found st h.0 h.1) c.in-Some.is in
+          end-other st a.e (ap is_end (sym (row-words h.0 a.e c.in-Some.i slot).kind) ∙ sym c.is_end.ensures ∙ c.if-is_end.false));
     }

@@ -19,7 +19,7 @@ returns-in_default-held_by c =
     let found = c.end_at in
     let a = c.args in
     λ st v h few same.
-    let (at, end) = an-end st a.e h.0 found.result c.in-At.field-0 (found.ensures.found st (h.0, h.1)) c.in-At.is in
+    let (at, end) = an-end st a.e h.0 found.result c.in-Some.field-0 (found.ensures.found st (h.0, h.1)) c.in-Some.is in
     let none = not-in-clist st a.p a.e kept.result (kept.ensures.found st (h.0, h.1) few) c.in_default-held_by.is in
     and_both end (sym (away st a.e a.p v (not-held st a.p a.e none)))
 
@@ -29,6 +29,6 @@ returns c =
     let found = c.end_at in
     let a = c.args in
     λ st v h few same.
-    let (at, end) = an-end st a.e h.0 found.result c.in-At.field-0 (found.ensures.found st (h.0, h.1)) c.in-At.is in
-    let (slot, here) = found_in st (in_clist a.p) a.e kept.result c.in-At-held_by.field-0 (kept.ensures.found st (h.0, h.1) few) c.in-At-held_by.is in
-    and_both end (c.listed_newer.ensures st h.0 h.2 (row-some h.0 a.e c.in-At.field-0 at).1 ∙ sym (with-caller st a.e a.p v (held st a.p a.e here) a.q same))
+    let (at, end) = an-end st a.e h.0 found.result c.in-Some.field-0 (found.ensures.found st (h.0, h.1)) c.in-Some.is in
+    let (slot, here) = found_in st (in_clist a.p) a.e kept.result c.in-Some-held_by.field-0 (kept.ensures.found st (h.0, h.1) few) c.in-Some-held_by.is in
+    and_both end (c.listed_newer.ensures st h.0 h.2 (row-some h.0 a.e c.in-Some.field-0 at).1 ∙ sym (with-caller st a.e a.p v (held st a.p a.e here) a.q same))

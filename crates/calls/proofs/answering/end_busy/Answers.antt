@@ -17,7 +17,7 @@ returns-in_default c =
 pub asked_at-requires : goal.asked_at-requires
 asked_at-requires c =
     let found = c.end_at in
-    (c.requires.0, c.requires.2, omega (arith, c.requires.1, at-below c.args.n found.result c.in-At.i found.ensures.within c.in-At.is))
+    (c.requires.0, c.requires.2, omega (arith, c.requires.1, at-below c.args.n found.result c.in-Some.i found.ensures.within c.in-Some.is))
 
 pub returns-in_default-asked_at : goal.returns-in_default-asked_at
 returns-in_default-asked_at c =
@@ -25,7 +25,7 @@ returns-in_default-asked_at c =
     let found = c.end_at in
     let a = c.args in
     λ st h.
-    let (at, end) = an-end st a.e h.0 found.result c.in-At.i (found.ensures.found st (h.0, h.1)) c.in-At.is in
+    let (at, end) = an-end st a.e h.0 found.result c.in-Some.i (found.ensures.found st (h.0, h.1)) c.in-Some.is in
     let none = found_nothing (open_slot st.requests (row_of st.rows a.e).object) (asked.ensures.found st a.e (h.0, h.2) at) c.in_default-asked_at.is in
     and_both end (sym (not-busy st a.e (asked-none st a.e none)))
 
@@ -35,6 +35,6 @@ returns c =
     let found = c.end_at in
     let a = c.args in
     λ st h.
-    let (at, end) = an-end st a.e h.0 found.result c.in-At.i (found.ensures.found st (h.0, h.1)) c.in-At.is in
-    let slot = found_at (open_slot st.requests (row_of st.rows a.e).object) c.in-At-asked_at.field-0 (asked.ensures.found st a.e (h.0, h.2) at) c.in-At-asked_at.is in
-    and_both end (sym (is-busy st a.e (asked-some st a.e h.0 c.in-At-asked_at.field-0 slot)))
+    let (at, end) = an-end st a.e h.0 found.result c.in-Some.i (found.ensures.found st (h.0, h.1)) c.in-Some.is in
+    let slot = found_at (open_slot st.requests (row_of st.rows a.e).object) c.in-Some-asked_at.field-0 (asked.ensures.found st a.e (h.0, h.2) at) c.in-Some-asked_at.is in
+    and_both end (sym (is-busy st a.e (asked-some st a.e h.0 c.in-Some-asked_at.field-0 slot)))

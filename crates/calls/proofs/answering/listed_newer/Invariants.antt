@@ -6,6 +6,3 @@ use Rattle.calls.proofs.answering.listed_newer.Given as goal
 
 abbrev pub invariant-loop-k : goal.invariant-loop-k
 invariant-loop-k l = (l.k ≤ l.m) × (l.found ≡ newer_to l.t l.q l.e l.k)
-
-abbrev pub decreases-loop-k : goal.decreases-loop-k
-decreases-loop-k l = l.m - l.k

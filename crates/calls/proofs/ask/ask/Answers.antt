@@ -32,7 +32,7 @@ pub ask_items-requires : goal.ask_items-requires
 ask_items-requires c =
     let found = c.held_by in
     let count = c.count_rows-n in
-    (c.requires.0, count.ensures.within, at-below count.result found.result c.in-At.i found.ensures.within c.in-At.is)
+    (c.requires.0, count.ensures.within, at-below count.result found.result c.in-Some.i found.ensures.within c.in-Some.is)
 
 pub returns : goal.returns
 returns c =
@@ -43,7 +43,7 @@ returns c =
     let a = c.args in record {
       performs = (λ ps st sd rep same listed.
           let counted = count.ensures.counted st rep in
-          let here = found_in st (in_clist a.p) a.c found.result c.in-At.i (found.ensures.found st (rep, counted) c.requires.1.1) c.in-At.is in
+          let here = found_in st (in_clist a.p) a.c found.result c.in-Some.i (found.ensures.found st (rep, counted) c.requires.1.1) c.in-Some.is in
           records-stay st (Ask a.p a.c a.items) same (ask-records st a.p a.c a.items) done.result
           (done.ensures.answers st sd (rep, counted) (here, sym (next.ensures ∙ represented-next rep)) c.requires.1.1));
       long = done.ensures.long;

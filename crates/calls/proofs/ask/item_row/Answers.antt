@@ -34,27 +34,27 @@ returns-in_default c =
 pub overflow_add-word : goal.overflow_add-word
 overflow_add-word c =
     let found = c.held_by in
-    record { fits = omega (arith, c.requires.1, at-below c.args.n found.result c.in-At.i found.ensures.within c.in-At.is) }
+    record { fits = omega (arith, c.requires.1, at-below c.args.n found.result c.in-Some.i found.ensures.within c.in-Some.is) }
 
 pub overflow_cast-word : goal.overflow_cast-word
 overflow_cast-word c =
     let found = c.held_by in
-    record { fits = omega (arith, c.requires.1, at-below c.args.n found.result c.in-At.i found.ensures.within c.in-At.is) }
+    record { fits = omega (arith, c.requires.1, at-below c.args.n found.result c.in-Some.i found.ensures.within c.in-Some.is) }
 
 pub overflow_add-i : goal.overflow_add-i
 overflow_add-i c =
     let found = c.held_by in
-    record { fits = omega (arith, c.requires.1, at-below c.args.n found.result c.in-At.i found.ensures.within c.in-At.is) }
+    record { fits = omega (arith, c.requires.1, at-below c.args.n found.result c.in-Some.i found.ensures.within c.in-Some.is) }
 
 pub offset_bounds-t-i : goal.offset_bounds-t-i
 offset_bounds-t-i c =
     let found = c.held_by in
-    record { fits = omega (arith, c.requires.1, at-below c.args.n found.result c.in-At.i found.ensures.within c.in-At.is) }
+    record { fits = omega (arith, c.requires.1, at-below c.args.n found.result c.in-Some.i found.ensures.within c.in-Some.is) }
 
 pub bounds-t-i : goal.bounds-t-i
 bounds-t-i c =
     let found = c.held_by in
-    omega (arith, c.requires.0, c.requires.1, at-below c.args.n found.result c.in-At.i found.ensures.within c.in-At.is)
+    omega (arith, c.requires.0, c.requires.1, at-below c.args.n found.result c.in-Some.i found.ensures.within c.in-Some.is)
 
 pub returns-then-is_end : goal.returns-then-is_end
 unfolding LookedFits moves item_row
@@ -62,11 +62,11 @@ returns-then-is_end c =
     let found = c.held_by in
     let a = c.args in
     let e = a.item.row in record {
-      fits = (omega (arith, at-below a.n found.result c.in-At.i found.ensures.within c.in-At.is), omega arith);
+      fits = (omega (arith, at-below a.n found.result c.in-Some.i found.ensures.within c.in-Some.is), omega arith);
       found = (λ st h few.
-          let (at, here) = found_in st (in_clist a.p) e found.result c.in-At.i (found.ensures.found st h few) c.in-At.is in
-          let end = ap is_end (sym (row-words h.0 e c.in-At.i at).kind) ∙ sym c.is_end.ensures ∙ c.if-is_end.true in
-          looked-held st a.p a.item (pos-some e (omega (arith, c.if-item-eq0.false))) (held st a.p e here) c.in-At.i at 0
+          let (at, here) = found_in st (in_clist a.p) e found.result c.in-Some.i (found.ensures.found st h few) c.in-Some.is in
+          let end = ap is_end (sym (row-words h.0 e c.in-Some.i at).kind) ∙ sym c.is_end.ensures ∙ c.if-is_end.true in
+          looked-held st a.p a.item (pos-some e (omega (arith, c.if-item-eq0.false))) (held st a.p e here) c.in-Some.i at 0
           (ap (λ (b : Bool). cond (not b) 1 0) (sym end)));
     }
 
@@ -76,10 +76,10 @@ returns c =
     let found = c.held_by in
     let a = c.args in
     let e = a.item.row in record {
-      fits = (omega (arith, at-below a.n found.result c.in-At.i found.ensures.within c.in-At.is), omega arith);
+      fits = (omega (arith, at-below a.n found.result c.in-Some.i found.ensures.within c.in-Some.is), omega arith);
       found = (λ st h few.
-          let (at, here) = found_in st (in_clist a.p) e found.result c.in-At.i (found.ensures.found st h few) c.in-At.is in
-          let end = ap is_end (sym (row-words h.0 e c.in-At.i at).kind) ∙ sym c.is_end.ensures ∙ c.if-is_end.false in
-          looked-held st a.p a.item (pos-some e (omega (arith, c.if-item-eq0.false))) (held st a.p e here) c.in-At.i at 1
+          let (at, here) = found_in st (in_clist a.p) e found.result c.in-Some.i (found.ensures.found st h few) c.in-Some.is in
+          let end = ap is_end (sym (row-words h.0 e c.in-Some.i at).kind) ∙ sym c.is_end.ensures ∙ c.if-is_end.false in
+          looked-held st a.p a.item (pos-some e (omega (arith, c.if-item-eq0.false))) (held st a.p e here) c.in-Some.i at 1
           (ap (λ (b : Bool). cond (not b) 1 0) (sym end)));
     }

@@ -23,7 +23,7 @@ pub chain_at-requires : goal.chain_at-requires
 chain_at-requires c =
     let found = c.row_among in
     let count = c.count_rows-n in
-    (c.requires, omega (arith, count.ensures.within, at-below count.result found.result c.in-At.i found.ensures.within c.in-At.is))
+    (c.requires, omega (arith, count.ensures.within, at-below count.result found.result c.in-Some.i found.ensures.within c.in-Some.is))
 
 pub returns : goal.returns
 unfolding refusals
@@ -32,6 +32,6 @@ returns c =
     let count = c.count_rows-n in
     let a = c.args in
     λ ps st sd rep same listed.
-    let at = found_at (row_slot st.rows a.e) c.in-At.i (found.ensures.found st rep (count.ensures.counted st rep)) c.in-At.is in
-    accepted-agrees st (Chain a.e) (chain-row st a.e (row-some rep a.e c.in-At.i at).0)
+    let at = found_at (row_slot st.rows a.e) c.in-Some.i (found.ensures.found st rep (count.ensures.counted st rep)) c.in-Some.is in
+    accepted-agrees st (Chain a.e) (chain-row st a.e (row-some rep a.e c.in-Some.i at).0)
     (told-chain st a.e c.chain_at.result rep same (c.chain_at.ensures st a.e sd rep at))

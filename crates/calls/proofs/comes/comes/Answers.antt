@@ -34,7 +34,7 @@ pub comes-told-requires : goal.comes-told-requires
 comes-told-requires c =
     let found = c.row_among in
     let count = c.count_rows-n in
-    (c.requires, omega (arith, count.ensures.within, at-below count.result found.result c.in-At.i found.ensures.within c.in-At.is))
+    (c.requires, omega (arith, count.ensures.within, at-below count.result found.result c.in-Some.i found.ensures.within c.in-Some.is))
 
 pub returns : goal.returns
 unfolding refusals
@@ -45,8 +45,8 @@ returns c =
     let rows = c.count_rows-n in
     let a = c.args in
     λ ps st sd rep same listed.
-    let at = found_at (row_slot st.rows a.e) c.in-At.i (row.ensures.found st rep (rows.ensures.counted st rep)) c.in-At.is in
-    let there = found_at (request_slot st.requests a.q) c.in-At-request_among.field-0 (request.ensures.found st (rep, requests.ensures.counted st rep)) c.in-At-request_among.is in
-    let (number, known) = request-some rep a.q c.in-At-request_among.field-0 there in
-    accepted-agrees st (Comes a.e a.q) (comes-both st a.e a.q (row-some rep a.e c.in-At.i at).0 number)
+    let at = found_at (row_slot st.rows a.e) c.in-Some.i (row.ensures.found st rep (rows.ensures.counted st rep)) c.in-Some.is in
+    let there = found_at (request_slot st.requests a.q) c.in-Some-request_among.field-0 (request.ensures.found st (rep, requests.ensures.counted st rep)) c.in-Some-request_among.is in
+    let (number, known) = request-some rep a.q c.in-Some-request_among.field-0 there in
+    accepted-agrees st (Comes a.e a.q) (comes-both st a.e a.q (row-some rep a.e c.in-Some.i at).0 number)
     (told-comes st a.e a.q c.comes-told.result rep same (c.comes-told.ensures st a.e sd rep at known))

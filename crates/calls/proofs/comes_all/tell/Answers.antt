@@ -30,7 +30,7 @@ returns-in_default-request_among c =
 pub is_marked-comes-requires : goal.is_marked-comes-requires
 is_marked-comes-requires c =
     let found = c.row_among in
-    (omega (arith, at-below c.args.n found.result c.in-At.i found.ensures.within c.in-At.is, c.requires.1), c.requires.3)
+    (omega (arith, at-below c.args.n found.result c.in-Some.i found.ensures.within c.in-Some.is, c.requires.1), c.requires.3)
 
 pub overflow_add-result : goal.overflow_add-result
 overflow_add-result c = record { fits = omega (arith, byte-few c.is_marked-comes.result) }
@@ -41,8 +41,8 @@ returns c =
     let row = c.row_among in
     let a = c.args in
     λ st qs so rows requests right is.
-    let at = found_at (row_slot st.rows a.e) c.in-At.i (row.ensures.found st rows.0 rows.1) c.in-At.is in
-    let there = found_at (request_slot st.requests a.q) c.in-At-request_among.field-0 (request.ensures.found st requests) c.in-At-request_among.is in
-    let (number, known) = request-some rows.0 a.q c.in-At-request_among.field-0 there in
-    told-by st a.e a.q c.if-e-eq0.false (comes-both st a.e a.q (row-some rows.0 a.e c.in-At.i at).0 number) c.is_marked-comes.result
-    (c.is_marked-comes.ensures ∙ mark-told st qs a.marks.now a.e c.in-At.i a.k a.q so rows right at c.requires.3 is known)
+    let at = found_at (row_slot st.rows a.e) c.in-Some.i (row.ensures.found st rows.0 rows.1) c.in-Some.is in
+    let there = found_at (request_slot st.requests a.q) c.in-Some-request_among.field-0 (request.ensures.found st requests) c.in-Some-request_among.is in
+    let (number, known) = request-some rows.0 a.q c.in-Some-request_among.field-0 there in
+    told-by st a.e a.q c.if-e-eq0.false (comes-both st a.e a.q (row-some rows.0 a.e c.in-Some.i at).0 number) c.is_marked-comes.result
+    (c.is_marked-comes.ensures ∙ mark-told st qs a.marks.now a.e c.in-Some.i a.k a.q so rows right at c.requires.3 is known)

@@ -7,6 +7,3 @@ use Rattle.calls.proofs.comes_all.tell_each.Given as goal
 
 abbrev pub invariant-loop-k : goal.invariant-loop-k
 invariant-loop-k l = (l.k ≤ 16) × (length l.told ≡ 16) × ToldTo l.t l.n l.m l.marks l.es l.qs l.k l.told
-
-abbrev pub decreases-loop-k : goal.decreases-loop-k
-decreases-loop-k l = 16 - l.k

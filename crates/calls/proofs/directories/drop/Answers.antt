@@ -31,7 +31,7 @@ pub drop_refusal-k-requires : goal.drop_refusal-k-requires
 drop_refusal-k-requires c =
     let found = c.held_by in
     let count = c.count_rows-n in
-    (c.requires.0, count.ensures.within, omega (arith, count.ensures.within, at-below count.result found.result c.in-At.i found.ensures.within c.in-At.is))
+    (c.requires.0, count.ensures.within, omega (arith, count.ensures.within, at-below count.result found.result c.in-Some.i found.ensures.within c.in-Some.is))
 
 pub returns-then-k-ne0 : goal.returns-then-k-ne0
 unfolding refusals
@@ -44,7 +44,7 @@ returns-then-k-ne0 c =
     let a = c.args in record {
       performs = (λ st sd rep same listed.
           let counted = count.ensures.counted st rep in
-          let here = found_in st (in_clist a.p) a.e found.result c.in-At.i (found.ensures.found st (rep, counted) pre.2.1) c.in-At.is in
+          let here = found_in st (in_clist a.p) a.e found.result c.in-Some.i (found.ensures.found st (rep, counted) pre.2.1) c.in-Some.is in
           let x = ap (λ (y : Process). y.through) (sym (at-process st (records_in a.ps.now) same a.p pre.2.0 read.result read.ensures)) in
           refused-agrees st (Drop a.p a.e) rep same ground.result (ground.ensures st a.p (rep, counted) here x) c.if-k-ne0.true);
       long = (pre.0, pre.1);
@@ -62,7 +62,7 @@ returns c =
     let a = c.args in record {
       performs = (λ st sd rep same listed.
           let counted = count.ensures.counted st rep in
-          let here = found_in st (in_clist a.p) a.e found.result c.in-At.i (found.ensures.found st (rep, counted) pre.2.1) c.in-At.is in
+          let here = found_in st (in_clist a.p) a.e found.result c.in-Some.i (found.ensures.found st (rep, counted) pre.2.1) c.in-Some.is in
           let x = ap (λ (y : Process). y.through) (sym (at-process st (records_in a.ps.now) same a.p pre.2.0 read.result read.ensures)) in
           accepted-agrees st (Drop a.p a.e) (sym c.if-k-ne0.false ∙ ground.ensures st a.p (rep, counted) here x)
           (dropped-row st a.p a.e _ (dropped.ensures.dropped st sd rep same)));

@@ -37,19 +37,19 @@ pub overflow_add-i : goal.overflow_add-i
 overflow_add-i c =
     let found = c.held_by in
     let count = c.count_rows-n in
-    record { fits = omega (arith, count.ensures.within, at-below count.result found.result c.in-At.i found.ensures.within c.in-At.is) }
+    record { fits = omega (arith, count.ensures.within, at-below count.result found.result c.in-Some.i found.ensures.within c.in-Some.is) }
 
 pub offset_bounds-t-i : goal.offset_bounds-t-i
 offset_bounds-t-i c =
     let found = c.held_by in
     let count = c.count_rows-n in
-    record { fits = omega (arith, count.ensures.within, at-below count.result found.result c.in-At.i found.ensures.within c.in-At.is) }
+    record { fits = omega (arith, count.ensures.within, at-below count.result found.result c.in-Some.i found.ensures.within c.in-Some.is) }
 
 pub bounds-t-i : goal.bounds-t-i
 bounds-t-i c =
     let found = c.held_by in
     let count = c.count_rows-n in
-    omega (arith, c.requires.0, count.ensures.within, at-below count.result found.result c.in-At.i found.ensures.within c.in-At.is)
+    omega (arith, c.requires.0, count.ensures.within, at-below count.result found.result c.in-Some.i found.ensures.within c.in-Some.is)
 
 pub returns-then-t-i-ne-A_SUBDIRECTORY : goal.returns-then-t-i-ne-A_SUBDIRECTORY
 unfolding refusals
@@ -58,9 +58,9 @@ returns-then-t-i-ne-A_SUBDIRECTORY c =
     let count = c.count_rows-n in
     let a = c.args in record {
       performs = (λ st sd rep same listed.
-          let (at, here) = found_in st (in_clist a.p) a.e found.result c.in-At.i (found.ensures.found st (rep, count.ensures.counted st rep) c.requires.2.1) c.in-At.is in
+          let (at, here) = found_in st (in_clist a.p) a.e found.result c.in-Some.i (found.ensures.found st (rep, count.ensures.counted st rep) c.requires.2.1) c.in-Some.is in
           refused-agrees st (Go a.p a.e) rep same 8
-          (go-eight st a.p a.e c.if-e-eq0.false (held st a.p a.e here) (λ k. c.if-t-i-ne-A_SUBDIRECTORY.true ((row-words rep a.e c.in-At.i at).kind ∙ k))) (λ z. absurd (omega arith)));
+          (go-eight st a.p a.e c.if-e-eq0.false (held st a.p a.e here) (λ k. c.if-t-i-ne-A_SUBDIRECTORY.true ((row-words rep a.e c.in-Some.i at).kind ∙ k))) (λ z. absurd (omega arith)));
       long = c.requires.1;
     }
 
@@ -69,7 +69,7 @@ go_through-requires c =
     let found = c.held_by in
     let count = c.count_rows-n in
     let pre = c.requires in
-    (pre.0, omega (arith, count.ensures.within, at-below count.result found.result c.in-At.i found.ensures.within c.in-At.is), pre.1, pre.2)
+    (pre.0, omega (arith, count.ensures.within, at-below count.result found.result c.in-Some.i found.ensures.within c.in-Some.is), pre.1, pre.2)
 
 pub returns : goal.returns
 unfolding refusals
@@ -79,9 +79,9 @@ returns c =
     let count = c.count_rows-n in
     let a = c.args in record {
       performs = (λ st sd rep same listed.
-          let (at, here) = found_in st (in_clist a.p) a.e found.result c.in-At.i (found.ensures.found st (rep, count.ensures.counted st rep) c.requires.2.1) c.in-At.is in
+          let (at, here) = found_in st (in_clist a.p) a.e found.result c.in-Some.i (found.ensures.found st (rep, count.ensures.counted st rep) c.requires.2.1) c.in-Some.is in
           accepted-agrees st (Go a.p a.e)
-          (go-allowed st a.p a.e c.if-e-eq0.false (held st a.p a.e here) (sym (row-words rep a.e c.in-At.i at).kind ∙ c.if-t-i-ne-A_SUBDIRECTORY.false))
+          (go-allowed st a.p a.e c.if-e-eq0.false (held st a.p a.e here) (sym (row-words rep a.e c.in-Some.i at).kind ∙ c.if-t-i-ne-A_SUBDIRECTORY.false))
           (went-through st a.p a.e _ rep c.if-e-eq0.false (there.ensures.there st rep at same)));
       long = there.ensures.long;
     }

@@ -37,7 +37,7 @@ pub hold_row-requires : goal.hold_row-requires
 hold_row-requires c =
     let found = c.row_in in
     let count = c.count_rows-n in
-    (c.requires.0, count.ensures.within, at-below count.result found.result c.in-At.i found.ensures.within c.in-At.is, c.row_word-via.ensures.within)
+    (c.requires.0, count.ensures.within, at-below count.result found.result c.in-Some.i found.ensures.within c.in-Some.is, c.row_word-via.ensures.within)
 
 pub returns : goal.returns
 unfolding caller_of
@@ -52,7 +52,7 @@ returns c =
       performs = (λ st sd rep same listed.
           let counted = count.ensures.counted st rep in
           let x = at-process st (records_in a.ps.now) same a.p pre.2.0 read.result read.ensures in
-          let (at, here) = found_in st _ a.s found.result c.in-At.i (found.ensures.found st (rep, counted)) c.in-At.is in
+          let (at, here) = found_in st _ a.s found.result c.in-Some.i (found.ensures.found st (rep, counted)) c.in-Some.is in
           let active = in-active st a.p a.s _ (ap (λ (y : Process). y.active) x) _ here in
           let word = ap (λ (y : Process). row_slot st.rows y.through) (sym x) ∙ sym (via.ensures.word st (rep, counted)) in
           records-stay st (Hold a.p a.s) same (hold-records st a.p a.s) row.result

@@ -30,7 +30,7 @@ pub register_row-requires : goal.register_row-requires
 register_row-requires c =
     let found = c.held_by in
     let count = c.count_rows-n in
-    (c.requires.0, count.ensures.within, at-below count.result found.result c.in-At.i found.ensures.within c.in-At.is)
+    (c.requires.0, count.ensures.within, at-below count.result found.result c.in-Some.i found.ensures.within c.in-Some.is)
 
 pub returns : goal.returns
 returns c =
@@ -42,7 +42,7 @@ returns c =
     let a = c.args in record {
       performs = (λ st sd rep same listed.
           let counted = count.ensures.counted st rep in
-          let (at, here) = found_in st (in_clist a.p) a.e found.result c.in-At.i (found.ensures.found st (rep, counted) pre.2.1) c.in-At.is in
+          let (at, here) = found_in st (in_clist a.p) a.e found.result c.in-Some.i (found.ensures.found st (rep, counted) pre.2.1) c.in-Some.is in
           let node = ap (λ (x : Process). x.active) (sym (at-process st (records_in a.ps.now) same a.p pre.2.0 read.result read.ensures)) in
           records-stay st (Register a.p a.e) same (register-records st a.p a.e) row.result (row.ensures.answers st a.p a.e sd (rep, counted) (at, here) node));
       long = row.ensures.long;

@@ -26,7 +26,7 @@ pub fetch_end-requires : goal.fetch_end-requires
 fetch_end-requires c =
     let found = c.held_by in
     let count = c.count_rows-n in
-    (c.requires.0, count.ensures.within, at-below count.result found.result c.in-At.i found.ensures.within c.in-At.is)
+    (c.requires.0, count.ensures.within, at-below count.result found.result c.in-Some.i found.ensures.within c.in-Some.is)
 
 pub returns : goal.returns
 returns c =
@@ -36,7 +36,7 @@ returns c =
     let a = c.args in record {
       performs = (λ ps st sd rep same listed.
           let counted = count.ensures.counted st rep in
-          let here = found_in st (in_clist a.p) a.e found.result c.in-At.i (found.ensures.found st (rep, counted) c.requires.1.1) c.in-At.is in
+          let here = found_in st (in_clist a.p) a.e found.result c.in-Some.i (found.ensures.found st (rep, counted) c.requires.1.1) c.in-Some.is in
           records-stay st (Fetch a.p a.e) same (fetch-records st a.p a.e) end.result (end.ensures.answers st a.e sd (rep, counted) here c.requires.1.1));
       long = end.ensures.long;
     }

@@ -48,7 +48,7 @@ pub fetch_request-requires : goal.fetch_request-requires
 fetch_request-requires c =
     let found = c.asked_at in
     let count = c.count_requests-m in
-    (c.requires.0, c.requires.1, omega (arith, count.ensures.within, at-below count.result found.result c.in-At.j found.ensures.within c.in-At.is))
+    (c.requires.0, c.requires.1, omega (arith, count.ensures.within, at-below count.result found.result c.in-Some.j found.ensures.within c.in-Some.is))
 
 pub returns : goal.returns
 returns c =
@@ -59,7 +59,7 @@ returns c =
       answers = (λ st e sd h m few.
           let kind = (row_of st.rows e).kind in
           let server = is-server kind (sym (row-words h.0 e a.i m.0).kind ∙ c.if-t-i-ne-A_SERVER_END.false) in
-          let slot = found_at (open_slot st.requests (row_of st.rows e).object) c.in-At.j (found.ensures.found st e (h.0, count.ensures.counted st h.0) m.0) c.in-At.is in
+          let slot = found_at (open_slot st.requests (row_of st.rows e).object) c.in-Some.j (found.ensures.found st e (h.0, count.ensures.counted st h.0) m.0) c.in-Some.is in
           fetched.ensures.answers st e sd h (m.1, server, slot) few);
       long = fetched.ensures.long;
     }

@@ -27,7 +27,7 @@ returns-in_default c =
 pub set_place-requires : goal.set_place-requires
 set_place-requires c =
     let found = c.row_among in
-    (c.requires.0, omega (arith, c.requires.1, at-below c.args.n found.result c.in-At.i found.ensures.within c.in-At.is))
+    (c.requires.0, omega (arith, c.requires.1, at-below c.args.n found.result c.in-Some.i found.ensures.within c.in-Some.is))
 
 pub returns : goal.returns
 returns c =
@@ -35,7 +35,7 @@ returns c =
     let found = c.row_among in
     let a = c.args in record {
       placed = (λ st h.
-          let slot = found_at (row_slot st.rows a.e) c.in-At.i (found.ensures.found st h.0 h.1) c.in-At.is in
+          let slot = found_at (row_slot st.rows a.e) c.in-Some.i (found.ensures.found st h.0 h.1) c.in-Some.is in
           subst (λ (x : State). Represents put.new.t x) (one_placed a.place a.e st (pos-some a.e (omega (arith, c.if-e-eq0.false)))) (put.ensures.represents st a.e h.0 slot));
       long = put.ensures.long;
     }

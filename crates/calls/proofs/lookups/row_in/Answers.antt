@@ -16,27 +16,27 @@ returns-in_default c =
 pub overflow_add-i : goal.overflow_add-i
 overflow_add-i c =
     let found = c.row_among in
-    record { fits = omega (arith, c.requires.1, at-below c.args.n found.result c.in-At.i found.ensures.within c.in-At.is) }
+    record { fits = omega (arith, c.requires.1, at-below c.args.n found.result c.in-Some.i found.ensures.within c.in-Some.is) }
 
 pub offset_bounds-t-i : goal.offset_bounds-t-i
 offset_bounds-t-i c =
     let found = c.row_among in
-    record { fits = omega (arith, c.requires.1, at-below c.args.n found.result c.in-At.i found.ensures.within c.in-At.is) }
+    record { fits = omega (arith, c.requires.1, at-below c.args.n found.result c.in-Some.i found.ensures.within c.in-Some.is) }
 
 pub bounds-t-i : goal.bounds-t-i
 bounds-t-i c =
     let found = c.row_among in
-    omega (arith, c.requires.0, c.requires.1, at-below c.args.n found.result c.in-At.i found.ensures.within c.in-At.is)
+    omega (arith, c.requires.0, c.requires.1, at-below c.args.n found.result c.in-Some.i found.ensures.within c.in-Some.is)
 
 pub returns-then-t-i : goal.returns-then-t-i
 returns-then-t-i c =
     let a = c.args in
     let found = c.row_among in
     record {
-      within = (unfold Within in at-below a.n found.result c.in-At.i found.ensures.within c.in-At.is);
+      within = (unfold Within in at-below a.n found.result c.in-Some.i found.ensures.within c.in-Some.is);
       found = (λ st h.
-          let slot : row_slot st.rows a.e ≡ suc c.in-At.i = found_at (row_slot st.rows a.e) c.in-At.i (found.ensures.found st h.0 h.1) c.in-At.is in
-          in_place st a.place a.e c.in-At.i slot (sym (row-words h.0 a.e c.in-At.i slot).place ∙ c.if-t-i.true));
+          let slot : row_slot st.rows a.e ≡ suc c.in-Some.i = found_at (row_slot st.rows a.e) c.in-Some.i (found.ensures.found st h.0 h.1) c.in-Some.is in
+          in_place st a.place a.e c.in-Some.i slot (sym (row-words h.0 a.e c.in-Some.i slot).place ∙ c.if-t-i.true));
     }
 
 pub returns : goal.returns
@@ -46,6 +46,6 @@ returns c =
     record {
       within = (unfold Within in tt);
       found = (λ st h.
-          let slot : row_slot st.rows a.e ≡ suc c.in-At.i = found_at (row_slot st.rows a.e) c.in-At.i (found.ensures.found st h.0 h.1) c.in-At.is in
-          elsewhere st a.place a.e (λ p. c.if-t-i.false ((row-words h.0 a.e c.in-At.i slot).place ∙ p)));
+          let slot : row_slot st.rows a.e ≡ suc c.in-Some.i = found_at (row_slot st.rows a.e) c.in-Some.i (found.ensures.found st h.0 h.1) c.in-Some.is in
+          elsewhere st a.place a.e (λ p. c.if-t-i.false ((row-words h.0 a.e c.in-Some.i slot).place ∙ p)));
     }

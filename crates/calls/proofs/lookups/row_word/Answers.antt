@@ -16,14 +16,14 @@ returns-in_default c =
 pub overflow_add-result : goal.overflow_add-result
 overflow_add-result c =
     let found = c.row_among in
-    record { fits = omega (arith, c.requires.1, at-below c.args.n found.result c.in-At.i found.ensures.within c.in-At.is) }
+    record { fits = omega (arith, c.requires.1, at-below c.args.n found.result c.in-Some.i found.ensures.within c.in-Some.is) }
 
 pub overflow_cast-result : goal.overflow_cast-result
 overflow_cast-result c =
     let found = c.row_among in
-    record { fits = omega (arith, c.requires.1, at-below c.args.n found.result c.in-At.i found.ensures.within c.in-At.is) }
+    record { fits = omega (arith, c.requires.1, at-below c.args.n found.result c.in-Some.i found.ensures.within c.in-Some.is) }
 
 pub returns : goal.returns
 returns c =
     let found = c.row_among in
-    record { within = omega (arith, at-below c.args.n found.result c.in-At.i found.ensures.within c.in-At.is); word = (λ st h. add-one c.in-At.i ∙ sym (found_at (row_slot st.rows c.args.e) c.in-At.i (found.ensures.found st h.0 h.1) c.in-At.is)) }
+    record { within = omega (arith, at-below c.args.n found.result c.in-Some.i found.ensures.within c.in-Some.is); word = (λ st h. add-one c.in-Some.i ∙ sym (found_at (row_slot st.rows c.args.e) c.in-Some.i (found.ensures.found st h.0 h.1) c.in-Some.is)) }

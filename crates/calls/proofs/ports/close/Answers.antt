@@ -27,7 +27,7 @@ pub close_refusal-k-requires : goal.close_refusal-k-requires
 close_refusal-k-requires c =
     let found = c.held_by in
     let count = c.count_rows-n in
-    (c.requires.0, omega (arith, count.ensures.within, at-below count.result found.result c.in-At.i found.ensures.within c.in-At.is))
+    (c.requires.0, omega (arith, count.ensures.within, at-below count.result found.result c.in-Some.i found.ensures.within c.in-Some.is))
 
 pub returns-then-k-ne0 : goal.returns-then-k-ne0
 unfolding refusals
@@ -37,7 +37,7 @@ returns-then-k-ne0 c =
     let count = c.count_rows-n in
     let a = c.args in record {
       performs = (λ st sd rep same listed.
-          let here = found_in st (in_clist a.p) a.c found.result c.in-At.i (found.ensures.found st (rep, count.ensures.counted st rep) c.requires.2.1) c.in-At.is in
+          let here = found_in st (in_clist a.p) a.c found.result c.in-Some.i (found.ensures.found st (rep, count.ensures.counted st rep) c.requires.2.1) c.in-Some.is in
           refused-agrees st (Close a.p a.c) rep same no.result (no.ensures st a.p sd rep here) c.if-k-ne0.true);
       long = (c.requires.0, c.requires.1);
     }
@@ -51,7 +51,7 @@ returns c =
     let count = c.count_rows-n in
     let a = c.args in record {
       performs = (λ st sd rep same listed.
-          let here = found_in st (in_clist a.p) a.c found.result c.in-At.i (found.ensures.found st (rep, count.ensures.counted st rep) c.requires.2.1) c.in-At.is in
+          let here = found_in st (in_clist a.p) a.c found.result c.in-Some.i (found.ensures.found st (rep, count.ensures.counted st rep) c.requires.2.1) c.in-Some.is in
           accepted-agrees st (Close a.p a.c) (sym c.if-k-ne0.false ∙ no.ensures st a.p sd rep here)
           (closed-port st a.p a.c _ (closed.ensures.closed st sd rep same)));
       long = closed.ensures.long;

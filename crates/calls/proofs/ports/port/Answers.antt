@@ -25,7 +25,7 @@ pub port_row-requires : goal.port_row-requires
 port_row-requires c =
     let found = c.held_by in
     let count = c.count_rows-n in
-    (c.requires.0, count.ensures.within, at-below count.result found.result c.in-At.i found.ensures.within c.in-At.is, c.requires.1)
+    (c.requires.0, count.ensures.within, at-below count.result found.result c.in-Some.i found.ensures.within c.in-Some.is, c.requires.1)
 
 pub returns : goal.returns
 returns c =
@@ -35,7 +35,7 @@ returns c =
     let a = c.args in record {
       performs = (λ ps st sd rep same listed.
           let counted = count.ensures.counted st rep in
-          let (at, here) = found_in st (in_clist a.p) a.e found.result c.in-At.i (found.ensures.found st (rep, counted) c.requires.1.1) c.in-At.is in
+          let (at, here) = found_in st (in_clist a.p) a.e found.result c.in-Some.i (found.ensures.found st (rep, counted) c.requires.1.1) c.in-Some.is in
           records-stay st (Port a.p a.e) same (port-records st a.p a.e) row.result (row.ensures.answers st a.e sd (rep, counted) (at, here)));
       long = row.ensures.long;
     }

@@ -25,19 +25,19 @@ pub overflow_add-j : goal.overflow_add-j
 overflow_add-j c =
     let found = c.request_among in
     let count = c.count_requests-m in
-    record { fits = omega (arith, count.ensures.within, at-below count.result found.result c.in-At.j found.ensures.within c.in-At.is) }
+    record { fits = omega (arith, count.ensures.within, at-below count.result found.result c.in-Some.j found.ensures.within c.in-Some.is) }
 
 pub offset_bounds-t-j : goal.offset_bounds-t-j
 offset_bounds-t-j c =
     let found = c.request_among in
     let count = c.count_requests-m in
-    record { fits = omega (arith, count.ensures.within, at-below count.result found.result c.in-At.j found.ensures.within c.in-At.is) }
+    record { fits = omega (arith, count.ensures.within, at-below count.result found.result c.in-Some.j found.ensures.within c.in-Some.is) }
 
 pub bounds-t-j : goal.bounds-t-j
 bounds-t-j c =
     let found = c.request_among in
     let count = c.count_requests-m in
-    omega (arith, c.requires.0, count.ensures.within, at-below count.result found.result c.in-At.j found.ensures.within c.in-At.is)
+    omega (arith, c.requires.0, count.ensures.within, at-below count.result found.result c.in-Some.j found.ensures.within c.in-Some.is)
 
 pub returns-then-t-j : goal.returns-then-t-j
 unfolding refusals
@@ -46,9 +46,9 @@ returns-then-t-j c =
     let count = c.count_requests-m in
     let a = c.args in record {
       performs = (λ st sd rep same listed.
-          let at = found_at (request_slot st.requests a.q) c.in-At.j (found.ensures.found st (rep, count.ensures.counted st rep)) c.in-At.is in
+          let at = found_at (request_slot st.requests a.q) c.in-Some.j (found.ensures.found st (rep, count.ensures.counted st rep)) c.in-Some.is in
           refused-agrees st (Revoke a.p a.q) rep same 7
-          (revoke-other st a.p a.q (λ k. c.if-t-j.true ((request-words rep a.q c.in-At.j at).asker ∙ k))) (λ z. absurd (omega arith)));
+          (revoke-other st a.p a.q (λ k. c.if-t-j.true ((request-words rep a.q c.in-Some.j at).asker ∙ k))) (λ z. absurd (omega arith)));
       long = (c.requires.0, c.requires.1);
     }
 
@@ -60,9 +60,9 @@ returns c =
     let count = c.count_requests-m in
     let a = c.args in record {
       performs = (λ st sd rep same listed.
-          let at = found_at (request_slot st.requests a.q) c.in-At.j (found.ensures.found st (rep, count.ensures.counted st rep)) c.in-At.is in
-          let own = sym (request-words rep a.q c.in-At.j at).asker ∙ c.if-t-j.false in
-          accepted-agrees st (Revoke a.p a.q) (revoke-own st a.p a.q (request-some rep a.q c.in-At.j at).0 own)
+          let at = found_at (request_slot st.requests a.q) c.in-Some.j (found.ensures.found st (rep, count.ensures.counted st rep)) c.in-Some.is in
+          let own = sym (request-words rep a.q c.in-Some.j at).asker ∙ c.if-t-j.false in
+          accepted-agrees st (Revoke a.p a.q) (revoke-own st a.p a.q (request-some rep a.q c.in-Some.j at).0 own)
           (revoked st a.p a.q _ (closed.ensures.closed st sd rep same)));
       long = closed.ensures.long;
     }

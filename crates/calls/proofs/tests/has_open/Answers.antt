@@ -21,4 +21,4 @@ returns c =
     let found = c.open_among in
     let port = c.args.c in
     λ st h.
-    sym (not-zero (open_on st.requests port).number (open-some st port h.0 c.in-At.field-0 (found_at (open_slot st.requests port) c.in-At.field-0 (found.ensures.found st h) c.in-At.is)))
+    sym (not-zero (open_on st.requests port).number (open-some st port h.0 c.in-Some.field-0 (found_at (open_slot st.requests port) c.in-Some.field-0 (found.ensures.found st h) c.in-Some.is)))

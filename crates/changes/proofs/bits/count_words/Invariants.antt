@@ -6,6 +6,3 @@ use Rattle.changes.proofs.bits.count_words.Given as goal
 
 abbrev pub invariant-loop-k : goal.invariant-loop-k
 invariant-loop-k l = (l.k ≤ l.words) × (l.total ≤ l.k * 64) × (l.total ≡ gones (marks_in l.marks) (l.k * 64))
-
-abbrev pub decreases-loop-k : goal.decreases-loop-k
-decreases-loop-k l = l.words - l.k

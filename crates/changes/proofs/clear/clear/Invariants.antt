@@ -8,6 +8,3 @@ use Rattle.changes.proofs.clear.clear.Given as goal
 
 abbrev pub invariant-loop-i : goal.invariant-loop-i
 invariant-loop-i l = (l.from ≤ l.i) × (l.i ≤ l.to) × (length l.column ≡ length l.initial.column) × (l.column ≡ pad 0 l.i (take l.from l.initial.column) ++ drop l.i l.initial.column)
-
-abbrev pub decreases-loop-i : goal.decreases-loop-i
-decreases-loop-i l = l.to - l.i

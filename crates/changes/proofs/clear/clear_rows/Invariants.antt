@@ -10,6 +10,3 @@ invariant-loop-i l = (l.from ≤ l.i)
     × (l.i ≤ l.to)
     × (length l.part ≡ length l.initial.part)
     × (l.part ≡ on_parts (cleared l.from l.i) l.size l.columns l.initial.part)
-
-abbrev pub decreases-loop-i : goal.decreases-loop-i
-decreases-loop-i l = l.to - l.i

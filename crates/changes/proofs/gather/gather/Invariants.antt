@@ -7,6 +7,3 @@ use Rattle.changes.proofs.gather.gather.Given as goal
 
 abbrev pub invariant-loop-k : goal.invariant-loop-k
 invariant-loop-k l = (l.k ≤ l.n) × (length l.column ≡ length l.initial.column) × (l.column ≡ gathered l.to l.slots l.k l.initial.column)
-
-abbrev pub decreases-loop-k : goal.decreases-loop-k
-decreases-loop-k l = l.n - l.k

@@ -8,6 +8,3 @@ use Rattle.changes.proofs.gather.list_left.Given as goal
 
 abbrev pub invariant-loop-i : goal.invariant-loop-i
 invariant-loop-i l = (l.from ≤ l.i) × (l.i ≤ l.end) × (length l.slots ≡ length l.initial.slots) × Lists (marks_in l.marks) l.from l.i l.slots l.n
-
-abbrev pub decreases-loop-i : goal.decreases-loop-i
-decreases-loop-i l = l.end - l.i

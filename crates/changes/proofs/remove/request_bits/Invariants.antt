@@ -8,6 +8,3 @@ use Rattle.changes.proofs.remove.request_bits.Given as goal
 
 abbrev pub invariant-loop-j : goal.invariant-loop-j
 invariant-loop-j l = (l.j ≤ l.count) × (length (marks_in l.packed) ≡ 1024) × Copied l.marks (marks_in l.packed) l.j
-
-abbrev pub decreases-loop-j : goal.decreases-loop-j
-decreases-loop-j l = l.count - l.j

@@ -8,6 +8,3 @@ use Rattle.changes.proofs.renumbering.ranks_each.Given as goal
 
 abbrev pub invariant-loop-i : goal.invariant-loop-i
 invariant-loop-i l = (l.from ≤ l.i) × (l.i ≤ l.end) × (l.next ≤ l.i + 1) × (length l.to ≡ length l.initial.to) × RanksOn (marks_in l.marks) l.from l.i l.start l.initial.to l.to l.next
-
-abbrev pub decreases-loop-i : goal.decreases-loop-i
-decreases-loop-i l = l.end - l.i

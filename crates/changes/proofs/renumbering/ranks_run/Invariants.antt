@@ -7,6 +7,3 @@ use Rattle.changes.proofs.renumbering.ranks_run.Given as goal
 
 abbrev pub invariant-loop-i : goal.invariant-loop-i
 invariant-loop-i l = (l.from ≤ l.i) × (l.i ≤ l.end) × (length l.to ≡ length l.initial.to) × RanksRun l.from l.i l.start l.initial.to l.to
-
-abbrev pub decreases-loop-i : goal.decreases-loop-i
-decreases-loop-i l = l.end - l.i

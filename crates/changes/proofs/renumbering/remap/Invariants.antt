@@ -5,6 +5,3 @@ use Rattle.changes.proofs.renumbering.remap.Given as goal
 
 abbrev pub invariant-loop-i : goal.invariant-loop-i
 invariant-loop-i l = (l.from ≤ l.i) × (l.i ≤ l.count) × Remapped l.to l.from l.i l.initial.column l.column
-
-abbrev pub decreases-loop-i : goal.decreases-loop-i
-decreases-loop-i l = l.count - l.i

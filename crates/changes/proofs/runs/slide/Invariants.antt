@@ -7,6 +7,3 @@ use Rattle.changes.proofs.runs.slide.Given as goal
 
 abbrev pub invariant-loop-k : goal.invariant-loop-k
 invariant-loop-k l = (l.k ≤ l.len) × (length l.column ≡ length l.initial.column) × (l.column ≡ slid l.to l.from l.k l.initial.column)
-
-abbrev pub decreases-loop-k : goal.decreases-loop-k
-decreases-loop-k l = l.len - l.k

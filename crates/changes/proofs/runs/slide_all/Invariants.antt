@@ -10,6 +10,3 @@ abbrev pub invariant-loop-c : goal.invariant-loop-c
 invariant-loop-c l = (l.c ≤ l.columns)
     × (length l.part ≡ length l.initial.part)
     × Changed (slid l.to l.from l.len) l.size l.initial.part l.part l.c
-
-abbrev pub decreases-loop-c : goal.decreases-loop-c
-decreases-loop-c l = l.columns - l.c

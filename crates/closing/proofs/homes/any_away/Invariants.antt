@@ -7,6 +7,3 @@ use Rattle.closing.proofs.homes.any_away.Given as goal
 
 abbrev pub invariant-loop-k : goal.invariant-loop-k
 invariant-loop-k l = (l.k ≤ 64) × (l.away ≡ false → HomeTo l.ps l.k)
-
-abbrev pub decreases-loop-k : goal.decreases-loop-k
-decreases-loop-k l = 64 - l.k

@@ -33,15 +33,15 @@ returns-in_default c =
 
 pub is_set-requires : goal.is_set-requires
 is_set-requires c =
-    omega (arith, at-below c.args.n c.row_among.result c.in-At.i c.row_among.ensures.within c.in-At.is)
+    omega (arith, at-below c.args.n c.row_among.result c.in-Some.i c.row_among.ensures.within c.in-Some.is)
 
 pub returns-then-is_set : goal.returns-then-is_set
 returns-then-is_set c =
     let read = c.is_set in
     let a = c.args in
-    let i = c.in-At.i in record {
+    let i = c.in-Some.i in record {
       back = (λ st b rep count few m.
-          let slot : row_slot st.rows a.e ≡ suc i = found_at (row_slot st.rows a.e) i (c.row_among.ensures.found st rep count) c.in-At.is in
+          let slot : row_slot st.rows a.e ≡ suc i = found_at (row_slot st.rows a.e) i (c.row_among.ensures.found st rep count) c.in-Some.is in
           back-before b a.asker st a.t.now (marks_in a.out.now) rep m a.e (pos-some a.e (omega (arith, c.if-e-eq0.false)))
           (sym (mark-read b st.rows a.e i slot (marks_in a.out.now) m) ∙ sym read.ensures ∙ c.if-is_set.true));
       long = c.requires.0;
@@ -49,12 +49,12 @@ returns-then-is_set c =
 
 pub set-requires : goal.set-requires
 set-requires c =
-    omega (arith, at-below c.args.n c.row_among.result c.in-At.i c.row_among.ensures.within c.in-At.is)
+    omega (arith, at-below c.args.n c.row_among.result c.in-Some.i c.row_among.ensures.within c.in-Some.is)
 
 pub set_place-requires : goal.set_place-requires
 set_place-requires c = (
   c.requires.0,
-  omega (arith, at-below c.args.n c.row_among.result c.in-At.i c.row_among.ensures.within c.in-At.is),
+  omega (arith, at-below c.args.n c.row_among.result c.in-Some.i c.row_among.ensures.within c.in-Some.is),
 )
 
 pub returns : goal.returns
@@ -63,9 +63,9 @@ returns c =
     let marked = c.set in
     let read = c.is_set in
     let a = c.args in
-    let i = c.in-At.i in record {
+    let i = c.in-Some.i in record {
       back = (λ st b rep count few m.
-          let slot : row_slot st.rows a.e ≡ suc i = found_at (row_slot st.rows a.e) i (c.row_among.ensures.found st rep count) c.in-At.is in
+          let slot : row_slot st.rows a.e ≡ suc i = found_at (row_slot st.rows a.e) i (c.row_among.ensures.found st rep count) c.in-Some.is in
           let place : c.clist-place.result ≡ in_clist a.asker = c.clist-place.ensures few in
           subst (λ (ms : List Bool). WentBack b a.asker (a.e ∷ []) st put.new.t ms) (sym marked.ensures)
           (back-now b a.asker st a.t.now put.new.t (marks_in a.out.now) rep m a.e (pos-some a.e (omega (arith, c.if-e-eq0.false)))

@@ -31,7 +31,7 @@ returns-in_default c =
 
 pub is_set-requires : goal.is_set-requires
 is_set-requires c =
-    omega (arith, at-below c.args.n c.row_among.result c.in-At.i c.row_among.ensures.within c.in-At.is)
+    omega (arith, at-below c.args.n c.row_among.result c.in-Some.i c.row_among.ensures.within c.in-Some.is)
 
 pub returns-then-is_set : goal.returns-then-is_set
 returns-then-is_set c =
@@ -39,9 +39,9 @@ returns-then-is_set c =
     let read = c.is_set in
     let a = c.args in
     let e = a.e in
-    let i = c.in-At.i in record {
+    let i = c.in-Some.i in record {
       out = (λ st b new w old rep count here stands out.
-          let at_i : row_slot st.rows e ≡ suc i = found_at (row_slot st.rows e) i (c.row_among.ensures.found st rep count) c.in-At.is in
+          let at_i : row_slot st.rows e ≡ suc i = found_at (row_slot st.rows e) i (c.row_among.ensures.found st rep count) c.in-Some.is in
           let goes : b e ≡ true = sym (mark-read b st.rows e i at_i (marks_in a.out.now) out) ∙ sym read.ensures ∙ c.if-is_set.true in
           out-now rep new w old here.0 b a.k e (and_i (some e) (b e) (pos-some e (omega (arith, c.if-e-eq0.false))) goes) cleared.new.t
           (cleared.ensures.represents st w.number rep (slot-here rep new w old here.0 a.j here.1)));
@@ -53,9 +53,9 @@ returns-else-is_set c =
     let read = c.is_set in
     let a = c.args in
     let e = a.e in
-    let i = c.in-At.i in record {
+    let i = c.in-Some.i in record {
       out = (λ st b new w old rep count here stands out.
-          let at_i : row_slot st.rows e ≡ suc i = found_at (row_slot st.rows e) i (c.row_among.ensures.found st rep count) c.in-At.is in
+          let at_i : row_slot st.rows e ≡ suc i = found_at (row_slot st.rows e) i (c.row_among.ensures.found st rep count) c.in-Some.is in
           let stays : b e ≡ false = sym (mark-read b st.rows e i at_i (marks_in a.out.now) out) ∙ sym read.ensures ∙ c.if-is_set.false in
           out-same rep new w old here.0 b a.k e (none_passes (some e) (b e) stays));
       long = c.requires.0;

@@ -8,6 +8,3 @@ use Rattle.closing.proofs.lists.items_back.Given as goal
 
 abbrev pub invariant-loop-k : goal.invariant-loop-k
 invariant-loop-k l = (l.k ≤ ITEMS) × IsTables l.t × SendsBack l.n l.asker (take l.k l.items) l.initial.t (marks_in l.initial.out) l.t (marks_in l.out)
-
-abbrev pub decreases-loop-k : goal.decreases-loop-k
-decreases-loop-k l = ITEMS - l.k

@@ -18,6 +18,3 @@ invariant-loop-k l = (l.k ≤ ITEMS) × IsTables l.t
     × ((st : State) (b : ℕ → Bool) (new : List Request) (v : Request) (old : List Request) → v.items ≡ l.items
     → Represents l.initial.t st → RowCount l.n st → InSlot l.j new v old st → ItemsStand st l.items → SlotsMarked (marks_in l.out) b st
     → Represents l.t (out_state st new old b l.k v))
-
-abbrev pub decreases-loop-k : goal.decreases-loop-k
-decreases-loop-k l = ITEMS - l.k

@@ -17,6 +17,3 @@ abbrev pub invariant-loop-j : goal.invariant-loop-j
 invariant-loop-j l = (l.j ≤ l.m) × IsTables l.t
     × ((st : State) (g : List ℕ) (f : Request → Bool) → sound st ≡ true → Represents l.initial.t st → RowCount l.n st → RequestCount l.m st
     → RowsMarked (marks_in l.removed) g st → RequestsMarked l.closed f st → Done g f st l.j l.t (marks_in l.out))
-
-abbrev pub decreases-loop-j : goal.decreases-loop-j
-decreases-loop-j l = l.m - l.j

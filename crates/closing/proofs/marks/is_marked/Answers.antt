@@ -16,12 +16,12 @@ returns-in_default c =
 
 pub is_set-requires : goal.is_set-requires
 is_set-requires c =
-    omega (arith, at-below c.args.n c.row_among.result c.in-At.i c.row_among.ensures.within c.in-At.is)
+    omega (arith, at-below c.args.n c.row_among.result c.in-Some.i c.row_among.ensures.within c.in-Some.is)
 
 pub returns : goal.returns
 returns c =
     let a = c.args in
-    let i = c.in-At.i in
+    let i = c.in-Some.i in
     λ st g rep count marked there.
     c.is_set.ensures
-    ∙ marked-found st g a.e (marks_in a.marks.now) marked i (found_at (row_slot st.rows a.e) i (c.row_among.ensures.found st rep count) c.in-At.is)
+    ∙ marked-found st g a.e (marks_in a.marks.now) marked i (found_at (row_slot st.rows a.e) i (c.row_among.ensures.found st rep count) c.in-Some.is)

@@ -18,6 +18,3 @@ abbrev pub invariant-loop-j : goal.invariant-loop-j
 invariant-loop-j l = (l.j ≤ l.m)
     × ((st : State) (g : List ℕ) → sound st ≡ true → Represents l.t st → RowCount l.n st → RequestCount l.m st → RowsMarked (marks_in l.removed) g st
     → MarkedTo (closes (closes_of l.s) g) REQUESTS st.requests l.j l.closed)
-
-abbrev pub decreases-loop-j : goal.decreases-loop-j
-decreases-loop-j l = l.m - l.j

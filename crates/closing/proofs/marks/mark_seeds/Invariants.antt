@@ -11,6 +11,3 @@ use Rattle.closing.proofs.marks.mark_seeds.Given as goal
 
 abbrev pub invariant-loop-i : goal.invariant-loop-i
 invariant-loop-i l = (l.i ≤ l.n) × ((st : State) → Represents l.t st → RowCount l.n st → MarkedTo (seed_of l.s) ROWS st.rows l.i (marks_in l.marks))
-
-abbrev pub decreases-loop-i : goal.decreases-loop-i
-decreases-loop-i l = l.n - l.i

@@ -8,6 +8,3 @@ use Rattle.closing.proofs.marks.mark_word.Given as goal
 
 abbrev pub invariant-loop-i : goal.invariant-loop-i
 invariant-loop-i l = (l.from ≤ l.i) × (l.i ≤ l.end) × Holds l.marks (l.from / 64) l.w × NoneMarked (marks_in l.marks) 0 l.first × MarksOn l.t l.from l.i (marks_in l.initial.marks) (marks_in l.marks)
-
-abbrev pub decreases-loop-i : goal.decreases-loop-i
-decreases-loop-i l = l.end - l.i

@@ -10,6 +10,3 @@ use Rattle.joining.proofs.refusals.are_listed.Given as goal
 
 abbrev pub invariant-loop-i : goal.invariant-loop-i
 invariant-loop-i l = (l.i ≤ length l.codes) × OfBoth l.first l.second (λ fs gs. all (λ x. entry_listed (fs ++ gs) (entry_of x)) (drop l.i l.codes) ≡ all (λ x. entry_listed (fs ++ gs) (entry_of x)) l.codes)
-
-abbrev pub decreases-loop-i : goal.decreases-loop-i
-decreases-loop-i l = length l.codes - l.i

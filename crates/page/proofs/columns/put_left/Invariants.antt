@@ -9,6 +9,3 @@ use Rattle.page.proofs.columns.put_left.Given as goal
 
 abbrev pub invariant-loop-i : goal.invariant-loop-i
 invariant-loop-i l = (length l.columns ≡ length l.initial.columns) × (l.i ≤ length l.initial.columns) × (l.columns ≡ paste l.initial.columns 0 (l.text ++ spaces (length l.initial.columns)) l.i)
-
-abbrev pub decreases-loop-i : goal.decreases-loop-i
-decreases-loop-i l = length l.initial.columns - l.i

@@ -5,6 +5,3 @@ use Rattle.questions.proofs.pairs.asking.Given as goal
 
 abbrev pub invariant-loop-k : goal.invariant-loop-k
 invariant-loop-k l = (l.k ≤ 16) × AskedTo l.requests l.q l.k l.bits
-
-abbrev pub decreases-loop-k : goal.decreases-loop-k
-decreases-loop-k l = 16 - l.k

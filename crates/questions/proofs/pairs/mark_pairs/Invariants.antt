@@ -7,6 +7,3 @@ use Rattle.questions.proofs.pairs.mark_pairs.Given as goal
 
 abbrev pub invariant-loop-i : goal.invariant-loop-i
 invariant-loop-i l = (l.i ≤ l.n) × (length l.marks ≡ 1025) × MarksPairs l.t l.i l.requests l.marks
-
-abbrev pub decreases-loop-i : goal.decreases-loop-i
-decreases-loop-i l = l.n - l.i

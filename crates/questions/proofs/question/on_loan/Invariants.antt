@@ -6,6 +6,3 @@ use Rattle.questions.proofs.question.on_loan.Given as goal
 
 abbrev pub invariant-loop-j : goal.invariant-loop-j
 invariant-loop-j l = (l.j ≤ l.count) × (l.found ≡ listed_to l.t l.e l.j)
-
-abbrev pub decreases-loop-j : goal.decreases-loop-j
-decreases-loop-j l = l.count - l.j

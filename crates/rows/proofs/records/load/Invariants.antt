@@ -6,6 +6,3 @@ use Rattle.rows.proofs.records.load.Given as goal
 
 abbrev pub invariant-loop-i : goal.invariant-loop-i
 invariant-loop-i l = (l.i ≤ 64) × (length l.ps ≡ 64) × SameTo l.ps (records_in l.p) l.i
-
-abbrev pub decreases-loop-i : goal.decreases-loop-i
-decreases-loop-i l = 64 - l.i

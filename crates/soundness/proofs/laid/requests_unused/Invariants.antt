@@ -14,6 +14,3 @@ Empty t n c = (i : ℕ) → n ≤ i → i < REQUESTS → get_or t (Q-NUMBER + (c
 
 abbrev pub invariant-loop-c : goal.invariant-loop-c
 invariant-loop-c l = (l.c ≤ REQUEST-COLUMNS) × Decides l.unused (Between 0 l.c (Empty l.t l.m))
-
-abbrev pub decreases-loop-c : goal.decreases-loop-c
-decreases-loop-c l = REQUEST-COLUMNS - l.c

@@ -8,6 +8,3 @@ use Rattle.soundness.proofs.laid.rising.Given as goal
 
 abbrev pub invariant-loop-i : goal.invariant-loop-i
 invariant-loop-i l = (l.i ≤ l.k) × (l.last ≡ before l.column l.i) × Decides l.rise (Between 0 l.i (λ j. before l.column j < get_or l.column j 0))
-
-abbrev pub decreases-loop-i : goal.decreases-loop-i
-decreases-loop-i l = l.k - l.i

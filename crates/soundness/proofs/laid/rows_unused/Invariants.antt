@@ -14,6 +14,3 @@ Empty t n c = (i : ℕ) → n ≤ i → i < ROWS → get_or t (c * ROWS + i) 0 �
 
 abbrev pub invariant-loop-c : goal.invariant-loop-c
 invariant-loop-c l = (l.c ≤ ROW-COLUMNS) × Decides l.unused (Between 0 l.c (Empty l.t l.n))
-
-abbrev pub decreases-loop-c : goal.decreases-loop-c
-decreases-loop-c l = ROW-COLUMNS - l.c

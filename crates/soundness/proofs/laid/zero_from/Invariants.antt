@@ -9,6 +9,3 @@ use Rattle.soundness.proofs.laid.zero_from.Given as goal
 
 abbrev pub invariant-loop-i : goal.invariant-loop-i
 invariant-loop-i l = (l.k ≤ l.i) × Decides (eqb l.bits 0) (Between l.k l.i (λ j. get_or l.column j 0 ≡ 0))
-
-abbrev pub decreases-loop-i : goal.decreases-loop-i
-decreases-loop-i l = length l.column - l.i

@@ -19,11 +19,11 @@ returns-in_default c =
 pub row_at-r-requires : goal.row_at-r-requires
 row_at-r-requires c =
     let f = c.row_among in
-    (c.requires.0, omega (arith, at-below c.args.n f.result _ f.ensures.within c.in-At.is))
+    (c.requires.0, omega (arith, at-below c.args.n f.result _ f.ensures.within c.in-Some.is))
 
 pub returns : goal.returns
 returns c =
     λ st rep e.
     rw (c.clist-home.ensures c.requires.2)
     (placed_at st c.args.q c.args.x c.if-x-eq0.false rep _ c.row_at-r.result
-    (found_at (row_slot st.rows c.args.x.through) _ (c.row_among.ensures.found st rep e) c.in-At.is) c.row_at-r.ensures)
+    (found_at (row_slot st.rows c.args.x.through) _ (c.row_among.ensures.found st rep e) c.in-Some.is) c.row_at-r.ensures)

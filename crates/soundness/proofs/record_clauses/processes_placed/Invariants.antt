@@ -8,6 +8,3 @@ use Rattle.soundness.proofs.record_clauses.processes_placed.Given as goal
 
 abbrev pub invariant-loop-i : goal.invariant-loop-i
 invariant-loop-i l = (l.i ≤ 64) × OfRows l.t l.n l.placed (λ rs. placed_from rs 1 (take l.i (records_in l.p)))
-
-abbrev pub decreases-loop-i : goal.decreases-loop-i
-decreases-loop-i l = 64 - l.i

@@ -9,6 +9,3 @@ use Rattle.soundness.proofs.record_clauses.records_sound.Given as goal
 
 abbrev pub invariant-loop-i : goal.invariant-loop-i
 invariant-loop-i l = (l.i ≤ 64) × (l.in_range ≡ all record_in_range (take l.i (records_in l.p)))
-
-abbrev pub decreases-loop-i : goal.decreases-loop-i
-decreases-loop-i l = 64 - l.i

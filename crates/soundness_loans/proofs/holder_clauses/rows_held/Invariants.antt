@@ -6,6 +6,3 @@ use Rattle.soundness_loans.proofs.holder_clauses.rows_held.Given as goal
 
 abbrev pub invariant-loop-i : goal.invariant-loop-i
 invariant-loop-i l = (l.i ≤ l.n) × (l.right ≡ held_to l.t l.listing l.i)
-
-abbrev pub decreases-loop-i : goal.decreases-loop-i
-decreases-loop-i l = l.n - l.i

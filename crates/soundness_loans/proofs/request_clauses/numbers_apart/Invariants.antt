@@ -9,6 +9,3 @@ use Rattle.soundness_loans.proofs.request_clauses.numbers_apart.Given as goal
 
 abbrev pub invariant-loop-j : goal.invariant-loop-j
 invariant-loop-j l = (l.j ≤ l.m) × (l.s ≤ l.n) × ((st : State) (rep : Represents l.t st) → l.n ≡ length st.rows → l.m ≡ length st.requests → Walked rep l.j l.s l.apart)
-
-abbrev pub decreases-loop-j : goal.decreases-loop-j
-decreases-loop-j l = l.m - l.j

@@ -10,6 +10,3 @@ use Rattle.soundness_loans.proofs.request_clauses.ports_right.Given as goal
 
 abbrev pub invariant-loop-j : goal.invariant-loop-j
 invariant-loop-j l = (l.j ≤ l.m) × ((st : State) → Represents l.t st → l.n ≡ length st.rows → Ports st.rows (requests_to l.t l.j) l.marks l.right)
-
-abbrev pub decreases-loop-j : goal.decreases-loop-j
-decreases-loop-j l = l.m - l.j

@@ -8,6 +8,3 @@ use Rattle.soundness_loans.proofs.request_clauses.requests_right.Given as goal
 
 abbrev pub invariant-loop-j : goal.invariant-loop-j
 invariant-loop-j l = (l.j ≤ l.m) × (l.right ≡ all (request_right (records_in l.p)) (requests_to l.t l.j))
-
-abbrev pub decreases-loop-j : goal.decreases-loop-j
-decreases-loop-j l = l.m - l.j

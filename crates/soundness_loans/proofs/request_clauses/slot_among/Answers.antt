@@ -18,9 +18,9 @@ returns-in_default c = let f = c.row_among in
 
 pub overflow_add-result : goal.overflow_add-result
 overflow_add-result c = let f = c.row_among in
-    omega (arith, at-below c.args.n f.result c.in-At.i f.ensures.within c.in-At.is, c.requires.1)
+    omega (arith, at-below c.args.n f.result c.in-Some.i f.ensures.within c.in-Some.is, c.requires.1)
 
 pub returns : goal.returns
 returns c = let f = c.row_among in
     let a = c.args in
-    let i = c.in-At.i in record { within = omega (arith, at-below a.n f.result i f.ensures.within c.in-At.is); found = (λ st rep e. add-one i ∙ sym (found_at (row_slot st.rows a.x) i (f.ensures.found st rep e) c.in-At.is)) }
+    let i = c.in-Some.i in record { within = omega (arith, at-below a.n f.result i f.ensures.within c.in-Some.is); found = (λ st rep e. add-one i ∙ sym (found_at (row_slot st.rows a.x) i (f.ensures.found st rep e) c.in-Some.is)) }

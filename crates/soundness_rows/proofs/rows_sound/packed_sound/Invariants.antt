@@ -10,6 +10,3 @@ use Rattle.soundness_rows.proofs.rows_sound.packed_sound.Given as goal
 abbrev pub invariant-loop-i : goal.invariant-loop-i
 invariant-loop-i l = (l.i ≤ l.n)
     × ((st : State) → Represents l.t st → l.n ≡ length st.rows → Faithful st.rows → Tested by_sources st.rows l.i l.right)
-
-abbrev pub decreases-loop-i : goal.decreases-loop-i
-decreases-loop-i l = l.n - l.i

@@ -22,10 +22,10 @@ pub overflow_add-result : goal.overflow_add-result
 overflow_add-result c =
     let a = c.args in
     let found = c.request_slot in
-    omega (arith, request-below a.t.now found.result c.in-At.j found.ensures.within c.in-At.is)
+    omega (arith, request-below a.t.now found.result c.in-Some.j found.ensures.within c.in-Some.is)
 
 pub returns : goal.returns
 returns c =
     let a = c.args in
     let found = c.request_slot in
-    let j = c.in-At.j in record { within = omega (arith, at-below (requests_in a.t.now) found.result j found.ensures.within c.in-At.is); found = (λ st rep. plus_one (request_slot st.requests a.q) j (found.ensures.found st rep) c.in-At.is); other = (λ not. absurd (not c.if-t-ne-TABLES.false)) }
+    let j = c.in-Some.j in record { within = omega (arith, at-below (requests_in a.t.now) found.result j found.ensures.within c.in-Some.is); found = (λ st rep. plus_one (request_slot st.requests a.q) j (found.ensures.found st rep) c.in-Some.is); other = (λ not. absurd (not c.if-t-ne-TABLES.false)) }

@@ -21,10 +21,10 @@ pub overflow_add-result : goal.overflow_add-result
 overflow_add-result c =
     let a = c.args in
     let found = c.row_slot in
-    omega (arith, row_below a.t.now found.result c.in-At.i found.ensures.within c.in-At.is)
+    omega (arith, row_below a.t.now found.result c.in-Some.i found.ensures.within c.in-Some.is)
 
 pub returns : goal.returns
 returns c =
     let a = c.args in
     let found = c.row_slot in
-    let i = c.in-At.i in record { within = omega (arith, at-below (rows_in a.t.now) found.result i found.ensures.within c.in-At.is); found = (λ st rep. plus_one (row_slot st.rows a.n) i (found.ensures.found st rep) c.in-At.is); other = (λ not. absurd (not c.if-t-ne-TABLES.false)) }
+    let i = c.in-Some.i in record { within = omega (arith, at-below (rows_in a.t.now) found.result i found.ensures.within c.in-Some.is); found = (λ st rep. plus_one (row_slot st.rows a.n) i (found.ensures.found st rep) c.in-Some.is); other = (λ not. absurd (not c.if-t-ne-TABLES.false)) }

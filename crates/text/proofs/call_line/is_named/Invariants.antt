@@ -7,6 +7,3 @@ use Rattle.text.proofs.call_line.is_named.Given as goal
 
 abbrev pub invariant-loop-i : goal.invariant-loop-i
 invariant-loop-i l = member l.n (drop l.i l.ns) ≡ member l.n l.ns
-
-abbrev pub decreases-loop-i : goal.decreases-loop-i
-decreases-loop-i l = length l.ns - l.i

@@ -6,6 +6,3 @@ use Rattle.text.proofs.opening_words.clear.Given as goal
 
 abbrev pub invariant-loop-i : goal.invariant-loop-i
 invariant-loop-i l = (l.i ≤ length l.initial.run) × (length l.run ≡ length l.initial.run) × ((k : ℕ) → k < l.i → get_or l.run k 0 ≡ 0)
-
-abbrev pub decreases-loop-i : goal.decreases-loop-i
-decreases-loop-i l = length l.initial.run - l.i

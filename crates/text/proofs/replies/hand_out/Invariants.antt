@@ -8,6 +8,3 @@ use Rattle.text.proofs.replies.hand_out.Given as goal
 
 abbrev pub invariant-loop-i : goal.invariant-loop-i
 invariant-loop-i l = (l.i ≤ l.n) × (l.n ≤ REPLY) × (REPLY ≤ length l.initial.out) × (length l.bytes ≡ REPLY) × (length l.out ≡ length l.initial.out) × (l.out ≡ handed l.bytes l.initial.out l.i)
-
-abbrev pub decreases-loop-i : goal.decreases-loop-i
-decreases-loop-i l = l.n - l.i
