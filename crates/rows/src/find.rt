@@ -1,8 +1,9 @@
 // Look-up: the slot of a row or a request, and how many slots are in use.
-ghost use Rattle.std.specs.Prelude.{◌≡◌, ◌+◌, ◌<◌, ◌≤◌, true, length};
+ghost use Rattle.std.specs.Prelude.{◌≡◌, ◌+◌, ◌<◌, ◌≤◌, false, length, take};
+ghost use Rattle.std.specs.List.{list_any, position_or_len};
 ghost use Rattle.rows.specs.Layout.{leading, rows_in, requests_in};
 ghost use Rattle.rows.specs.vocabulary.Slots.{Within};
-ghost use Rattle.rows.specs.vocabulary.Searches.{LastAt, LastAtIfAscending, NoneZero, LeadingIfFront};
+ghost use Rattle.rows.specs.vocabulary.Searches.{LastAt, LastAtIfAscending, LeadingIfFront};
 ghost use Rattle.rows.specs.vocabulary.Searches.{is_up_to, step_to, LastUpToIfFront};
 ghost use Rattle.rows.specs.vocabulary.Finds.{CountsRows, CountsRequests};
 ghost use Rattle.rows.specs.vocabulary.Finds.{FindsRowAmong, FindsRow, FindsRequest, FindsOpen};
@@ -18,21 +19,7 @@ pub fn search(column: &[u32], count: usize, n: u32) -> Option<usize>
     ensures within { Within count result }
     ensures found { LastAtIfAscending column.now count n result }
 {
-    let mut lo = 0;
-    let mut hi = count;
-    while lo < hi {
-        let mid = lo + (hi - lo) / 2;
-        let x = column[mid];
-        if x == n {
-            return Some(mid);
-        }
-        if x < n {
-            lo = mid + 1;
-        } else {
-            hi = mid;
-        }
-    }
-    None
+    column[..count].binary_search(&n).ok()
 }
 
 // The last position of n among the first words of a column, in whatever order they stand: from the last word back.
@@ -42,9 +29,7 @@ pub fn search_back(column: &[u32], count: usize, n: u32) -> Option<usize>
     ensures within { Within count result }
     ensures found { LastAt column.now count n result }
 {
-    let mut i = count;
-    while 0 < i {
-        i -= 1;
+    for i in (0..count).rev() {
         if column[i] == n {
             return Some(i);
         }
@@ -53,32 +38,33 @@ pub fn search_back(column: &[u32], count: usize, n: u32) -> Option<usize>
 }
 
 // ---- how many slots are in use
-// Whether none of eight words is 0: without a branch, so that the processor looks at all of them at once.
-fn eight_used(column: &[u32], i: usize) -> bool
-    requires { i + 8 ≤ length column.now }
-    ensures { result ≡ true → NoneZero column.now i (i + 8) }
+// How many elements stand before the first x among whole eights, of which none has it: each eight is looked at at once.
+fn skip_eights<T: PartialEq>(xs: &[T], x: &T) -> usize
+    ensures within { result ≤ length xs.now }
+    ensures passed { list_any (λ y. T.eq y x.now) (take result xs.now) ≡ false }
 {
-    let low = (column[i] == 0)
-        | ((column[i + 1] == 0) | ((column[i + 2] == 0) | (column[i + 3] == 0)));
-    let high = (column[i + 4] == 0)
-        | ((column[i + 5] == 0) | ((column[i + 6] == 0) | (column[i + 7] == 0)));
-    !(low | high)
+    let eights = xs.len() / 8;
+    for k in 0..eights {
+        let at = k * 8;
+        if xs[at..at + 8].contains(x) {
+            return at;
+        }
+    }
+    eights * 8
 }
 
-// Passes words that are not 0, eight at a time.
-fn skip_used(column: &[u32]) -> usize
-    ensures within { result ≤ length column.now }
-    ensures used { NoneZero column.now 0 result }
+// How many elements stand before the first x; all where there is none.
+// Ruled out: a count that stops at another element; one that passes an x.
+pub fn before_first<T: PartialEq>(xs: &[T], x: &T) -> usize
+    ensures counted { result ≡ position_or_len (λ y. T.eq y x.now) xs.now }
+    ensures within { result ≤ length xs.now }
 {
-    let mut i = 0;
-    while 8 <= column.len() - i {
-        let used = eight_used(column, i);
-        if !used {
+    for i in skip_eights(xs, x)..xs.len() {
+        if xs[i] == *x {
             return i;
         }
-        i += 8;
     }
-    i
+    xs.len()
 }
 
 // How many words stand before the first 0.
@@ -87,14 +73,7 @@ pub fn leading_in(column: &[u32]) -> usize
     ensures counted { result ≡ leading column.now }
     ensures within { result ≤ length column.now }
 {
-    let mut i = skip_used(column);
-    while i < column.len() {
-        if column[i] == 0 {
-            return i;
-        }
-        i += 1;
-    }
-    i
+    before_first(column, &0)
 }
 
 // How many slots of rows are in use.
@@ -123,17 +102,7 @@ fn front_in(column: &[u32]) -> usize
     ensures within { result ≤ length column.now }
     ensures counted { LeadingIfFront column.now result }
 {
-    let mut lo = 0;
-    let mut hi = column.len();
-    while lo < hi {
-        let mid = lo + (hi - lo) / 2;
-        if column[mid] == 0 {
-            hi = mid;
-        } else {
-            lo = mid + 1;
-        }
-    }
-    lo
+    column.partition_point(|&n| n != 0)
 }
 
 // How many rows stand, in words that represent a state.
@@ -161,7 +130,7 @@ pub fn count_requests(t: &[u32]) -> usize
 fn is_up_to(x: u32, n: u32) -> bool
     ensures { result ≡ is_up_to n x }
 {
-    std::num::wrapping_sub_u32(x, 1) < n
+    x.wrapping_sub(1) < n
 }
 
 // A step of the search: to a position that is further on, if the number there is up to n.

@@ -43,7 +43,6 @@ pub struct Process {
 #[derive(Clone, Copy)]
 pub struct Rights(pub u32);
 
-
 // ---- functions
 pub mod capcaps;
 pub mod codes;

@@ -70,7 +70,7 @@ pub fn listed(p: &[u32], n: u32) -> bool
     requires { IsRecords p.now }
     ensures { result ≡ is_listed (records_in p.now) n }
 {
-    let i = std::num::wrapping_sub_u32(n, 1);
+    let i = n.wrapping_sub(1);
     let at = (i % LAST_PROCESS) as usize;
     let prime = p[RECORD_WORDS * at];
     (i < LAST_PROCESS) & (0 < prime)

@@ -1,5 +1,5 @@
 -- `records::load`: each turn reads one record.
-use Rattle.std.proofs.Common.{◌≡◌, ◌-◌, ◌≤◌, length}
+use Rattle.std.proofs.Common.{◌≡◌, ◌≤◌, length}
 use Rattle.rows.specs.Layout.{records_in}
 use Rattle.rows.proofs.ProcessRecords.{SameTo}
 use Rattle.rows.proofs.records.load.Given as goal

@@ -1,5 +1,5 @@
 -- `records::store`: each turn writes one record; that there are 64 is known of the argument's type.
-use Rattle.std.proofs.Common.{◌≡◌, ◌-◌, ◌≤◌, length}
+use Rattle.std.proofs.Common.{◌≡◌, ◌≤◌, length}
 use Rattle.rows.specs.Layout.{records_in}
 use Rattle.rows.proofs.ProcessRecords.{SameTo}
 use Rattle.rows.proofs.records.store.Given as goal

@@ -1,9 +1,0 @@
--- `find::leading_in` meets its contract: before the loop's position no word is 0.
-use Rattle.std.proofs.Common.{◌≡◌, ℕ, ◌-◌, ◌<◌, ◌≤◌, length, get_or}
-use Rattle.rows.proofs.find.leading_in.Given as goal
-
-abbrev pub invariant-loop-i : goal.invariant-loop-i
-invariant-loop-i l = (l.i ≤ length l.column) × ((j : ℕ) → j < l.i → get_or l.column j 0 ≡ 0 → ⊥)
-
-abbrev pub decreases-loop-i : goal.decreases-loop-i
-decreases-loop-i l = length l.column - l.i
