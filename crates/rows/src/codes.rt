@@ -38,6 +38,7 @@ pub const LAST_NEXT: u32 = LAST_NUMBER + 1;
 // ---- kinds
 // Whether a kind is that of an end of a port.
 // Ruled out: yes for the client end alone; yes for an operation.
+#[tactic(auto, unfolding(crate::specs::Codes::is_end, crate::specs::Codes::is_client, crate::specs::Codes::is_server, crate::specs::Codes::client_end, crate::specs::Codes::server_end))]
 pub fn is_end(kind: u32) -> bool
     ensures { result ≡ is_end kind }
 {
@@ -45,6 +46,7 @@ pub fn is_end(kind: u32) -> bool
 }
 
 // An operation or a subdirectory. Ruled out: an end; any other code.
+#[tactic(auto, unfolding(crate::specs::Codes::is_copied, crate::specs::Codes::is_operation, crate::specs::Codes::is_subdirectory, crate::specs::Codes::operation, crate::specs::Codes::subdirectory))]
 pub fn is_copied(kind: u32) -> bool
     ensures { result ≡ is_copied kind }
 {
@@ -53,6 +55,7 @@ pub fn is_copied(kind: u32) -> bool
 
 // ---- places
 // Whether a place is a node. Ruled out: place 0; place 33.
+#[tactic(auto, unfolding(crate::specs::Codes::is_node, crate::specs::Lists::between, crate::specs::Limits::nodes))]
 pub fn is_node(place: u32) -> bool
     ensures { result ≡ is_node place }
 {
@@ -60,6 +63,7 @@ pub fn is_node(place: u32) -> bool
 }
 
 // Whether a place is a process's c-list. Ruled out: place 100; place 165.
+#[tactic(auto, unfolding(crate::specs::Codes::is_clist, crate::specs::Lists::between, crate::specs::Codes::in_clist, crate::specs::Limits::processes))]
 pub fn is_clist(place: u32) -> bool
     ensures { result ≡ is_clist place }
 {
@@ -68,6 +72,7 @@ pub fn is_clist(place: u32) -> bool
 
 // The place of a process's c-list; 0 for what is no process.
 // Ruled out: the process's own number; the c-list of the next one.
+#[tactic(auto, unfolding(crate::specs::Codes::in_clist))]
 pub fn clist(p: u32) -> u32
     ensures { p ≤ PROCESSES → result ≡ in_clist p }
 {

@@ -78,6 +78,7 @@ pub fn leading_in(column: &[u32]) -> usize
 
 // How many slots of rows are in use.
 // Ruled out: a slot more than stand before the first number 0; more than 1,024.
+#[tactic(auto, unfolding(crate::specs::Layout::rows_in, crate::specs::Limits::row_slots))]
 pub fn rows_in(t: &[u32]) -> usize
     requires { IsTables t.now }
     ensures counted { result ≡ rows_in t.now }
@@ -88,6 +89,7 @@ pub fn rows_in(t: &[u32]) -> usize
 
 // How many slots of requests are in use.
 // Ruled out: a count over the rows' numbers; more than 128.
+#[tactic(auto, unfolding(crate::specs::Layout::requests_in, crate::specs::Layout::requests_at, crate::specs::Layout::row_columns, crate::specs::Limits::row_slots, crate::specs::Limits::request_slots))]
 pub fn requests_in(t: &[u32]) -> usize
     requires { IsTables t.now }
     ensures counted { result ≡ requests_in t.now }
@@ -134,6 +136,7 @@ fn is_up_to(x: u32, n: u32) -> bool
 }
 
 // A step of the search: to a position that is further on, if the number there is up to n.
+#[tactic(auto, unfolding(crate::specs::vocabulary::Searches::step_to))]
 fn step(column: &[u32], n: u32, at: usize, half: usize) -> usize
     requires { at + half < length column.now }
     ensures { result ≡ step_to column.now n at half }

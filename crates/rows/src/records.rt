@@ -58,9 +58,8 @@ pub fn store(ps: Records, p: &mut [u32])
     requires { IsRecords p.old }
     ensures { p.new ≡ records_of ps }
 {
-    for i in 0..PROCESSES {
-        let x = ps[i];
-        set_record(p, i, x);
+    for (i, x) in ps.iter().enumerate() {
+        set_record(p, i, *x);
     }
 }
 
