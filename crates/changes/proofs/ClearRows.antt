@@ -10,7 +10,7 @@ use lib.Seq.{take_all, take-add, take-set-le, take-set-lt, drop-set-add, drop-se
 use Rattle.changes.specs.vocabulary.Marks.{cleared, on_parts, part}
 use Rattle.changes.proofs.Keep.{clear-start, clear-turn}
 use Rattle.changes.proofs.Slide.{length-cleared}
-use Rattle.changes.proofs.Parts.{back, part_end, part-long, part_of, parts_same, Changed, changed-start, changed-long, changed-turn, changed-end, cleared-keeps}
+use Rattle.changes.proofs.Parts.{back, part_end, part-long, part_of, parts_same, Changed, changed-start, length-parts, changed-long, changed-turn, changed-end, cleared-keeps}
 
 -- ---- one column
 cleared-none : (from : ℕ) (l : List ℕ) → from ≤ length l → cleared from from l ≡ l
@@ -62,14 +62,14 @@ module _ (size columns row : ℕ) (fits : row < size) (l₀ l : List ℕ) (long 
       let keeps = cleared-keeps size row (row + 1) (le-add_right row 1) (omega arith) in
       let left : c < columns = row-left size columns row l₀ l k r h in
       let room : c * size + size ≤ length l₀ = omega (arith, part_end size c columns left) in
-      let here = cleared-one row (part size l c) (omega (arith, changed-long clears size keeps l₀ l c room r.changed)) in
+      let here = cleared-one row (part size l c) (omega (arith, changed-long clears size l₀ l c room (length-parts clears size keeps l₀ c (omega arith)) r.changed)) in
       record {
         parts = c + 1;
         within = omega arith;
         next = omega (arith, r.next, suc-mul c size);
         changed =
             subst (λ (t : List ℕ). Changed clears size l₀ t (c + 1)) (sym (ap (λ (x : ℕ). set l x 0) r.next ∙ set-part (c * size) size row 0 l fits))
-            (changed-turn clears size keeps l₀ l c room r.changed (set (part size l c) row 0) here);
+            (changed-turn clears size l₀ l c room (length-parts clears size keeps l₀ c (omega arith)) r.changed (set (part size l c) row 0) here);
       }
 
   pub row-end : columns * size ≤ k → l ≡ on_parts (cleared row (row + 1)) size columns l₀

@@ -8,8 +8,8 @@ use mathlib.Core.Logic.{⊎_elim}
 use native.Mathlib.Nat.{add-zero, eq-or-lt_of_le, le_of_suc-le-suc}
 use native.Mathlib.Numerals.{add-one}
 use native.Mathlib.Omega.{arith}
-use lib.ListN.{length, get_or, set}
-use lib.Seq.{get_or-set_same, get_or-set_other}
+use lib.ListN.{length, get_or, set, take}
+use lib.Seq.{get_or-set_same, get_or-set_other, get_or-take}
 use Rattle.changes.specs.vocabulary.Bits.{gones}
 use Rattle.changes.specs.vocabulary.Marks.{NoneMarked, AllMarked, lefts, Lists}
 
@@ -92,6 +92,19 @@ module _ (ms : List Bool) where
       pick : (m : Bool) → get_or ms x false ≡ m → m ≡ true
       pick true e = refl
       pick false e = absurd (omega (arith, left-more x e, lefts-up i x a, lefts-up (suc x) n b))
+
+-- the list, without what stands after it
+pub lists-front : (ms : List Bool) (from end : ℕ) (slots : List ℕ) (n : ℕ) → n ≤ length slots → Lists ms from end slots n → Lists ms from end (take n slots) n
+lists-front ms from end slots n room p =
+    record {
+      number = p.number;
+      few = p.few;
+      ahead = λ x h. rw (get_or-take n slots x 0 h) (p.ahead x h);
+      listed =
+          λ i a b out.
+          let here : lefts ms i - lefts ms from < n = omega (arith, p.number, left-more ms i out, lefts-up ms (suc i) end b, lefts-up ms from i a) in
+          rw (get_or-take n slots (lefts ms i - lefts ms from) 0 here) (p.listed i a b out);
+    }
 
 -- ---- the loop that lists the slots that are left, from one on
 module _ (ms : List Bool) (from : ℕ) where

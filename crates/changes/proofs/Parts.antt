@@ -126,7 +126,7 @@ parts_same f g k (suc m) l l₀ h =
     ∙ ap (λ (t : List ℕ). on_parts g k m l₀ ++ t) (h m (omega arith))
 
 module _ (f : List ℕ → List ℕ) (k : ℕ) (keeps : Keeps f k) where
-  length-parts : (l : List ℕ) (c : ℕ) → c * k ≤ length l → length (on_parts f k c l) ≡ c * k
+  pub length-parts : (l : List ℕ) (c : ℕ) → c * k ≤ length l → length (on_parts f k c l) ≡ c * k
   unfolding on_parts
   length-parts l zero h = omega arith
   length-parts l (suc c) h =
@@ -152,24 +152,32 @@ module _ (f : List ℕ → List ℕ) (k : ℕ) (keeps : Keeps f k) where
       ∙ take-append-le k (drop (c * k) a) b (omega (arith, length-drop (c * k) a, la))
       ∙ part_of l m c lt (omega (arith, suc-mul m k))) (eq-or-lt_of_le (le_of_suc-le-suc h))
 
-  -- the part c is lent, and comes back changed
-  module _ (l₀ l : List ℕ) (c : ℕ) (h : c * k + k ≤ length l₀) (e : Changed f k l₀ l c) where
-    rest_of : drop (c * k) l ≡ drop (c * k) l₀
-    rest_of = ap (drop (c * k)) e ∙ drop_at (on_parts f k c l₀) (drop (c * k) l₀) (c * k) (length-parts l₀ c (omega arith))
+-- the part c is lent, and comes back changed, where the parts before it are as long as they were
+module _ (f : List ℕ → List ℕ) (k : ℕ) (l₀ l : List ℕ) (c : ℕ) (h : c * k + k ≤ length l₀) (long : length (on_parts f k c l₀) ≡ c * k) (e : Changed f k l₀ l c) where
+  rest_of : drop (c * k) l ≡ drop (c * k) l₀
+  rest_of = ap (drop (c * k)) e ∙ drop_at (on_parts f k c l₀) (drop (c * k) l₀) (c * k) long
 
-    pub changed-long : length (part k l c) ≡ k
-    changed-long = ap (λ (r : List ℕ). length (take k r)) rest_of ∙ part-long (c * k) k l₀ h
+  pub changed-long : length (part k l c) ≡ k
+  changed-long = ap (λ (r : List ℕ). length (take k r)) rest_of ∙ part-long (c * k) k l₀ h
 
-    pub changed-turn : (ys : List ℕ) → ys ≡ f (part k l c) → Changed f k l₀ (take (c * k) l ++ (ys ++ drop k (drop (c * k) l))) (c + 1)
-    unfolding on_parts
-    changed-turn ys y =
-        let done : List ℕ = on_parts f k c l₀ in
-        let here : List ℕ = f (part k l₀ c) in
-        rw (add-one c)
-        (ap (λ (x : List ℕ). x ++ (ys ++ drop k (drop (c * k) l))) (ap (take (c * k)) e ∙ take_at done (drop (c * k) l₀) (c * k) (length-parts l₀ c (omega arith)))
-        ∙ ap (λ (x : List ℕ). done ++ (x ++ drop k (drop (c * k) l))) (y ∙ ap (λ (r : List ℕ). f (take k r)) rest_of)
-        ∙ ap (λ (x : List ℕ). done ++ (here ++ x)) (ap (drop k) rest_of ∙ drop-drop k (c * k) l₀ ∙ ap (λ (i : ℕ). drop i l₀) (sym (suc-mul c k)))
-        ∙ sym (append_assoc done here (drop (suc c * k) l₀)))
+  pub changed-turn : (ys : List ℕ) → ys ≡ f (part k l c) → Changed f k l₀ (take (c * k) l ++ (ys ++ drop k (drop (c * k) l))) (c + 1)
+  unfolding on_parts
+  changed-turn ys y =
+      let done : List ℕ = on_parts f k c l₀ in
+      let here : List ℕ = f (part k l₀ c) in
+      rw (add-one c)
+      (ap (λ (x : List ℕ). x ++ (ys ++ drop k (drop (c * k) l))) (ap (take (c * k)) e ∙ take_at done (drop (c * k) l₀) (c * k) long)
+      ∙ ap (λ (x : List ℕ). done ++ (x ++ drop k (drop (c * k) l))) (y ∙ ap (λ (r : List ℕ). f (take k r)) rest_of)
+      ∙ ap (λ (x : List ℕ). done ++ (here ++ x)) (ap (drop k) rest_of ∙ drop-drop k (c * k) l₀ ∙ ap (λ (i : ℕ). drop i l₀) (sym (suc-mul c k)))
+      ∙ sym (append_assoc done here (drop (suc c * k) l₀)))
+
+  -- the parts up to this one are as long as they were too
+  pub parts-longer : (ys : List ℕ) → ys ≡ f (part k l c) → length ys ≡ k → length (on_parts f k (c + 1) l₀) ≡ (c + 1) * k
+  unfolding on_parts
+  parts-longer ys y n =
+      let same : f (part k l₀ c) ≡ ys = sym (y ∙ ap (λ (r : List ℕ). f (take k r)) rest_of) in
+      rw (add-one c)
+      (length-append (on_parts f k c l₀) (f (part k l₀ c)) ∙ omega (arith, long, ap length same, n, suc-mul c k))
 
 -- ---- the loops that move words down: in each of m columns the same slots are passed
 pub moved-start : (ms : List Bool) (k m : ℕ) (l : List ℕ) (n : ℕ) → NoneMarked ms 0 n → Moved ms k m l l n n

@@ -1,5 +1,5 @@
 // Marks of slots in bits: tested, set and counted. Bit i % 64 of word i / 64 is the mark of slot i.
-ghost use Rattle.std.specs.Prelude.{true, false, ◌≡◌, ◌*◌, ◌%◌, ◌^◌, ◌≤◌, ◌<◌, min, get_or, set};
+ghost use Rattle.std.specs.Prelude.{true, false, ◌≡◌, ◌*◌, ◌%◌, ◌^◌, ◌≤◌, ◌<◌, get_or, set};
 ghost use Rattle.std.specs.Int.Count.{ones};
 ghost use Rattle.rows.specs.vocabulary.Sizes.{ROWS};
 ghost use Rattle.changes.specs.vocabulary.Bits.{BITS, WORDS, EndsWord, marks_in, gones};
@@ -13,22 +13,12 @@ pub const WORDS: usize = ROWS / BITS;
 
 pub type SlotBits = [u64; WORDS];
 
-// The smaller of two.
-pub fn least(a: usize, b: usize) -> usize
-    ensures { result ≡ min a b }
-{
-    if a < b {
-        return a;
-    }
-    b
-}
-
 // Where the slots from i on that have their marks in one word end, among the first count.
 pub fn word_end(i: usize, count: usize) -> usize
     requires { (i < count) × (count ≤ ROWS) }
     ensures { EndsWord i count result }
 {
-    least((i / BITS + 1) * BITS, count)
+    ((i / BITS + 1) * BITS).min(count)
 }
 
 // Whether slot i is marked.
@@ -54,7 +44,7 @@ pub fn count_bits(w: u64) -> usize
     ensures within { result ≤ BITS }
     ensures counted { result ≡ ones (w % 2 ^ BITS) }
 {
-    u64::count_ones(w) as usize
+    w.count_ones() as usize
 }
 
 // How many of the slots of the first words are marked.

@@ -2,28 +2,27 @@
 ghost use Rattle.std.specs.Prelude.{◌≡◌, ◌+◌, ◌*◌, ◌≤◌, ◌<◌, length};
 ghost use Rattle.changes.specs.vocabulary.Marks.{cleared, on_parts};
 
+use crate::on_each::{OnColumn, on_each};
+
 // so many rows or more are cleared column by column
 const MANY: usize = 4;
 
-// Sets the words of one column from one position up to another to 0.
-fn clear(column: &mut [u32], from: usize, to: usize)
-    requires { (from ≤ to) × (to ≤ length column.old) }
-    ensures { column.new ≡ cleared from to column.old }
-{
-    for i in from..to {
-        column[i] = 0;
-    }
+// Sets the words from one position up to another to 0.
+#[derive(Clone, Copy)]
+struct Clear {
+    from: usize,
+    to: usize,
 }
 
-// Sets them to 0 in each of the columns.
-fn clear_all(part: &mut [u32], size: usize, columns: usize, from: usize, to: usize)
-    requires { (length part.old ≡ columns * size) × (from ≤ to) × (to ≤ size) }
-    ensures { part.new ≡ on_parts (cleared from to) size columns part.old }
-{
-    for c in 0..columns {
-        let a = c * size;
-        let e = a + size;
-        clear(&mut part[a..e], from, to);
+impl OnColumn for Clear {
+    ghost fits = { λ x k. (x.from ≤ x.to) × (x.to ≤ k) };
+
+    ghost does = { λ x. cleared x.from x.to };
+
+    fn on(&self, column: &mut [u32]) {
+        for i in self.from..self.to {
+            column[i] = 0;
+        }
     }
 }
 
@@ -32,10 +31,8 @@ fn clear_row(part: &mut [u32], size: usize, columns: usize, row: usize)
     requires { (length part.old ≡ columns * size) × (row < size) }
     ensures { part.new ≡ on_parts (cleared row (row + 1)) size columns part.old }
 {
-    let mut k = row;
-    while k < columns * size {
+    for k in (row..columns * size).step_by(size) {
         part[k] = 0;
-        k += size;
     }
 }
 
@@ -58,6 +55,6 @@ pub fn clear_columns(part: &mut [u32], size: usize, columns: usize, from: usize,
     if to - from < MANY {
         clear_rows(part, size, columns, from, to);
     } else {
-        clear_all(part, size, columns, from, to);
+        on_each(part, size, columns, &Clear { from, to });
     }
 }

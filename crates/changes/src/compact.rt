@@ -18,11 +18,9 @@ fn count_runs(marks: &SlotBits, from: usize, end: usize) -> usize
     ensures { result ≤ ROWS }
 {
     let mut total = 0;
-    let mut k = from / BITS;
-    while k * BITS < end {
+    for k in from / BITS..end.div_ceil(BITS) {
         let w = marks[k];
         total += count_bits(w & !(w << 1));
-        k += 1;
     }
     total
 }

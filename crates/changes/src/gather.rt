@@ -6,6 +6,7 @@ ghost use Rattle.changes.specs.vocabulary.Marks.{NoneMarked, Lists, Ahead, Moved
 ghost use Rattle.changes.specs.vocabulary.Marks.{gathered, on_parts};
 
 use crate::bits::{BITS, SlotBits, word_end};
+use crate::on_each::{OnColumn, on_each};
 
 // Lists the slots from one up to an end in the same word that are not marked, and says how many they are.
 // Ruled out: a marked slot in the list; one that is not marked left out.
@@ -24,27 +25,22 @@ fn list_left(slots: &mut [u16], marks: &SlotBits, from: usize, end: usize) -> us
     n
 }
 
-// Moves down, in one column, the words of the first slots of a list.
-fn gather(column: &mut [u32], to: usize, slots: &[u16], n: usize)
-    requires { (n ≤ length slots.now) × Ahead to (length column.old) slots.now n }
-    ensures { column.new ≡ gathered to slots.now n column.old }
-{
-    for k in 0..n {
-        column[to + k] = column[slots[k] as usize];
-    }
+// Moves down, to one position and on, the words of the slots of a list.
+#[derive(Clone, Copy)]
+struct Gather<'a> {
+    to: usize,
+    slots: &'a [u16],
 }
 
-// Moves them down in each of the columns of one size that stand one after the other.
-fn gather_all(part: &mut [u32], size: usize, columns: usize, to: usize, slots: &[u16], n: usize)
-    requires sizes { (length part.old ≡ columns * size) × (n ≤ length slots.now) × (to + n ≤ size) }
-    requires ahead { Ahead to size slots.now n }
-    ensures { part.new ≡ on_parts (gathered to slots.now n) size columns
-        part.old }
-{
-    for c in 0..columns {
-        let a = c * size;
-        let e = a + size;
-        gather(&mut part[a..e], to, slots, n);
+impl OnColumn for Gather<'_> {
+    ghost fits = { λ x k. (x.to + length x.slots.now ≤ k) × Ahead x.to k x.slots.now (length x.slots.now) };
+
+    ghost does = { λ x. gathered x.to x.slots.now (length x.slots.now) };
+
+    fn on(&self, column: &mut [u32]) {
+        for (k, &slot) in self.slots.iter().enumerate() {
+            column[self.to + k] = column[slot as usize];
+        }
     }
 }
 
@@ -65,9 +61,10 @@ fn gather_word(
     ensures moved { MovesOn (marks_in marks.now) size columns from to end (to + result)
         part.old part.new }
 {
-    let mut slots = [0u16; BITS];
-    let n = list_left(&mut slots, marks, from, end);
-    gather_all(part, size, columns, to, &slots, n);
+    let mut room = [0u16; BITS];
+    let n = list_left(&mut room, marks, from, end);
+    let slots = &room[..n];
+    on_each(part, size, columns, &Gather { to, slots });
     n
 }
 

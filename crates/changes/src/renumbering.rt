@@ -5,7 +5,7 @@ ghost use Rattle.changes.specs.vocabulary.Bits.{EndsWord, marks_in};
 ghost use Rattle.changes.specs.vocabulary.Marks.{NoneMarked, AllMarked, lefts, RanksRun, RanksOn, Ranks};
 ghost use Rattle.changes.specs.vocabulary.Marks.{rank_at, Remapped, RenumbersSources};
 
-use crate::bits::{BITS, SlotBits, least, word_end};
+use crate::bits::{BITS, SlotBits, word_end};
 use crate::runs::next_left;
 use rows::layout::{DEPTH, ROWS, SOURCE, VIA};
 
@@ -78,7 +78,7 @@ fn rank_at(to: &[u16], s: u32) -> u32
     requires { ROWS < length to.now }
     ensures { result ≡ rank_at to.now s }
 {
-    to[least(s as usize, ROWS)] as u32
+    to[(s as usize).min(ROWS)] as u32
 }
 
 // Looks the words of a column from one position up to another up in a table.

@@ -5,7 +5,8 @@ ghost use Rattle.changes.specs.vocabulary.Bits.{BITS, WORDS, bit, marks_in, same
 ghost use Rattle.changes.specs.vocabulary.Marks.{NoneMarked, EndsAt, EndsOn, lefts};
 ghost use Rattle.changes.specs.vocabulary.Marks.{Moved, slid, on_parts};
 
-use crate::bits::{BITS, SlotBits, least};
+use crate::bits::{BITS, SlotBits};
+use crate::on_each::{OnColumn, on_each};
 
 // ---- runs of marks
 // The word of which a bit is set where the slot is marked, or where it is not.
@@ -24,13 +25,11 @@ fn next_in_words(marks: &SlotBits, marked: bool, word: usize, count: usize) -> u
     requires { (word ≤ WORDS) × (count ≤ ROWS) }
     ensures { EndsOn (marks_in marks.now) marked (word * BITS) count result }
 {
-    let mut k = word;
-    while k * BITS < count {
+    for k in word..count.div_ceil(BITS) {
         let w = word_of(marks[k], marked);
         if w != 0 {
-            return least(k * BITS + u64::trailing_zeros(w) as usize, count);
+            return (k * BITS + w.trailing_zeros() as usize).min(count);
         }
-        k += 1;
     }
     count
 }
@@ -45,7 +44,7 @@ fn next(marks: &SlotBits, marked: bool, from: usize, count: usize) -> usize
     }
     let rest = word_of(marks[from / BITS], marked) >> (from % BITS);
     if rest != 0 {
-        return least(from + u64::trailing_zeros(rest) as usize, count);
+        return (from + rest.trailing_zeros() as usize).min(count);
     }
     next_in_words(marks, marked, from / BITS + 1, count)
 }
@@ -69,25 +68,21 @@ pub fn next_left(marks: &SlotBits, from: usize, count: usize) -> usize
 }
 
 // ---- runs of words
-// Moves a run of words of one column down.
-fn slide(column: &mut [u32], to: usize, from: usize, len: usize)
-    requires { (to ≤ from) × (from + len ≤ length column.old) }
-    ensures { column.new ≡ slid to from len column.old }
-{
-    for k in 0..len {
-        column[to + k] = column[from + k];
-    }
+// Moves a run of words of a column down.
+#[derive(Clone, Copy)]
+struct Slide {
+    to: usize,
+    from: usize,
+    len: usize,
 }
 
-// Moves it down in each of the columns of one size that stand one after the other.
-fn slide_all(part: &mut [u32], size: usize, columns: usize, to: usize, from: usize, len: usize)
-    requires { (length part.old ≡ columns * size) × (to ≤ from) × (from + len ≤ size) }
-    ensures { part.new ≡ on_parts (slid to from len) size columns part.old }
-{
-    for c in 0..columns {
-        let a = c * size;
-        let e = a + size;
-        slide(&mut part[a..e], to, from, len);
+impl OnColumn for Slide {
+    ghost fits = { λ x k. (x.to ≤ x.from) × (x.from + x.len ≤ k) };
+
+    ghost does = { λ x. slid x.to x.from x.len };
+
+    fn on(&self, column: &mut [u32]) {
+        column.copy_within(self.from..self.from + self.len, self.to);
     }
 }
 
@@ -117,7 +112,12 @@ pub fn move_by_runs(
         let b = next_left(marks, e, count);
         let f = next_marked(marks, b, count);
         let len = e - a;
-        slide_all(part, size, columns, j, a, len);
+        let slide = Slide {
+            to: j,
+            from: a,
+            len,
+        };
+        on_each(part, size, columns, &slide);
         j += len;
         a = b;
         e = f;

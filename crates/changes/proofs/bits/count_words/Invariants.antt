@@ -1,5 +1,5 @@
 -- The words passed are counted.
-use Prim.Native.Nat.{◌-◌, ◌*◌, ◌≤◌}
+use Prim.Native.Nat.{◌*◌, ◌≤◌}
 use mathlib.Core.Path.{◌≡◌}
 use Rattle.changes.specs.vocabulary.Bits.{marks_in, gones}
 use Rattle.changes.proofs.bits.count_words.Given as goal

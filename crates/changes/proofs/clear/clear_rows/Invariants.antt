@@ -1,5 +1,5 @@
 -- The rows passed are 0 in each of the columns.
-use Prim.Native.Nat.{◌≤◌, ◌-◌}
+use Prim.Native.Nat.{◌≤◌}
 use mathlib.Core.Path.{◌≡◌}
 use lib.ListN.{length}
 use Rattle.changes.specs.vocabulary.Marks.{cleared, on_parts}

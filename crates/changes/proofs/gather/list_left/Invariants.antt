@@ -1,5 +1,5 @@
 -- The slots passed that are not marked are listed.
-use Prim.Native.Nat.{◌≤◌, ◌-◌}
+use Prim.Native.Nat.{◌≤◌}
 use mathlib.Core.Path.{◌≡◌}
 use lib.ListN.{length}
 use Rattle.changes.specs.vocabulary.Bits.{marks_in}

@@ -1,5 +1,5 @@
 -- The slots passed have their new numbers.
-use Prim.Native.Nat.{◌≤◌, ◌-◌}
+use Prim.Native.Nat.{◌≤◌}
 use mathlib.Core.Path.{◌≡◌}
 use lib.ListN.{length}
 use Rattle.changes.specs.vocabulary.Marks.{RanksRun}

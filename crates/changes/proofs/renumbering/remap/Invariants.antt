@@ -1,5 +1,5 @@
 -- The words passed are looked up, the others are as they were.
-use Prim.Native.Nat.{◌≤◌, ◌-◌}
+use Prim.Native.Nat.{◌≤◌}
 use Rattle.changes.specs.vocabulary.Marks.{Remapped}
 use Rattle.changes.proofs.renumbering.remap.Given as goal
 

@@ -32,11 +32,11 @@ next_marked-f-requires c = (c.next_left-b.ensures.within, c.requires.sizes.3)
 pub overflow_sub-len : goal.overflow_sub-len
 overflow_sub-len c = c.loop-j.invariant.0
 
-pub slide_all-requires : goal.slide_all-requires
-slide_all-requires c =
+pub on_each-requires : goal.on_each-requires
+on_each-requires c =
     let l = c.loop-j in
     let low = lefts-le (marks_in c.args.marks.now) l.a in
-    (l.invariant.4, omega (arith, l.invariant.2, low), omega (arith, l.invariant.0, l.invariant.1, c.requires.sizes))
+    record { sizes = l.invariant.4; fits = (omega (arith, l.invariant.2, low), omega (arith, l.invariant.0, l.invariant.1, c.requires.sizes)) }
 
 pub overflow_add-j : goal.overflow_add-j
 overflow_add-j c =
@@ -62,7 +62,7 @@ loop-j-smaller c =
 
 pub loop-j-preserved : goal.loop-j-preserved
 loop-j-preserved c =
-    let slid = c.slide_all in
+    let slid = c.on_each in
     let marked = c.next_left-b in
     let clear = c.next_marked-f in
     let l = c.loop-j in

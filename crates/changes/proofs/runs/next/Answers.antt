@@ -42,7 +42,7 @@ returns-then-rest-ne0 c =
     let rest : ℕ = w.result / 2 ^ (from % 64) in
     let some : 0 < rest = omega (arith, c.if-rest-ne0.true) in
     let split : from / 64 * 64 + from % 64 ≡ from = div-add-mod' from 64 in
-    subst (λ (r : ℕ). EndsAt (marks_in marks) m from c.args.count r) (sym c.least.ensures)
+    subst (λ (r : ℕ). EndsAt (marks_in marks) m from c.args.count r) (sym c.min.ensures)
     (subst (λ (i : ℕ). EndsAt (marks_in marks) m i c.args.count (min (i + count_trailing_zeros 64 rest) c.args.count)) split
     (found 64 marks m (from / 64) (from % 64) w.result rest w.ensures.within w.ensures.bits (λ k. bit_shifted w.result (from % 64) k) some
     (lt_of_le_of_lt (shr_le w.result (from % 64)) w.ensures.within) c.args.count (omega (arith, c.requires.0))))

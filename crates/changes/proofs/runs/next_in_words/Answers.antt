@@ -1,4 +1,3 @@
-use borrow.Author.Rules.{rules}
 use Prim.Native.Nat.{ℕ, ◌+◌, ◌*◌, ◌≤◌, ◌<◌}
 use mathlib.Core.Path.{sym, subst}
 use native.Mathlib.Nat.{lt_of_le_of_lt}
@@ -11,7 +10,7 @@ use Rattle.changes.proofs.NextSlot.{passes_on, ends_on, ends-none, none-in-word,
 use Rattle.changes.proofs.runs.next_in_words.Goals as goal
 
 pub loop-k-init : goal.loop-k-init
-loop-k-init c = (search rules, search rules, (λ i h k. absurd (omega arith)))
+loop-k-init c = λ i h k. absurd (omega arith)
 
 pub overflow_cast-w : goal.overflow_cast-w
 overflow_cast-w c = record { fits = lt_of_le_of_lt (trailing_le 64 _) (lit< tt) }
@@ -20,7 +19,7 @@ pub overflow_add-k : goal.overflow_add-k
 overflow_add-k c =
     let l = c.loop-k in
     let few : count_trailing_zeros 64 c.word_of-w.result ≤ 64 = trailing_le 64 c.word_of-w.result in
-    record { fits = lt_of_le_of_lt (omega (arith, few, l.invariant.1)) (lit< {m = 1088} tt) }
+    record { fits = lt_of_le_of_lt (omega (arith, few, c.loop-k-test.true, c.requires.1)) (lit< {m = 1088} tt) }
 
 pub returns-then-w-ne0 : goal.returns-then-w-ne0
 returns-then-w-ne0 c =
@@ -30,9 +29,9 @@ returns-then-w-ne0 c =
     let k : ℕ = c.loop-k.k in
     let some : 0 < w.result = omega (arith, c.if-w-ne0.true) in
     λ from h few p.
-    subst (λ (r : ℕ). EndsAt (marks_in marks) m from c.args.count r) (sym c.least.ensures)
-    (ends_on (marks_in marks) m from (k * 64) c.args.count _ (omega (arith, h, c.loop-k.invariant.0))
-    (passes_on (marks_in marks) m from (c.args.word * 64) (k * 64) p c.loop-k.invariant.2)
+    subst (λ (r : ℕ). EndsAt (marks_in marks) m from c.args.count r) (sym c.min.ensures)
+    (ends_on (marks_in marks) m from (k * 64) c.args.count _ (omega (arith, h, c.loop-k.auto.k))
+    (passes_on (marks_in marks) m from (c.args.word * 64) (k * 64) p c.loop-k.invariant)
     (found-in-word 64 marks m k w.result w.ensures.within w.ensures.bits some c.args.count (omega (arith, c.loop-k-test.true))))
 
 pub loop-k-preserved : goal.loop-k-preserved
@@ -40,15 +39,11 @@ loop-k-preserved c =
     let w = c.word_of-w in
     let marks = c.args.marks.now in
     let m = c.args.marked in
-    let test = c.loop-k-test.true in (
-      omega (arith, c.loop-k.invariant.0),
-      omega (arith, test, c.requires.1),
-      passes_on (marks_in marks) m (c.args.word * 64) (c.loop-k.k * 64) ((c.loop-k.k + 1) * 64) c.loop-k.invariant.2
-          (none-in-word 64 marks m c.loop-k.k w.result w.ensures.within w.ensures.bits c.if-w-ne0.false),
-    )
+    passes_on (marks_in marks) m (c.args.word * 64) (c.loop-k.k * 64) ((c.loop-k.k + 1) * 64) c.loop-k.invariant
+    (none-in-word 64 marks m c.loop-k.k w.result w.ensures.within w.ensures.bits c.if-w-ne0.false)
 
 pub returns : goal.returns
 returns c =
     λ from h k p.
     ends-none (marks_in c.args.marks.now) c.args.marked from (c.loop-k.k * 64) c.args.count k (omega (arith, c.loop-k-test.false))
-    (passes_on (marks_in c.args.marks.now) c.args.marked from (c.args.word * 64) (c.loop-k.k * 64) p c.loop-k.invariant.2)
+    (passes_on (marks_in c.args.marks.now) c.args.marked from (c.args.word * 64) (c.loop-k.k * 64) p c.loop-k.invariant)
