@@ -1,9 +1,9 @@
 // The first stage of `sound`: numbers rise, sources stand before their rows, unused slots are 0. Every word is looked
 // at, with no way out early, so that the loops run over many words at once.
-ghost use Rattle.std.specs.Prelude.{◌≤◌, length};
+ghost use Rattle.std.specs.Prelude.{◌+◌, ◌*◌, ◌≤◌, length};
 ghost use Rattle.rows.specs.vocabulary.Sizes.{ROWS, REQUESTS, IsTables};
 ghost use Rattle.soundness.specs.vocabulary.Laid.{Decides, Rising, Older, ZeroFrom, RowsUnused, RequestsUnused};
-ghost use Rattle.soundness.specs.vocabulary.Laid.{RowsLaid, RequestsLaid};
+ghost use Rattle.soundness.specs.vocabulary.Laid.{ColumnsUnused, RowsLaid, RequestsLaid};
 
 use rows::layout::{
     DEPTH, KIND, NUMBER, Q_NUMBER, Q_PORT, REQUEST_COLUMNS, REQUESTS, ROW_COLUMNS, ROWS, SOURCE,
@@ -12,6 +12,7 @@ use rows::layout::{
 
 // Whether the words of a column from position k on are 0: whether all their bits together are.
 // Ruled out: yes where the last word is not 0; no for what stands before position k.
+// By index, since k may be past the end; .skip(k) with .all or .fold takes 6 to 9 times the instructions.
 pub fn zero_from(column: &[u32], k: usize) -> bool
     ensures { Decides result (ZeroFrom k column.now) }
 {
@@ -30,8 +31,7 @@ pub fn rising(column: &[u32], k: usize) -> bool
 {
     let mut rise = true;
     let mut last: u32 = 0;
-    for i in 0..k {
-        let n = column[i];
+    for &n in &column[..k] {
         rise = rise & (last < n);
         last = n;
     }
@@ -40,19 +40,30 @@ pub fn rising(column: &[u32], k: usize) -> bool
 
 // Whether each of the first k words of a column of sources is 0 or the slot of an older row, plus 1.
 // Ruled out: yes where a row is its own source; no where it comes from the row just before it.
+// By index: .enumerate() takes 2.5 times the instructions, .zip(1u32..).all 6 times.
 pub fn older(column: &[u32], k: usize) -> bool
     requires { (k ≤ length column.now) × (k ≤ ROWS) }
     ensures { Decides result (Older k column.now) }
 {
     let mut old = true;
-    let mut i = 0;
-    while i < k {
-        let s = column[i];
-        i += 1;
-        let next = i as u32;
-        old = old & (s < next);
+    for i in 0..k {
+        old = old & (column[i] <= i as u32);
     }
     old
+}
+
+// Whether the slots from k on are 0 in each of so many columns of one size, which stand one after another from a position
+// on. Ruled out: yes where a word of the last column is left; no for a word before slot k.
+fn columns_unused(t: &[u32], start: usize, size: usize, columns: usize, k: usize) -> bool
+    requires { start + columns * size ≤ length t.now }
+    ensures { Decides result (ColumnsUnused t.now start size columns k) }
+{
+    let mut unused = true;
+    for c in 0..columns {
+        let from = start + c * size;
+        unused = unused & zero_from(&t[from..from + size], k);
+    }
+    unused
 }
 
 // Whether the slots from n on are 0 in each column of rows.
@@ -61,13 +72,7 @@ pub fn rows_unused(t: &[u32], n: usize) -> bool
     requires { IsTables t.now }
     ensures { Decides result (RowsUnused t.now n) }
 {
-    let mut unused = true;
-    for c in 0..ROW_COLUMNS {
-        let start = c * ROWS;
-        let end = start + ROWS;
-        unused = unused & zero_from(&t[start..end], n);
-    }
-    unused
+    columns_unused(t, NUMBER, ROWS, ROW_COLUMNS, n)
 }
 
 // Whether the slots from m on are 0 in each column of requests.
@@ -76,13 +81,7 @@ pub fn requests_unused(t: &[u32], m: usize) -> bool
     requires { IsTables t.now }
     ensures { Decides result (RequestsUnused t.now m) }
 {
-    let mut unused = true;
-    for c in 0..REQUEST_COLUMNS {
-        let start = Q_NUMBER + c * REQUESTS;
-        let end = start + REQUESTS;
-        unused = unused & zero_from(&t[start..end], m);
-    }
-    unused
+    columns_unused(t, Q_NUMBER, REQUESTS, REQUEST_COLUMNS, m)
 }
 
 // Whether n rows stand in the first slots, as a state lays them out.

@@ -8,12 +8,12 @@ ghost use Rattle.rows.specs.vocabulary.OfState.{OfRows, TestsTables};
 ghost use Rattle.soundness.specs.vocabulary.Laid.{before};
 ghost use Rattle.soundness.specs.vocabulary.Clauses.{all_of_next};
 
+use rows::Process;
 use rows::codes::{A_SUBDIRECTORY, clist, is_node};
 use rows::find::row_among;
 use rows::layout::{KIND, NEXT, NUMBER, PROCESSES, Q_NUMBER, Q_PORT};
 use rows::read::row_at;
 use rows::records::record_at;
-use rows::Process;
 
 // ---- the next number
 // The last of the first k words of a column, 0 for none. Ruled out: the word after it; the first word.

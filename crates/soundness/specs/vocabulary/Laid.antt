@@ -24,6 +24,10 @@ Older k l = (i : ℕ) → i < k → get_or l i 0 ≤ i
 unfoldable pub ZeroFrom : ℕ → List ℕ → Type 0
 ZeroFrom k l = (i : ℕ) → k ≤ i → get_or l i 0 ≡ 0
 
+-- the slots from k on are 0 in each of so many columns of one size, which stand one after another from position a on
+abbrev pub ColumnsUnused : List ℕ → ℕ → ℕ → ℕ → ℕ → Type 0
+ColumnsUnused t a size columns k = (c i : ℕ) → c < columns → k ≤ i → i < size → get_or t (a + (c * size + i)) 0 ≡ 0
+
 -- the slots from n on are 0 in each column of rows
 abbrev pub RowsUnused : List ℕ → ℕ → Type 0
 RowsUnused t n = (c i : ℕ) → c < ROW-COLUMNS → n ≤ i → i < ROWS → get_or t (c * ROWS + i) 0 ≡ 0

@@ -1,12 +1,8 @@
 -- `laid::older` meets its contract: the answer so far tells of the positions passed.
-use Prim.Native.Nat.{◌≤◌, ◌-◌}
-use lib.ListN.{get_or}
+use Rattle.std.proofs.Common.{◌≤◌, get_or}
 use Rattle.soundness.specs.vocabulary.Laid.{Decides}
 use Rattle.soundness.proofs.Decides.{Between}
 use Rattle.soundness.proofs.laid.older.Given as goal
 
 abbrev pub invariant-loop-i : goal.invariant-loop-i
-invariant-loop-i l = (l.i ≤ l.k) × Decides l.old (Between 0 l.i (λ j. get_or l.column j 0 ≤ j))
-
-abbrev pub decreases-loop-i : goal.decreases-loop-i
-decreases-loop-i l = l.k - l.i
+invariant-loop-i l = Decides l.old (Between 0 l.i (λ j. get_or l.column j 0 ≤ j))

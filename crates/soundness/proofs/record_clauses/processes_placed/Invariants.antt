@@ -1,5 +1,5 @@
 -- `record_clauses::processes_placed` meets its contract: the answer so far is that of the records passed.
-use Prim.Native.Nat.{◌≤◌, ◌-◌}
+use Prim.Native.Nat.{◌≤◌}
 use lib.ListN.{take}
 use Rattle.rows.specs.Sound.{placed_from}
 use Rattle.rows.specs.Layout.{records_in}

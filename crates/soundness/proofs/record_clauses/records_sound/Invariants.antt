@@ -1,5 +1,5 @@
 -- `record_clauses::records_sound` meets its contract: the answer so far is that of the records passed.
-use Prim.Native.Nat.{◌≤◌, ◌-◌}
+use Prim.Native.Nat.{◌≤◌}
 use mathlib.Core.Path.{◌≡◌}
 use lib.ListN.{take}
 use Rattle.rows.specs.Lists.{all}
