@@ -26,23 +26,12 @@ const DEPTH_AT: u32 = 4194304;
 // kind, operation and object together
 const OBJECTS: u32 = 262144;
 
-// 1 for yes. Ruled out: 0 for yes; 2.
-fn bit(b: bool) -> u32
-    ensures within { result ≤ 1 }
-    ensures value { result ≡ (if b then 1 else 0) }
-{
-    if b {
-        return 1;
-    }
-    0
-}
-
 // Ruled out: two parts that overlap; a sum that wraps for a row that is not in range.
 pub fn pack(x: Row) -> u32
     ensures { result ≡ packed x }
 {
     let node = is_node(x.place);
-    let place = bit(node);
+    let place = u32::from(node);
     let object = KIND_AT * (x.kind % 8)
         + OPERATION_AT * (x.operation % 256)
         + OBJECT_AT * (x.object % 128);

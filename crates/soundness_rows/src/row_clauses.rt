@@ -21,7 +21,7 @@ use rows::{Rights, Row};
 pub fn follows(a: u32, b: u32) -> bool
     ensures { result ≡ (suc a == b) }
 {
-    (0 < b) & (std::num::wrapping_sub_u32(b, 1) == a)
+    (0 < b) & (b.wrapping_sub(1) == a)
 }
 
 // ---- fields in range
@@ -56,7 +56,7 @@ pub fn place_in_range(x: Row, p: &[u32]) -> bool
 {
     let node = is_node(x.place);
     let clist = is_clist(x.place);
-    let home = listed(p, std::num::wrapping_sub_u32(x.place, BEFORE_CLISTS));
+    let home = listed(p, x.place.wrapping_sub(BEFORE_CLISTS));
     node | ((clist & home) | (x.place == THE_SYSTEM))
 }
 
@@ -141,11 +141,9 @@ pub fn source_right(x: Row, s: u32, v: u32) -> bool
 pub fn depth_right(x: Row, s: u32, v: u32) -> bool
     ensures { SaysOf x s v result depth_next }
 {
-    let mut top = depth_in(s);
+    let first = depth_in(s);
     let second = depth_in(v);
-    if top < second {
-        top = second;
-    }
+    let top = first.max(second);
     follows(top, x.depth)
 }
 

@@ -39,14 +39,12 @@ fn ends_paired(t: &[u32], n: usize) -> bool
     }
     let oldest = row_at(t, 0);
     let mut right = !(oldest.kind == A_SERVER_END);
-    let mut i = 0;
-    while i < n - 1 {
+    for i in 0..n - 1 {
         let a = row_at(t, i);
-        i += 1;
-        let b = row_at(t, i);
+        let b = row_at(t, i + 1);
         right = beside(a, b) & right;
     }
-    let newest = row_at(t, i);
+    let newest = row_at(t, n - 1);
     right & !(newest.kind == A_CLIENT_END)
 }
 
@@ -89,12 +87,10 @@ fn sources_sound(t: &[u32], p: &[u32], n: usize) -> bool
 {
     let mut packs = [0u32; PACKED];
     let mut right = true;
-    let mut i = 0;
-    while i < n {
+    for i in 0..n {
         let x = row_at(t, i);
         right = own_right(x, p) & right;
-        i += 1;
-        packs[i] = pack(x);
+        packs[i + 1] = pack(x);
     }
     right & packed_sound(t, &packs, n)
 }

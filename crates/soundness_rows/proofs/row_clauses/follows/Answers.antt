@@ -1,9 +1,8 @@
 -- `row_clauses::follows` meets its contract: the number before wraps where there is none.
+use Rattle.std.proofs.Common.{◌+◌, ◌%◌, arith}
 use Rattle.soundness_rows.proofs.RowClauses.{follows-wraps}
 use Rattle.soundness_rows.proofs.row_clauses.follows.Goals as goal
 
 pub returns : goal.returns
 returns c =
-    let a = c.args in
-    let w = c.wrapping_sub_u32 in
-    follows-wraps a.a a.b w.result w.type_inv w.ensures.value
+    let b = c.args.b in follows-wraps c.args.a b ((b + 4294967295) % 4294967296) (omega arith) (omega (arith, c.ranges.b.fits))

@@ -1,5 +1,5 @@
 -- `rows_sound::packed_sound` meets its contract: the rows of the slots passed have right sources, or one has not.
-use Rattle.std.proofs.Common.{◌≡◌, ◌-◌, ◌≤◌, length}
+use Rattle.std.proofs.Common.{◌≡◌, ◌≤◌, length}
 use Rattle.rows.specs.Tables.{State}
 use Rattle.rows.specs.vocabulary.Represents.{Represents}
 use Rattle.soundness_rows.specs.vocabulary.Clauses.{by_sources}
