@@ -7,7 +7,7 @@ use native.Mathlib.Decide.{ℕ_discrete}
 use native.Mathlib.Omega.{arith}
 use borrow.Author.Tests.{eq-eqb, ne_eqb, le-leb, leb-true}
 use lib.Dec.{leb, eqb}
-use lib.ListN.{length, get_or, set, replicate, length-set}
+use lib.ListN.{length, get_or, set, take, replicate, length-set}
 use lib.Seq.{get_or-set_same, get_or-set_other}
 use Rattle.rows.specs.declared.Request.{Request}
 use Rattle.rows.specs.Lists.{any, all, member, some, nonzero}
@@ -72,24 +72,22 @@ unfolding list_at
 list-kept code i l e = rw (ne_eqb (get_or l i 0) 0 e) refl
 
 -- ---- four slots
-pub any-four : (f : ℕ → Bool) (ss : List ℕ) → length ss ≡ 4 → f (get_or ss 0 0) || (f (get_or ss 1 0) || (f (get_or ss 2 0) || f (get_or ss 3 0))) ≡ any f ss
-unfolding any
-any-four f [] e = absurd (omega arith)
-any-four f (a ∷ []) e = absurd (omega arith)
-any-four f (a ∷ b ∷ []) e = absurd (omega arith)
-any-four f (a ∷ b ∷ c ∷ []) e = absurd (omega arith)
-any-four f (a ∷ b ∷ c ∷ d ∷ []) e = ap (λ (x : Bool). f a || (f b || (f c || x))) (sym (or-false (f d)))
-any-four f (a ∷ b ∷ c ∷ d ∷ x ∷ ss) e = absurd (omega arith)
-
-pub list-four : (code : ℕ) (ss l : List ℕ) → length ss ≡ 4
-    → list_at code (get_or ss 3 0) (list_at code (get_or ss 2 0) (list_at code (get_or ss 1 0) (list_at code (get_or ss 0 0) l))) ≡ list_all code ss l
+-- one slot more of a list
+pub list-more : (code k : ℕ) (ss l : List ℕ) → k < length ss → list_all code (take (suc k) ss) l ≡ list_at code (get_or ss k 0) (list_all code (take k ss) l)
 unfolding list_all
-list-four code [] l e = absurd (omega arith)
-list-four code (a ∷ []) l e = absurd (omega arith)
-list-four code (a ∷ b ∷ []) l e = absurd (omega arith)
-list-four code (a ∷ b ∷ c ∷ []) l e = absurd (omega arith)
-list-four code (a ∷ b ∷ c ∷ d ∷ []) l e = refl
-list-four code (a ∷ b ∷ c ∷ d ∷ x ∷ ss) l e = absurd (omega arith)
+list-more code k [] l h = absurd (omega arith)
+list-more code zero (s ∷ ss) l h = refl
+list-more code (suc k) (s ∷ ss) l h = list-more code k ss (list_at code s l) (omega arith)
+
+or-both : (a b c : Bool) → a || (b || c) ≡ (a || b) || c
+or-both true b c = refl
+or-both false b c = refl
+
+pub any-more : (f : ℕ → Bool) (k : ℕ) (ss : List ℕ) → k < length ss → any f (take (suc k) ss) ≡ any f (take k ss) || f (get_or ss k 0)
+unfolding any
+any-more f k [] h = absurd (omega arith)
+any-more f zero (s ∷ ss) h = or-false (f s)
+any-more f (suc k) (s ∷ ss) h = ap (λ (x : Bool). f s || x) (any-more f k ss (omega arith)) ∙ or-both (f s) (any f (take k ss)) (f (get_or ss k 0))
 
 pub within-four : {a b c d n : ℕ} → a ≤ n → b ≤ n → c ≤ n → d ≤ n → (k : ℕ) → get_or (a ∷ b ∷ c ∷ d ∷ []) k 0 ≤ n
 within-four p q r s zero = p

@@ -15,7 +15,8 @@ ghost use Rattle.soundness_loans.specs.vocabulary.Clauses.{once_in, marked_in, l
 
 use crate::request_clauses::{items_lent, lists_none, slot_among};
 use rows::codes::THE_SYSTEM;
-use rows::layout::{PLACE, Q_FETCHED, Q_ITEMS, REQUEST, REQUESTS, ROWS};
+use rows::layout::{PLACE, Q_FETCHED, REQUEST, REQUESTS, ROWS};
+use rows::read::request_at;
 
 // The slots of the items of the request in slot j. Ruled out: three of the four; a slot past the rows in use.
 fn item_slots(t: &[u32], n: usize, j: usize) -> [usize; 4]
@@ -23,11 +24,8 @@ fn item_slots(t: &[u32], n: usize, j: usize) -> [usize; 4]
     ensures within { SlotsWithin n result }
     ensures found { OfRequest t.now n j result item_slots }
 {
-    let a = slot_among(t, n, t[Q_ITEMS + j]);
-    let b = slot_among(t, n, t[Q_ITEMS + REQUESTS + j]);
-    let c = slot_among(t, n, t[Q_ITEMS + 2 * REQUESTS + j]);
-    let d = slot_among(t, n, t[Q_ITEMS + 3 * REQUESTS + j]);
-    [a, b, c, d]
+    let items = request_at(t, j).items;
+    items.map(|e| slot_among(t, n, e))
 }
 
 // Whether a slot is listed. Ruled out: 0, which is no slot, is listed; the slot after decides.
@@ -47,11 +45,11 @@ fn any_listed(listing: &[u8; ROWS], slots: [usize; 4]) -> bool
     requires { SlotsWithin ROWS slots }
     ensures { result ≡ any_listed listing.now slots }
 {
-    let a = is_listed(listing, slots[0]);
-    let b = is_listed(listing, slots[1]);
-    let c = is_listed(listing, slots[2]);
-    let d = is_listed(listing, slots[3]);
-    a | (b | (c | d))
+    let mut listed = false;
+    for s in slots {
+        listed = listed | is_listed(listing, s);
+    }
+    listed
 }
 
 // Lists a slot, unless a newer request did. Ruled out: an older request's code over a newer one's; the slot after.
@@ -73,10 +71,9 @@ fn mark_listing(listing: &mut [u8; ROWS], slots: [usize; 4], code: u8)
     requires { SlotsWithin ROWS slots }
     ensures { listing.new ≡ list_all code slots listing.old }
 {
-    list_at(listing, slots[0], code);
-    list_at(listing, slots[1], code);
-    list_at(listing, slots[2], code);
-    list_at(listing, slots[3], code);
+    for s in slots {
+        list_at(listing, s, code);
+    }
 }
 
 // The code of what a request lists: 1 where it is fetched, 2 where it waits. Ruled out: 0; the two exchanged.
@@ -166,9 +163,7 @@ pub fn holders_sound(t: &[u32], n: usize, m: usize) -> bool
 {
     let mut listing = [0u8; ROWS];
     let mut right = true;
-    let mut j = m;
-    while 0 < j {
-        j -= 1;
+    for j in (0..m).rev() {
         right = list_request(t, n, &mut listing, j) & right;
     }
     let held = rows_held(t, n, &listing);

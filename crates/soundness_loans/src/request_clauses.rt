@@ -186,7 +186,7 @@ fn request_right(t: &[u32], p: &[u32], j: usize) -> bool
 fn newer_than_port(port: u32, q: u32) -> bool
     ensures { result ≡ ltb (suc port) q }
 {
-    (port as u64) + 1 < (q as u64)
+    u64::from(port) + 1 < u64::from(q)
 }
 
 // The slot plus 1 of the client end of the request's port, if the port stands.
@@ -229,14 +229,12 @@ fn first_not_below(t: &[u32], n: usize, from: usize, q: u32) -> usize
     requires { IsTables t.now × (n ≤ ROWS) × (from ≤ n) }
     ensures { FirstNotBelow t.now n from q result }
 {
-    let mut s = from;
-    while s < n {
+    for s in from..n {
         if q <= t[NUMBER + s] {
             return s;
         }
-        s += 1;
     }
-    s
+    n
 }
 
 // (rule S3) No request has the number of a row. Both rise, so one walk along the rows serves all requests.

@@ -1,22 +1,20 @@
--- `holder_clauses::any_listed` meets its contract: the four slots, one by one.
-use borrow.Author.Rules.{rules}
-use Rattle.soundness_loans.specs.vocabulary.Clauses.{code_at}
-use Rattle.rows.specs.Lists.{some}
-use Rattle.soundness_loans.proofs.HolderClauses.{any-four}
+use Rattle.std.proofs.Common.{◌<◌, length, refl, ap, ◌∙◌, add-one, arith, take_all}
+use Rattle.rows.specs.Lists.{any, some}
+use Rattle.soundness_loans.specs.vocabulary.Clauses.{code_at, any_listed}
+use Rattle.soundness_loans.proofs.HolderClauses.{any-more}
 use Rattle.soundness_loans.proofs.holder_clauses.any_listed.Goals as goal
 
-pub is_listed-a-requires : goal.is_listed-a-requires
-is_listed-a-requires c = c.requires 0
+pub loop-s-init : goal.loop-s-init
+unfolding any
+loop-s-init c = refl
 
-pub is_listed-b-requires : goal.is_listed-b-requires
-is_listed-b-requires c = c.requires 1
+pub is_listed-listed-requires : goal.is_listed-listed-requires
+is_listed-listed-requires c = c.requires c.loop-s.s-index
 
-pub is_listed-c-requires : goal.is_listed-c-requires
-is_listed-c-requires c = c.requires 2
-
-pub is_listed-d-requires : goal.is_listed-d-requires
-is_listed-d-requires c = c.requires 3
+pub loop-s-preserved : goal.loop-s-preserved
+loop-s-preserved c =
+    let lt : c.loop-s.s-index < length c.args.slots = omega arith in
+    rw (add-one, any-more (λ s. some (code_at c.args.listing.now s)) c.loop-s.s-index c.args.slots lt, c.is_listed-listed.ensures, c.loop-s.invariant) refl
 
 pub returns : goal.returns
-returns c = rw (c.is_listed-a.ensures, c.is_listed-b.ensures, c.is_listed-c.ensures, c.is_listed-d.ensures)
-    (any-four (λ x. some (code_at c.args.listing.now x)) c.args.slots (let long : _ = search rules in long))
+returns c = c.loop-s.invariant ∙ ap (any_listed c.args.listing.now) (take_all c.loop-s.s-index c.args.slots (omega arith))

@@ -1,5 +1,4 @@
 -- `holder_clauses::holders_sound` meets its contract: the requests listed so far are right, or one is not; then the rows.
-use Prim.Native.Nat.{◌≤◌}
 use mathlib.Core.Bool.{true}
 use mathlib.Core.Path.{◌≡◌}
 use lib.ListN.{length}
@@ -12,11 +11,7 @@ use Rattle.soundness_loans.proofs.HolderClausesLoops.{Listing}
 use Rattle.soundness_loans.proofs.holder_clauses.holders_sound.Given as goal
 
 abbrev pub invariant-loop-j : goal.invariant-loop-j
-invariant-loop-j l = (l.j ≤ l.m)
-    × ((st : State) → Represents l.t st → l.n ≡ length st.rows → l.right ≡ true
+invariant-loop-j l = ((st : State) → Represents l.t st → l.n ≡ length st.rows → l.right ≡ true
     → all (items_listable st.rows) (requests_to l.t l.j) ≡ all (items_listable st.rows) (requests_to l.t l.m))
     × ((st : State) → Represents l.t st → l.n ≡ length st.rows → l.m ≡ length st.requests → items_right st.rows st.requests ≡ true
     → Listing st.rows (requests_to l.t l.m) (requests_to l.t l.j) l.listing l.right)
-
-abbrev pub decreases-loop-j : goal.decreases-loop-j
-decreases-loop-j l = l.j

@@ -1,9 +1,7 @@
 -- `request_clauses::newer_than_port` meets its contract.
-use Prim.Native.Nat.{ℕ}
 use native.Mathlib.Numerals.{add-one}
-use mathlib.Core.Path.{ap}
-use lib.Dec.{ltb}
+use mathlib.Core.Path.{refl}
 use Rattle.soundness_loans.proofs.request_clauses.newer_than_port.Goals as goal
 
 pub returns : goal.returns
-returns c = ap (λ (n : ℕ). ltb n c.args.q) (add-one c.args.port)
+returns c = rw (c.from.ensures, c.from-2.ensures, add-one) refl

@@ -1,5 +1,5 @@
 -- `request_clauses::numbers-apart` meets its contract: the requests passed are told, and the rows passed are below those to come.
-use Prim.Native.Nat.{◌-◌, ◌≤◌}
+use Prim.Native.Nat.{◌≤◌}
 use mathlib.Core.Path.{◌≡◌}
 use lib.ListN.{length}
 use Rattle.rows.specs.Tables.{State}

@@ -1,5 +1,5 @@
 -- `request_clauses::ports_right` meets its contract: the marks are the slots of the ports so far.
-use Prim.Native.Nat.{◌≤◌, ◌-◌}
+use Prim.Native.Nat.{◌≤◌}
 use mathlib.Core.Path.{◌≡◌}
 use lib.ListN.{length}
 use Rattle.rows.specs.vocabulary.Represents.{Represents}

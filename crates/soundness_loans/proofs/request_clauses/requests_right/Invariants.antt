@@ -1,5 +1,5 @@
 -- `request_clauses::requests_right` meets its contract: the requests of the first slots pass, or not.
-use Prim.Native.Nat.{◌≤◌, ◌-◌}
+use Prim.Native.Nat.{◌≤◌}
 use mathlib.Core.Path.{◌≡◌}
 use Rattle.soundness_loans.specs.vocabulary.Clauses.{request_right}
 use Rattle.rows.specs.Layout.{requests_to, records_in}
