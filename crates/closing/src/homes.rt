@@ -33,8 +33,8 @@ fn home_each(ps: &mut [Process], t: &[u32], n: usize, removed: &SlotBits)
     requires { IsTables t.now × (n ≤ ROWS) }
     ensures { HomesEach t.now n ps.old (marks_in removed.now) ps.new }
 {
-    for i in 0..ps.len() {
-        ps[i] = home(t, n, ps[i], removed);
+    for x in ps.iter_mut() {
+        *x = home(t, n, *x, removed);
     }
 }
 

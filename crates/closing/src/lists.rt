@@ -7,7 +7,7 @@ ghost use Rattle.closing.specs.vocabulary.Lists.{SendsBack, ItemLeaves, ItemsLea
 use changes::bits::SlotBits;
 use changes::{bits, change};
 use rows::codes::clist;
-use rows::layout::{ITEMS, RequestMarks};
+use rows::layout::RequestMarks;
 use rows::{Request, find, read};
 
 // One item of a closed request: its row goes to a c-list, unless it is out: removed, or sent back by an older closed
@@ -39,11 +39,8 @@ fn items_back(t: &mut [u32], n: usize, v: Request, out: &mut SlotBits)
         t.new (marks_in out.new) }
     ensures long { IsTables t.new }
 {
-    let items = v.items;
-    let asker = v.asker;
-    for k in 0..ITEMS {
-        let e = items[k];
-        item_back(t, n, e, asker, out);
+    for e in v.items {
+        item_back(t, n, e, v.asker, out);
     }
 }
 
@@ -72,10 +69,8 @@ fn items_out(t: &mut [u32], n: usize, j: usize, v: Request, out: &SlotBits)
         t.new }
     ensures long { IsTables t.new }
 {
-    let items = v.items;
-    for k in 0..ITEMS {
-        let e = items[k];
-        item_out(t, n, j, k, e, out);
+    for (k, e) in v.items.iter().enumerate() {
+        item_out(t, n, j, k, *e, out);
     }
 }
 

@@ -14,10 +14,10 @@ use changes::bits;
 use changes::bits::{BITS, SlotBits, WORDS, word_end};
 use changes::runs::next_marked;
 use rows::codes::is_end;
+use rows::find;
 use rows::layout::{
     KIND, NUMBER, OBJECT, Q_NUMBER, Q_PORT, REQUEST, REQUESTS, ROWS, RequestMarks, SOURCE, VIA,
 };
-use rows::find;
 
 // Whether the row in slot i is a seed.
 // Ruled out: an operation row whose manager's number is the port's; a row that bears the number of another request.
@@ -64,10 +64,7 @@ fn derives(marks: &SlotBits, first: usize, s: u32, v: u32) -> bool
     requires { NoneMarked (marks_in marks.now) 0 first }
     ensures { s ≤ ROWS → v ≤ ROWS → result ≡ either_mark (marks_in marks.now) s v }
 {
-    if mark_at(marks, first, s) {
-        return true;
-    }
-    mark_at(marks, first, v)
+    mark_at(marks, first, s) || mark_at(marks, first, v)
 }
 
 // The rows from one up to an end that have a source marked, once all older ones are done. Their marks are in one word,
@@ -84,7 +81,7 @@ fn mark_word(t: &[u32], marks: &mut SlotBits, first: usize, from: usize, end: us
     let mut w = marks[k];
     for i in from..end {
         if derives(marks, first, t[SOURCE + i], t[VIA + i]) {
-            w = w | (1u64 << (i % BITS));
+            w |= 1u64 << (i % BITS);
             marks[k] = w;
         }
     }
@@ -99,6 +96,7 @@ pub fn mark_rows(t: &[u32], n: usize, s: Seed) -> SlotBits
     let mut marks = mark_seeds(t, n, s);
     let first = next_marked(&marks, 0, n);
     let mut i = first;
+    // a while: i goes on by a whole word of marks, and begins in the middle of one
     while i < n {
         let end = word_end(i, n);
         mark_word(t, &mut marks, first, i, end);
@@ -123,8 +121,7 @@ fn closes_first(s: Seed, number: u32) -> bool
 {
     match s {
         Seed::Bearing(q) => number == q,
-        Seed::EndsOf(_) => false,
-        Seed::Only(_) => false,
+        Seed::EndsOf(_) | Seed::Only(_) => false,
     }
 }
 

@@ -1,5 +1,5 @@
 -- `homes::any_away`: while it says no, the records passed have gone through no row.
-use Prim.Native.Nat.{◌≤◌, ◌-◌}
+use Prim.Native.Nat.{◌≤◌}
 use mathlib.Core.Bool.{false}
 use mathlib.Core.Path.{◌≡◌}
 use Rattle.closing.specs.vocabulary.Takes.{HomeTo}

@@ -8,7 +8,6 @@ use Rattle.closing.proofs.lists.items_out.Goals as goal
 
 pub loop-k-init : goal.loop-k-init
 loop-k-init c = (
-  search rules,
   c.requires.0,
   (λ st b new v old e rep count here stand out. loop-start st new old b v c.args.t.now rep here.0),
 )
@@ -19,12 +18,11 @@ loop-k-preserved c =
     let l = c.loop-k in
     let items = c.args.v.items in
     let four : length items ≡ ITEMS = sym (length-map items (λ x. x)) ∙ (let long : _ = search rules in long) in (
-      search rules,
       called.ensures.long,
       (λ st b new v old e rep count here stand out.
           loop-turn st new old b l.k v items e called.new.t
           (called.ensures.out (out_state st new old b l.k v) b new (out_to b l.k v) old
-          (l.invariant.2 st b new v old e rep count here stand out) count (refl, here.1)
+          (l.invariant.1 st b new v old e rep count here stand out) count (refl, here.1)
           (item-stands st items l.k (omega (arith, c.loop-k-test.true)) stand) out)),
     )
 
@@ -35,6 +33,6 @@ returns c =
     let four : length v.items ≡ ITEMS = sym (length-map v.items (λ x. x)) ∙ (let long : _ = search rules in long) in record {
       out = (λ st b new old rep count here stand out.
           loop-end st new old b l.k v (omega (arith, c.loop-k-test.false)) l.t
-          (l.invariant.2 st b new v old refl rep count here stand out));
-      long = l.invariant.1;
+          (l.invariant.1 st b new v old refl rep count here stand out));
+      long = l.invariant.0;
     }

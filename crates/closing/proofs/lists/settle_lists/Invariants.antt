@@ -1,5 +1,5 @@
 -- `lists::settle_lists`: the invariant is that the j oldest requests are done, however the list is cut there.
-use Prim.Native.Nat.{ℕ, ◌≤◌, ◌-◌}
+use Prim.Native.Nat.{ℕ, ◌≤◌}
 use mathlib.Core.Bool.{Bool, true}
 use mathlib.Core.List.{List}
 use mathlib.Core.Path.{◌≡◌}

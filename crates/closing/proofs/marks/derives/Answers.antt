@@ -9,10 +9,10 @@ pub returns-then-mark_at : goal.returns-then-mark_at
 unfolding either_mark
 returns-then-mark_at c =
     let ms = marks_in c.args.marks.now in
-    λ h k. sym (ap (λ (b : Bool). b || word_mark ms c.args.v) (sym (c.mark_at.ensures h) ∙ c.if-mark_at.true))
+    λ h k. c.if-mark_at.true ∙ sym (ap (λ (b : Bool). b || word_mark ms c.args.v) (sym (c.mark_at.ensures h) ∙ c.if-mark_at.true))
 
-pub returns : goal.returns
+pub returns-else-mark_at : goal.returns-else-mark_at
 unfolding either_mark
-returns c =
+returns-else-mark_at c =
     let ms = marks_in c.args.marks.now in
-    λ h k. c.mark_at-2.ensures k ∙ sym (ap (λ (b : Bool). b || word_mark ms c.args.v) (sym (c.mark_at.ensures h) ∙ c.if-mark_at.false))
+    λ h k. c.mark_at-else-mark_at.ensures k ∙ sym (ap (λ (b : Bool). b || word_mark ms c.args.v) (sym (c.mark_at.ensures h) ∙ c.if-mark_at.false))

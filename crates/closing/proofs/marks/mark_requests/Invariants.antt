@@ -1,5 +1,5 @@
 -- `marks::mark_requests`: the invariant is that the j oldest requests are marked, however the list is cut there.
-use Prim.Native.Nat.{ℕ, ◌≤◌, ◌-◌}
+use Prim.Native.Nat.{ℕ, ◌≤◌}
 use mathlib.Core.Bool.{true}
 use mathlib.Core.List.{List}
 use mathlib.Core.Path.{◌≡◌}

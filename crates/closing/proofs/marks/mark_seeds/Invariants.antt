@@ -1,5 +1,5 @@
 -- The seeds among the rows passed are marked.
-use Prim.Native.Nat.{◌≤◌, ◌-◌}
+use Prim.Native.Nat.{◌≤◌}
 use Rattle.rows.specs.Tables.{State}
 use Rattle.rows.specs.vocabulary.Sizes.{ROWS}
 use Rattle.rows.specs.vocabulary.Represents.{Represents}

@@ -1,5 +1,5 @@
 -- The rows passed are marked, and the local is their word.
-use Prim.Native.Nat.{◌≤◌, ◌-◌, ◌/◌}
+use Prim.Native.Nat.{◌≤◌, ◌/◌}
 use Rattle.changes.specs.vocabulary.Bits.{marks_in}
 use Rattle.changes.specs.vocabulary.Marks.{NoneMarked}
 use Rattle.changes.proofs.BitLaws.{Holds}
