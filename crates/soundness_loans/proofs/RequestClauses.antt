@@ -1,5 +1,5 @@
 -- The clauses of one request, over the words of its slot and the slots of the rows that it names.
-use Prim.Native.Nat.{ℕ, zero, suc, ◌+◌, ◌≤◌, zero-le}
+use Prim.Native.Nat.{ℕ, zero, suc, ◌+◌, ◌<◌, ◌≤◌, zero-le}
 use mathlib.Core.Bool.{Bool, true, false, not, cond, ◌&&◌, ◌||◌}
 use mathlib.Core.List.{List, [], ◌∷◌}
 use mathlib.Core.Path.{◌≡◌, refl, ap, sym, ◌∙◌}
@@ -9,7 +9,11 @@ use native.Mathlib.Numerals.{add-one}
 use native.Mathlib.Omega.{arith}
 use borrow.Author.Tests.{eqb-true, eq-eqb, lt-ltb}
 use lib.Dec.{ltb, eqb}
-use lib.ListN.{length, get_or}
+use lib.ListN.{length, get_or, drop}
+use Rattle.std.specs.Prelude.{nat_eq}
+use Rattle.std.specs.List.{list_any}
+use Rattle.std.proofs.Math.Seq.{drop-cons}
+use Rattle.std.proofs.lemmas.List.{drop_all}
 use Rattle.rows.specs.declared.Row.{Row}
 use Rattle.rows.specs.declared.Request.{Request}
 use Rattle.rows.specs.Lists.{filter, all, rises, member, distinct, some, nonzero}
@@ -20,7 +24,7 @@ use Rattle.rows.specs.Sound.{items_few, port_stands}
 use Rattle.rows.specs.Layout.{row_columns, request_columns, requests_at, request_at, requests_to, row_slot}
 use Rattle.rows.specs.vocabulary.Represents.{Represents, sources_older}
 use Rattle.soundness_loans.specs.vocabulary.Clauses.{items_listable, is_copy_for, may_be_lent, ViasOlder, word_at, standing_port}
-use Rattle.rows.proofs.Bools.{bool_eq, clash, and_l, and_r, and-true, or-false}
+use Rattle.rows.proofs.Bools.{eqb-sym, bool_eq, clash, and-true}
 use Rattle.rows.proofs.LayoutRequests.{requests-back}
 use Rattle.rows.proofs.Keyed.{older_of, rises-rest}
 use Rattle.rows.proofs.Slots.{represented-well, represented-request, row_cut, row-found, row-none, row-absent, row-words, request-read, slot-zero, newer_of, rises-old, source-rises, sources-among, via-of}
@@ -29,18 +33,6 @@ use Rattle.rows.proofs.Slots.{represented-well, represented-request, row_cut, ro
 module _ (t : List ℕ) (j : ℕ) where
   pub number_word : get_or t (10240 + j) 0 ≡ (request_at t j).number
   number_word = ap (λ (v : Request). v.number) (request-read t j)
-
-  pub port-word : get_or t (10368 + j) 0 ≡ (request_at t j).port
-  port-word = ap (λ (v : Request). v.port) (request-read t j)
-
-  pub asker-word : get_or t (10496 + j) 0 ≡ (request_at t j).asker
-  asker-word = ap (λ (v : Request). v.asker) (request-read t j)
-
-  pub fetched-word : get_or t (10624 + j) 0 ≡ (request_at t j).fetched
-  fetched-word = ap (λ (v : Request). v.fetched) (request-read t j)
-
-  pub items-words : get_or t (10752 + j) 0 ∷ get_or t (10880 + j) 0 ∷ get_or t (11008 + j) 0 ∷ get_or t (11136 + j) 0 ∷ [] ≡ (request_at t j).items
-  items-words = ap (λ (v : Request). v.items) (request-read t j)
 
 -- one request more
 pub all-next : (F : Request → Bool) (t : List ℕ) (j : ℕ) {a b : Bool} → a ≡ F (request_at t j) → b ≡ all F (requests_to t j) → a && b ≡ all F (requests_to t (j + 1))
@@ -178,17 +170,22 @@ all-nonzero P e es = pick (some e)
     pick true = refl
     pick false = refl
 
-pub items-all : (P : ℕ → Bool) (a b c d : ℕ)
-    → (not (some a) || P a) && ((not (some b) || P b) && ((not (some c) || P c) && (not (some d) || P d))) ≡ all P (nonzero (a ∷ b ∷ c ∷ d ∷ []))
+and-both : (a b c : Bool) → (a && b) && c ≡ a && (b && c)
+and-both true b c = refl
+and-both false b c = refl
+
+-- the items passed, and those from position k on: one more passed, all passed
+pub all-more : (P : ℕ → Bool) (a : Bool) (k : ℕ) (es : List ℕ) → k < length es
+    → (a && (not (some (get_or es k 0)) || P (get_or es k 0))) && all P (nonzero (drop (suc k) es)) ≡ a && all P (nonzero (drop k es))
+all-more P a k es h =
+    let e = get_or es k 0 in
+    let rest = drop (suc k) es in
+    and-both a (not (some e) || P e) (all P (nonzero rest))
+    ∙ ap (λ (x : Bool). a && x) (sym (all-nonzero P e rest) ∙ ap (λ (l : List ℕ). all P (nonzero l)) (sym (drop-cons es k 0 h)))
+
+pub all-passed : (P : ℕ → Bool) (a : Bool) (k : ℕ) (es : List ℕ) → length es ≤ k → a && all P (nonzero (drop k es)) ≡ a
 unfolding all nonzero filter
-items-all P a b c d =
-    sym
-    (all-nonzero P a (b ∷ c ∷ d ∷ [])
-    ∙ ap (λ (x : Bool). (not (some a) || P a) && x)
-    (all-nonzero P b (c ∷ d ∷ [])
-    ∙ ap (λ (x : Bool). (not (some b) || P b) && x)
-    (all-nonzero P c (d ∷ [])
-    ∙ ap (λ (x : Bool). (not (some c) || P c) && x) (all-nonzero P d [] ∙ and-true (not (some d) || P d)))))
+all-passed P a k es h = rw (drop_all k es h) (and-true a)
 
 pub member-nonzero : (e : ℕ) (es : List ℕ) → some e ≡ true → member e (nonzero es) ≡ member e es
 unfolding nonzero filter member
@@ -202,11 +199,12 @@ member-nonzero e (a ∷ es) h = pick (member-nonzero e es h) (some a) refl (eqb 
     pick ih false q true r = clash (ap some (sym (eqb-true e a r)) ∙ h) q
     pick ih false q false r = ih
 
-pub member-three : (e a b c : ℕ) → eqb e a || (eqb e b || eqb e c) ≡ member e (a ∷ b ∷ c ∷ [])
+pub any-member : (n : ℕ) (l : List ℕ) → list_any (λ y. nat_eq y n) l ≡ member n l
 unfolding member
-member-three e a b c = rw (or-false (eqb e c)) refl
+any-member n [] = refl
+any-member n (m ∷ ms) = rw (eqb-sym m n, any-member n ms) refl
 
-abbrev apart : ℕ → List ℕ → Bool
+abbrev pub apart : ℕ → List ℕ → Bool
 apart e es = not (some e) || not (member e es)
 
 distinct-nonzero : (e : ℕ) (es : List ℕ) → distinct (nonzero (e ∷ es)) ≡ apart e es && distinct (nonzero es)
@@ -217,40 +215,19 @@ distinct-nonzero e es = pick (some e) refl
     pick true q = ap (λ (x : Bool). not x && distinct (filter some es)) (member-nonzero e es q)
     pick false q = refl
 
--- one of them said twice
-member-again : (n d : ℕ) (es : List ℕ) → member n (d ∷ d ∷ es) ≡ member n (d ∷ es)
-unfolding member
-member-again n d es = pick (eqb n d)
-  where
-    pick : (b : Bool) → b || (b || member n es) ≡ b || member n es
-    pick true = refl
-    pick false = refl
+pub apart-more : (a : Bool) (k : ℕ) (es : List ℕ) → k < length es
+    → (a && apart (get_or es k 0) (drop (suc k) es)) && distinct (nonzero (drop (suc k) es)) ≡ a && distinct (nonzero (drop k es))
+apart-more a k es h =
+    let e = get_or es k 0 in
+    let rest = drop (suc k) es in
+    and-both a (apart e rest) (distinct (nonzero rest))
+    ∙ ap (λ (x : Bool). a && x) (sym (distinct-nonzero e rest) ∙ ap (λ (l : List ℕ). distinct (nonzero l)) (sym (drop-cons es k 0 h)))
 
-pub items-apart : (a b c d : ℕ) → apart a (b ∷ c ∷ d ∷ []) && (apart b (c ∷ d ∷ d ∷ []) && apart c (d ∷ d ∷ d ∷ [])) ≡ distinct (nonzero (a ∷ b ∷ c ∷ d ∷ []))
-unfolding member distinct nonzero filter
-items-apart a b c d =
-    rw (member-again b d [], member-again c d (d ∷ []), member-again c d [])
-    (sym
-    (distinct-nonzero a (b ∷ c ∷ d ∷ [])
-    ∙ ap (λ (x : Bool). apart a (b ∷ c ∷ d ∷ []) && x)
-    (distinct-nonzero b (c ∷ d ∷ [])
-    ∙ ap (λ (x : Bool). apart b (c ∷ d ∷ []) && x)
-    (distinct-nonzero c (d ∷ [])
-    ∙ ap (λ (x : Bool). apart c (d ∷ []) && x) (distinct-nonzero d [] ∙ last (some d)) ∙ and-true (apart c (d ∷ []))))))
-  where
-    last : (x : Bool) → (not x || true) && true ≡ true
-    last true = refl
-    last false = refl
+pub apart-passed : (a : Bool) (k : ℕ) (es : List ℕ) → length es ≤ k → a && distinct (nonzero (drop k es)) ≡ a
+unfolding distinct nonzero filter
+apart-passed a k es h = rw (drop_all k es h) (and-true a)
 
 -- ---- a request that lists nothing
-pub none-words : (a b c d : ℕ) → eqb a 0 && (eqb b 0 && (eqb c 0 && eqb d 0)) ≡ true → a ∷ b ∷ c ∷ d ∷ [] ≡ 0 ∷ 0 ∷ 0 ∷ 0 ∷ []
-none-words a b c d h =
-    let p : eqb a 0 ≡ true = search (and_l, and_r) in
-    let q : eqb b 0 ≡ true = search (and_l, and_r) in
-    let r : eqb c 0 ≡ true = search (and_l, and_r) in
-    let s : eqb d 0 ≡ true = search (and_l, and_r) in
-    rw (eqb-true a 0 p, eqb-true b 0 q, eqb-true c 0 r, eqb-true d 0 s) refl
-
 pub none-twice : (v : Request) → v.items ≡ 0 ∷ 0 ∷ 0 ∷ 0 ∷ [] → true ≡ distinct (nonzero v.items)
 unfolding nonzero filter some distinct
 none-twice v e = rw e refl

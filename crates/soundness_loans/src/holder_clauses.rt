@@ -7,25 +7,25 @@ ghost use Rattle.rows.specs.Codes.{is_system};
 ghost use Rattle.rows.specs.Sound.{same};
 ghost use Rattle.rows.specs.Layout.{request_at};
 ghost use Rattle.rows.specs.vocabulary.Sizes.{ROWS, REQUESTS, IsTables};
-ghost use Rattle.rows.specs.vocabulary.OfState.{TestsTables};
+ghost use Rattle.rows.specs.vocabulary.OfState.{OfRows, TestsTables};
 ghost use Rattle.soundness_loans.specs.vocabulary.Clauses.{OfRequest, SlotsWithin, ViasOlder, all_of_holders};
 ghost use Rattle.soundness_loans.specs.vocabulary.Clauses.{listing_code};
 ghost use Rattle.soundness_loans.specs.vocabulary.Clauses.{code_at, list_at, list_all, any_listed, item_slots};
 ghost use Rattle.soundness_loans.specs.vocabulary.Clauses.{once_in, marked_in, listed_right, relisted, held_to};
 
 use crate::request_clauses::{items_lent, lists_none, slot_among};
+use rows::Request;
 use rows::codes::THE_SYSTEM;
-use rows::layout::{PLACE, Q_FETCHED, REQUEST, REQUESTS, ROWS};
+use rows::layout::{PLACE, REQUEST, ROWS};
 use rows::read::request_at;
 
-// The slots of the items of the request in slot j. Ruled out: three of the four; a slot past the rows in use.
-fn item_slots(t: &[u32], n: usize, j: usize) -> [usize; 4]
-    requires { IsTables t.now × (n ≤ ROWS) × (j < REQUESTS) }
+// The slots of the items of a request. Ruled out: three of the four; a slot past the rows in use.
+fn item_slots(t: &[u32], n: usize, v: Request) -> [usize; 4]
+    requires { IsTables t.now × (n ≤ ROWS) }
     ensures within { SlotsWithin n result }
-    ensures found { OfRequest t.now n j result item_slots }
+    ensures found { OfRows t.now n result (λ rs. item_slots rs v) }
 {
-    let items = request_at(t, j).items;
-    items.map(|e| slot_among(t, n, e))
+    v.items.map(|e| slot_among(t, n, e))
 }
 
 // Whether a slot is listed. Ruled out: 0, which is no slot, is listed; the slot after decides.
@@ -86,15 +86,14 @@ fn code_of(fetched: bool) -> u8
     2
 }
 
-// Lists the slots of the items of the request in slot j, and says whether it is fetched or no newer request lists one.
+// Lists the slots of the items of a request, and says whether it is fetched or no newer request lists one.
 // Ruled out: its own items count as listed by a newer one; an item is left out.
-fn listed_once(t: &[u32], listing: &mut [u8; ROWS], slots: [usize; 4], j: usize) -> bool
-    requires { IsTables t.now × (j < REQUESTS) × SlotsWithin ROWS slots }
-    ensures once { result ≡ once_in listing.old slots (request_at t.now j) }
-    ensures all { listing.new ≡ marked_in listing.old slots (request_at t.now j) }
+fn listed_once(listing: &mut [u8; ROWS], slots: [usize; 4], v: Request) -> bool
+    requires { SlotsWithin ROWS slots }
+    ensures once { result ≡ once_in listing.old slots v }
+    ensures all { listing.new ≡ marked_in listing.old slots v }
 {
-    let word = t[Q_FETCHED + j];
-    let fetched = word == 1;
+    let fetched = v.fetched == 1;
     let newer = any_listed(listing, slots);
     let code = code_of(fetched);
     mark_listing(listing, slots, code);
@@ -114,9 +113,10 @@ fn list_request(t: &[u32], n: usize, listing: &mut [u8; ROWS], j: usize) -> bool
     if none {
         return true;
     }
-    let slots = item_slots(t, n, j);
+    let v = request_at(t, j);
+    let slots = item_slots(t, n, v);
     let lent = items_lent(t, n, slots, j);
-    let once = listed_once(t, listing, slots, j);
+    let once = listed_once(listing, slots, v);
     lent & once
 }
 

@@ -14,12 +14,11 @@ ghost use Rattle.soundness_loans.specs.vocabulary.Clauses.{items_listable, reque
 ghost use Rattle.soundness_loans.specs.vocabulary.Clauses.{ports_right, all_of_requests, is_free};
 ghost use Rattle.soundness_loans.specs.vocabulary.Clauses.{with_mark};
 
+use rows::Request;
 use rows::codes::{A_CLIENT_END, is_end};
 use rows::find::row_among;
-use rows::layout::{
-    KIND, NUMBER, Q_ASKER, Q_FETCHED, Q_ITEM_2, Q_ITEM_3, Q_ITEM_4, Q_ITEMS, Q_NUMBER, Q_PORT,
-    REQUEST, REQUESTS, ROWS, RowMarks, VIA,
-};
+use rows::layout::{ITEMS, KIND, NUMBER, Q_NUMBER, REQUEST, ROWS, RowMarks, VIA};
+use rows::read::request_at;
 use rows::records::listed;
 
 // The slot plus 1 of the row numbered x, of n rows; 0 for none.
@@ -49,45 +48,38 @@ fn word_at(t: &[u32], c: usize, s: usize) -> u32
     t[c + (s - 1)]
 }
 
-// ---- the clauses for the request in slot j
+// ---- the clauses for one request, v
 // Ruled out: a request fetched twice; the word of another request.
-fn fetched_in_range(t: &[u32], j: usize) -> bool
-    requires { IsTables t.now × (j < REQUESTS) }
-    ensures { result ≡ leb (request_at t.now j).fetched 1 }
+fn fetched_in_range(v: Request) -> bool
+    ensures { result ≡ leb v.fetched 1 }
 {
-    let f = t[Q_FETCHED + j];
-    f <= 1
+    v.fetched <= 1
 }
 
 // Ruled out: the port for the requester; yes for a process that is not listed.
-fn requester_listed(t: &[u32], p: &[u32], j: usize) -> bool
-    requires { IsTables t.now × IsRecords p.now × (j < REQUESTS) }
-    ensures { result ≡ is_listed (records_in p.now) (request_at t.now j).asker }
+fn requester_listed(v: Request, p: &[u32]) -> bool
+    requires { IsRecords p.now }
+    ensures { result ≡ is_listed (records_in p.now) v.asker }
 {
-    let asker = t[Q_ASKER + j];
-    listed(p, asker)
+    listed(p, v.asker)
 }
 
-// An item that is there is none of three others. Ruled out: no for 0 twice; yes for an item that is one of them.
-fn item_apart(e: u32, a: u32, b: u32, c: u32) -> bool
-    ensures { result ≡ (not (some e) || not (member e (a ∷ b ∷ c ∷ []))) }
+// An item that is there is none of those after it. Ruled out: no for 0 twice; yes for an item that is one of them.
+fn item_apart(e: u32, after: &[u32]) -> bool
+    ensures { result ≡ (not (some e) || not (member e after.now)) }
 {
-    !(0 < e) | !((e == a) | ((e == b) | (e == c)))
+    !(0 < e) | !after.contains(&e)
 }
 
 // No item stands twice. Ruled out: the third item is the fourth too; no for two items that are not there.
-fn items_apart(t: &[u32], j: usize) -> bool
-    requires { IsTables t.now × (j < REQUESTS) }
-    ensures { result ≡ distinct (nonzero (request_at t.now j).items) }
+fn items_apart(items: [u32; ITEMS]) -> bool
+    ensures { result ≡ distinct (nonzero items) }
 {
-    let a = t[Q_ITEMS + j];
-    let b = t[Q_ITEMS + REQUESTS + j];
-    let c = t[Q_ITEMS + 2 * REQUESTS + j];
-    let d = t[Q_ITEMS + 3 * REQUESTS + j];
-    let first = item_apart(a, b, c, d);
-    let second = item_apart(b, c, d, d);
-    let third = item_apart(c, d, d, d);
-    first & (second & third)
+    let mut apart = true;
+    for k in 0..ITEMS {
+        apart = apart & item_apart(items[k], &items[k + 1..]);
+    }
+    apart
 }
 
 // The number of the second source of a row's slot. Ruled out: the first source; the number of the row after it.
@@ -103,33 +95,30 @@ fn via_number(t: &[u32], n: usize, s: usize) -> u32
 // (rules S13, S24) The row numbered e, whose slot plus 1 is s, is a copy for it: it bears its number, is newer, and
 // came over its port.
 // Ruled out: a copy that bears another request; one over another port; one that is older than the request.
-fn is_copy_for(t: &[u32], n: usize, j: usize, e: u32, s: usize) -> bool
-    requires sizes { IsTables t.now × (n ≤ ROWS) × (j < REQUESTS) × (s ≤ n) }
+fn is_copy_for(t: &[u32], n: usize, v: Request, e: u32, s: usize) -> bool
+    requires sizes { IsTables t.now × (n ≤ ROWS) × (s ≤ n) }
     requires vias { ViasOlder t.now n }
-    ensures { OfItem t.now j e s result is_copy_for }
+    ensures { OfItem t.now v e s result is_copy_for }
 {
-    let q = t[Q_NUMBER + j];
-    let port = t[Q_PORT + j];
     let bears = word_at(t, REQUEST, s);
     let over = via_number(t, n, s);
-    (0 < bears) & ((bears == q) & ((q < e) & (port == over)))
+    (0 < bears) & ((bears == v.number) & ((v.number < e) & (v.port == over)))
 }
 
 // An item that is there, whose slot plus 1 is s, is an end older than the request, or a copy for it.
 // Ruled out: an end newer than the request; an operation that bears no request.
-fn may_be_listed(t: &[u32], n: usize, j: usize, e: u32, s: usize) -> bool
-    requires sizes { IsTables t.now × (n ≤ ROWS) × (j < REQUESTS) × (s ≤ n) }
+fn may_be_listed(t: &[u32], n: usize, v: Request, e: u32, s: usize) -> bool
+    requires sizes { IsTables t.now × (n ≤ ROWS) × (s ≤ n) }
     requires vias { ViasOlder t.now n }
-    ensures { OfItem t.now j e s result (λ v y. not (some e) || may_be_lent v y) }
+    ensures { OfItem t.now v e s result (λ x y. not (some e) || may_be_lent x y) }
 {
     if e == 0 {
         return true;
     }
-    let q = t[Q_NUMBER + j];
     let kind = word_at(t, KIND, s);
     let end = is_end(kind);
-    let copy = is_copy_for(t, n, j, e, s);
-    (end & (e < q)) | copy
+    let copy = is_copy_for(t, n, v, e, s);
+    (end & (e < v.number)) | copy
 }
 
 // Each item may be listed, where the slots of all four are known.
@@ -139,11 +128,12 @@ pub fn items_lent(t: &[u32], n: usize, slots: [usize; 4], j: usize) -> bool
     requires vias { ViasOlder t.now n }
     ensures { OfItems t.now j slots result items_listable }
 {
-    let first = may_be_listed(t, n, j, t[Q_ITEMS + j], slots[0]);
-    let second = may_be_listed(t, n, j, t[Q_ITEM_2 + j], slots[1]);
-    let third = may_be_listed(t, n, j, t[Q_ITEM_3 + j], slots[2]);
-    let fourth = may_be_listed(t, n, j, t[Q_ITEM_4 + j], slots[3]);
-    first & (second & (third & fourth))
+    let v = request_at(t, j);
+    let mut lent = true;
+    for k in 0..ITEMS {
+        lent = lent & may_be_listed(t, n, v, v.items[k], slots[k]);
+    }
+    lent
 }
 
 // Whether it lists nothing: most requests do not, and then its items need no test.
@@ -152,33 +142,24 @@ pub fn lists_none(t: &[u32], j: usize) -> bool
     requires { IsTables t.now × (j < REQUESTS) }
     ensures { result ≡ true → ListsNone t.now j }
 {
-    let a = t[Q_ITEMS + j];
-    let b = t[Q_ITEMS + REQUESTS + j];
-    let c = t[Q_ITEMS + 2 * REQUESTS + j];
-    let d = t[Q_ITEMS + 3 * REQUESTS + j];
-    (a == 0) & ((b == 0) & ((c == 0) & (d == 0)))
+    request_at(t, j).items == [0; ITEMS]
 }
 
 // No item stands twice, and nothing is tested of none. Ruled out: a request with one item passes untested.
-fn items_once(t: &[u32], j: usize) -> bool
-    requires { IsTables t.now × (j < REQUESTS) }
-    ensures { result ≡ distinct (nonzero (request_at t.now j).items) }
+fn items_once(v: Request) -> bool
+    ensures { result ≡ distinct (nonzero v.items) }
 {
-    let none = lists_none(t, j);
-    if none {
-        return true;
-    }
-    items_apart(t, j)
+    v.items == [0; ITEMS] || items_apart(v.items)
 }
 
 // The clauses but for number, port and items. Ruled out: one of the three alone decides; the tests of another request.
-fn request_right(t: &[u32], p: &[u32], j: usize) -> bool
-    requires { IsTables t.now × IsRecords p.now × (j < REQUESTS) }
-    ensures { result ≡ request_right (records_in p.now) (request_at t.now j) }
+fn request_right(v: Request, p: &[u32]) -> bool
+    requires { IsRecords p.now }
+    ensures { result ≡ request_right (records_in p.now) v }
 {
-    let fetched = fetched_in_range(t, j);
-    let asked = requester_listed(t, p, j);
-    let once = items_once(t, j);
+    let fetched = fetched_in_range(v);
+    let asked = requester_listed(v, p);
+    let once = items_once(v);
     fetched & (asked & once)
 }
 
@@ -191,16 +172,14 @@ fn newer_than_port(port: u32, q: u32) -> bool
 
 // The slot plus 1 of the client end of the request's port, if the port stands.
 // Ruled out: the slot of a server end; a slot where the request is older than its port.
-fn standing_port(t: &[u32], n: usize, j: usize) -> usize
-    requires { IsTables t.now × (n ≤ ROWS) × (j < REQUESTS) }
+fn standing_port(t: &[u32], n: usize, v: Request) -> usize
+    requires { IsTables t.now × (n ≤ ROWS) }
     ensures within { result ≤ n }
-    ensures found { OfRequest t.now n j result standing_port }
+    ensures found { OfRows t.now n result (λ rs. standing_port rs v) }
 {
-    let port = t[Q_PORT + j];
-    let q = t[Q_NUMBER + j];
-    let s = slot_among(t, n, port);
+    let s = slot_among(t, n, v.port);
     let kind = word_at(t, KIND, s);
-    let newer = newer_than_port(port, q);
+    let newer = newer_than_port(v.port, v.number);
     if (kind == A_CLIENT_END) & newer {
         return s;
     }
@@ -261,7 +240,8 @@ fn requests_right(t: &[u32], p: &[u32], m: usize) -> bool
 {
     let mut right = true;
     for j in 0..m {
-        right = request_right(t, p, j) & right;
+        let v = request_at(t, j);
+        right = request_right(v, p) & right;
     }
     right
 }
@@ -274,7 +254,8 @@ fn ports_right(t: &[u32], n: usize, m: usize) -> bool
     let mut marks = [false; ROWS];
     let mut right = true;
     for j in 0..m {
-        let s = standing_port(t, n, j);
+        let v = request_at(t, j);
+        let s = standing_port(t, n, v);
         right = claim(&mut marks, s) & right;
     }
     right

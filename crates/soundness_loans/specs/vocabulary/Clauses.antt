@@ -53,9 +53,9 @@ items_listable rs v = all (λ e. may_be_lent v (row_of rs e)) (nonzero v.items)
 unfoldable pub items_right : List Row → List Request → Bool
 items_right rs vs = all (items_listable rs) vs
 
--- r is what F says of the request in slot j and of the row numbered e, whose slot plus 1 is s
-abbrev pub OfItem : List ℕ → ℕ → ℕ → ℕ → Bool → (Request → Row → Bool) → Type 0
-OfItem t j e s r F = (st : State) → Represents t st → s ≡ row_slot st.rows e → r ≡ F (request_at t j) (row_of st.rows e)
+-- r is what F says of the request v and of the row numbered e, whose slot plus 1 is s
+abbrev pub OfItem : List ℕ → Request → ℕ → ℕ → Bool → (Request → Row → Bool) → Type 0
+OfItem t v e s r F = (st : State) → Represents t st → s ≡ row_slot st.rows e → r ≡ F v (row_of st.rows e)
 
 -- the second sources of the first n rows are slots before their own, plus 1, or 0
 abbrev pub ViasOlder : List ℕ → ℕ → Type 0

@@ -3,7 +3,7 @@ use Prim.Native.Nat.{ℕ}
 use native.Mathlib.Omega.{arith}
 use mathlib.Core.Path.{◌≡◌, ap, ◌∙◌}
 use lib.ListN.{length}
-use Rattle.soundness_loans.specs.vocabulary.Clauses.{ports_right}
+use Rattle.soundness_loans.specs.vocabulary.Clauses.{ports_right, standing_port}
 use Rattle.rows.specs.Layout.{requests_to}
 use Rattle.soundness_loans.proofs.RequestClausesLoops.{ports-start, ports-next}
 use Rattle.soundness_loans.proofs.RequestClauses.{requests-read}
@@ -22,7 +22,7 @@ loop-j-preserved c = let turn = c.loop-j in
     let claim = c.claim-right in (
       search rules,
       (λ st rep e.
-          ports-next rep c.args.t.now turn.j turn.marks claim.new.marks turn.right claim.result p.result (p.ensures.found st rep e)
+          ports-next rep c.args.t.now turn.j turn.marks claim.new.marks turn.right claim.result p.result (p.ensures.found st rep e ∙ ap (standing_port st.rows) c.request_at-v.ensures)
           (omega (arith, p.ensures.within, c.requires.1)) claim.ensures.free claim.ensures.marked (turn.invariant.1 st rep e)),
     )
 

@@ -19,7 +19,8 @@ pub loop-j-preserved : goal.loop-j-preserved
 loop-j-preserved c =
     let a = c.args in
     let turn = c.loop-j in
-    (search rules, all-next (request_right (records_in a.p.now)) a.t.now turn.j c.request_right-right.ensures turn.invariant.1)
+    let test : Request → Bool = request_right (records_in a.p.now) in
+    (search rules, all-next test a.t.now turn.j (c.request_right-right.ensures ∙ ap test c.request_at-v.ensures) turn.invariant.1)
 
 pub returns : goal.returns
 returns c = λ st rep d.
