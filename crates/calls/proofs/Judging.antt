@@ -6,7 +6,8 @@ use mathlib.Core.Path.{◌≡◌, refl, ap, sym, subst, ◌∙◌}
 use native.Mathlib.Omega.{arith}
 use borrow.Author.Tests.{ne_eqb, eqb-true}
 use lib.Dec.{eqb}
-use Rattle.std.specs.Prelude.{Option}
+use Rattle.std.specs.Prelude.{Option, Result, Ok, Err}
+use Rattle.std.specs.Prelude.{MatchResult}
 use Rattle.std.specs.Prelude.{None}
 use Rattle.rows.specs.declared.Process.{Process}
 use Rattle.rows.specs.Tables.{State, no_row, row_of}
@@ -15,13 +16,39 @@ use Rattle.rows.specs.Layout.{row_slot}
 use Rattle.rows.specs.vocabulary.Represents.{Represents}
 use Rattle.rows.specs.vocabulary.Slots.{found_slot}
 use Rattle.rows.proofs.Slots.{found_nothing, row-absent}
+use Rattle.calls.specs.declared.Refusal.{Refusal}
+use Rattle.calls.specs.declared.Refusal.TheVariants.{NotHeld, WrongKind, NoRight, Busy, NoRequest, Lent, InUse, Away, TooDeep, RowsFull, RequestsFull, NumbersSpent}
+use Rattle.calls.specs.Answers.{refusal_number}
 use Rattle.calls.specs.declared.Answer.{Answer}
 use Rattle.calls.specs.declared.Answer.TheVariants.{Refused}
 use Rattle.calls.specs.declared.Call.{Call}
 use Rattle.calls.specs.Rules.{Out, Test, lowest, refused, judge}
 use Rattle.calls.specs.Calls.{refusals, effect, perform}
 use Rattle.calls.specs.vocabulary.Lookups.{slot_in}
-use Rattle.calls.specs.vocabulary.Performs.{Answers, Agrees}
+use Rattle.calls.specs.vocabulary.Performs.{answer_in, Answers, Agrees}
+
+-- ---- a step that may be refused
+pub refusal-some : (r : Refusal) → refusal_number r ≡ 0 → ⊥
+refusal-some NotHeld e = omega arith
+refusal-some WrongKind e = omega arith
+refusal-some NoRight e = omega arith
+refusal-some Busy e = omega arith
+refusal-some NoRequest e = omega arith
+refusal-some Lent e = omega arith
+refusal-some InUse e = omega arith
+refusal-some Away e = omega arith
+refusal-some TooDeep e = omega arith
+refusal-some RowsFull e = omega arith
+refusal-some RequestsFull e = omega arith
+refusal-some NumbersSpent e = omega arith
+
+pub by-number : {k : ℕ} {r : Answer} {after : List ℕ} {left : List Process} {o : Out} → r ≡ Refused k → Agrees after left (Refused k) o → Agrees after left r o
+by-number e a = rw e a
+
+-- what the function answers of such a step
+pub unwrapped : (r : Result Answer Refusal) (a : Answer) → MatchResult r (λ x. a ≡ x) (λ e. a ≡ Refused (refusal_number e)) → a ≡ answer_in r
+unwrapped (Ok x) a h = h
+unwrapped (Err e) a h = h
 
 -- ---- one test of several
 pub test-holds : (b : Bool) (x y : ℕ) → b ≡ true → x ≡ cond b x y

@@ -3,6 +3,8 @@ use Rattle.std.specs.Prelude.{ℕ, List, [], ◌∷◌, ◌++◌, map, eqb, if�
 use Rattle.rows.specs.Lists.{nonzero}
 use Rattle.calls.specs.declared.Four.{Four}
 use Rattle.calls.specs.declared.Sixteen.{Sixteen}
+use Rattle.calls.specs.declared.Refusal.{Refusal}
+use Rattle.calls.specs.declared.Refusal.TheVariants.{NotHeld, WrongKind, NoRight, Busy, NoRequest, Lent, InUse, Away, TooDeep, RowsFull, RequestsFull, NumbersSpent}
 use Rattle.calls.specs.declared.Answer.{Answer}
 use Rattle.calls.specs.declared.Answer.TheVariants.{Done, Made, Fetched, Told, Chained, ToldAll, Refused}
 
@@ -15,6 +17,21 @@ refusal_of (Told t) = 0
 refusal_of (Chained a b c) = 0
 refusal_of (ToldAll s) = 0
 refusal_of (Refused k) = k
+
+-- (rules K5, F8) the number of each refusal for the state
+abbrev pub refusal_number : Refusal → ℕ
+refusal_number NotHeld = 7
+refusal_number WrongKind = 8
+refusal_number NoRight = 9
+refusal_number Busy = 10
+refusal_number NoRequest = 11
+refusal_number Lent = 12
+refusal_number InUse = 13
+refusal_number Away = 14
+refusal_number TooDeep = 15
+refusal_number RowsFull = 16
+refusal_number RequestsFull = 17
+refusal_number NumbersSpent = 18
 
 unfoldable pub numbers_of : Four → List ℕ
 numbers_of a = a.first ∷ a.second ∷ a.third ∷ a.fourth ∷ []

@@ -4,12 +4,12 @@ ghost use Rattle.rows.specs.Layout.{request_at};
 ghost use Rattle.rows.specs.vocabulary.Slots.{Within};
 ghost use Rattle.rows.specs.vocabulary.Sizes.{ROWS, REQUESTS, IsTables, IsRecords};
 ghost use Rattle.calls.specs.declared.Call.{Call};
-ghost use Rattle.calls.specs.vocabulary.Performs.{Performs};
+ghost use Rattle.calls.specs.vocabulary.Performs.{Performs, refusal_in, answer_in};
 ghost use Rattle.calls.specs.vocabulary.Effects.{IsProcess};
 ghost use Rattle.calls.specs.vocabulary.Answering.{EndBusy, ListedNewer, EndAway, AnyBusy, AnyAway, RefusesAnswer};
 ghost use Rattle.calls.specs.vocabulary.Answering.{FindsEnd, AnswersEnd, newer_listing};
 
-use crate::{Answer, lookups};
+use crate::{Answer, Refusal, lookups};
 use closing::close::close_request;
 use rows::codes::{A_SERVER_END, is_end};
 use rows::layout::{KIND, Q_NUMBER};
@@ -107,49 +107,60 @@ fn any_away(t: &[u32], n: usize, m: usize, v: Request, p: u32) -> bool
     first | second | third | fourth
 }
 
-// What refuses the answer of p to the request in slot j, where it was served: 10, 11, 14; 0 for nothing.
-fn answer_refusal(t: &[u32], n: usize, m: usize, j: usize, p: u32, served: bool) -> u32
+// What refuses the answer of p to the request in slot j, where it was served: 10, 11, 14.
+fn answer_refusal(
+    t: &[u32],
+    n: usize,
+    m: usize,
+    j: usize,
+    p: u32,
+    served: bool,
+) -> Result<(), Refusal>
     requires { IsTables t.now × (n ≤ ROWS) × (m ≤ REQUESTS) × (j < REQUESTS) }
-    ensures { RefusesAnswer t.now n m j p served result }
+    ensures { RefusesAnswer t.now n m j p served (refusal_in result) }
 {
     if !served {
-        return 0;
+        return Ok(());
     }
     let v = read::request_at(t, j);
     if any_busy(t, n, m, v) {
-        return 10;
+        return Err(Refusal::Busy);
     }
     if v.fetched != 1 {
-        return 11;
+        return Err(Refusal::NoRequest);
     }
     if any_away(t, n, m, v, p) {
-        return 14;
+        return Err(Refusal::Away);
     }
-    0
+    Ok(())
 }
 
 // answer at the end in slot i, which p holds: 8 for one that is no server end, 11 with no request;
 // then the request's refusals.
-fn answer_end(t: &mut [u32], n: usize, ps: &mut [u32], i: usize, p: u32, served: bool) -> Answer
+fn answer_end(
+    t: &mut [u32],
+    n: usize,
+    ps: &mut [u32],
+    i: usize,
+    p: u32,
+    served: bool,
+) -> Result<Answer, Refusal>
     requires { IsTables t.old × IsRecords ps.old × (n ≤ ROWS) × (i < ROWS) }
     ensures performs { AnswersEnd t.old n ps.old i p served t.new
-        ps.new result }
+        ps.new (answer_in result) }
     ensures long { IsTables t.new × IsRecords ps.new }
 {
     if t[KIND + i] != A_SERVER_END {
-        return Answer::Refused(8);
+        return Err(Refusal::WrongKind);
     }
     let m = find::count_requests(t);
     let Some(j) = lookups::asked_at(t, m, i) else {
-        return Answer::Refused(11);
+        return Err(Refusal::NoRequest);
     };
-    let k = answer_refusal(t, n, m, j, p, served);
-    if k != 0 {
-        return Answer::Refused(k);
-    }
+    answer_refusal(t, n, m, j, p, served)?;
     let q = t[Q_NUMBER + j];
     close_request(t, ps, q);
-    Answer::Done
+    Ok(Answer::Done)
 }
 
 // answer: 7 for a row that the caller does not hold; then the refusals at the end.
@@ -163,7 +174,7 @@ pub fn answer(t: &mut [u32], ps: &mut [u32], p: u32, e: u32, served: bool) -> An
 {
     let n = find::count_rows(t);
     let Some(i) = lookups::held_by(t, n, p, e) else {
-        return Answer::Refused(7);
+        return Refusal::NotHeld.into();
     };
-    answer_end(t, n, ps, i, p, served)
+    answer_end(t, n, ps, i, p, served).unwrap_or_else(Answer::from)
 }

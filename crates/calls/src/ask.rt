@@ -2,14 +2,14 @@
 ghost use Rattle.std.specs.Prelude.{◌≤◌, ◌<◌};
 ghost use Rattle.rows.specs.vocabulary.Sizes.{ROWS, REQUESTS, IsTables};
 ghost use Rattle.calls.specs.declared.Call.{Call};
-ghost use Rattle.calls.specs.vocabulary.Performs.{PerformsApart};
+ghost use Rattle.calls.specs.vocabulary.Performs.{PerformsApart, refusal_in, answer_in};
 ghost use Rattle.calls.specs.vocabulary.Effects.{IsProcess};
 ghost use Rattle.calls.specs.vocabulary.Asks.{LookedFits, LooksUp, ItemFits, ItemsFit, LacksRight, AnyLacks};
 ghost use Rattle.calls.specs.vocabulary.Asks.{ItemBusy, AnyItemBusy, CopyDeep, AnyDeep, RefusesAsk};
 ghost use Rattle.calls.specs.vocabulary.Asks.{SpaceUnless, copies_in, AsksHeld, AsksItems};
 
 use crate::lend::add_request;
-use crate::{Answer, Item, ItemRow, ItemRows, Items, Looked, NewRequest, lookups, tests};
+use crate::{Answer, Item, ItemRow, ItemRows, Items, Looked, NewRequest, Refusal, lookups, tests};
 use rows::codes::{A_CLIENT_END, GREATEST_DEPTH, is_end};
 use rows::layout::{KIND, OBJECT, RIGHTS};
 use rows::{Rights, find, read};
@@ -120,24 +120,24 @@ fn any_deep(t: &[u32], i: usize, items: ItemRows) -> bool
     first | second | third | fourth
 }
 
-// What refuses the request w, whose port and items the asker holds: 8 and on, 0 for nothing.
-fn ask_refusal(t: &[u32], n: usize, m: usize, w: NewRequest, items: ItemRows) -> u32
+// What refuses the request w, whose port and items the asker holds: 8 and on.
+fn ask_refusal(t: &[u32], n: usize, m: usize, w: NewRequest, items: ItemRows) -> Result<(), Refusal>
     requires { IsTables t.now × (n ≤ ROWS) × (m ≤ REQUESTS) × (w.slot < n) × ItemsFit n items }
-    ensures lowest { RefusesAsk t.now n m w items result }
-    ensures space { SpaceUnless result n m w.number (copies_in items) }
+    ensures lowest { RefusesAsk t.now n m w items (refusal_in result) }
+    ensures space { SpaceUnless (refusal_in result) n m w.number (copies_in items) }
 {
     let i = w.slot;
     if t[KIND + i] != A_CLIENT_END {
-        return 8;
+        return Err(Refusal::WrongKind);
     }
     if any_lacks(t, items) {
-        return 9;
+        return Err(Refusal::NoRight);
     }
     if tests::has_open(t, m, w.port) | any_busy(t, m, w.port, items) {
-        return 10;
+        return Err(Refusal::Busy);
     }
     if any_deep(t, i, items) {
-        return 15;
+        return Err(Refusal::TooDeep);
     }
     let copies = items.first.copies
         + items.second.copies
@@ -147,37 +147,34 @@ fn ask_refusal(t: &[u32], n: usize, m: usize, w: NewRequest, items: ItemRows) ->
 }
 
 // ask of the request w, whose port and items the asker holds.
-fn ask_held(t: &mut [u32], n: usize, w: NewRequest, items: ItemRows) -> Answer
+fn ask_held(t: &mut [u32], n: usize, w: NewRequest, items: ItemRows) -> Result<Answer, Refusal>
     requires { IsTables t.old × (n ≤ ROWS) × (w.slot < n) × ItemsFit n items }
-    ensures answers { AsksHeld t.old n w items t.new result }
+    ensures answers { AsksHeld t.old n w items t.new (answer_in result) }
     ensures long { IsTables t.new }
 {
     let m = find::count_requests(t);
-    let k = ask_refusal(t, n, m, w, items);
-    if k != 0 {
-        return Answer::Refused(k);
-    }
+    ask_refusal(t, n, m, w, items)?;
     add_request(t, n, m, w, items);
-    Answer::Made(w.number)
+    Ok(Answer::Made(w.number))
 }
 
 // ask of the request w, whose port the asker holds: 7 for an item that it does not hold.
-fn ask_items(t: &mut [u32], n: usize, w: NewRequest, items: Items) -> Answer
+fn ask_items(t: &mut [u32], n: usize, w: NewRequest, items: Items) -> Result<Answer, Refusal>
     requires { IsTables t.old × (n ≤ ROWS) × (w.slot < n) }
-    ensures answers { AsksItems t.old n w items t.new result }
+    ensures answers { AsksItems t.old n w items t.new (answer_in result) }
     ensures long { IsTables t.new }
 {
     let Looked::Held(first) = item_row(t, n, w.asker, items.first) else {
-        return Answer::Refused(7);
+        return Err(Refusal::NotHeld);
     };
     let Looked::Held(second) = item_row(t, n, w.asker, items.second) else {
-        return Answer::Refused(7);
+        return Err(Refusal::NotHeld);
     };
     let Looked::Held(third) = item_row(t, n, w.asker, items.third) else {
-        return Answer::Refused(7);
+        return Err(Refusal::NotHeld);
     };
     let Looked::Held(fourth) = item_row(t, n, w.asker, items.fourth) else {
-        return Answer::Refused(7);
+        return Err(Refusal::NotHeld);
     };
     let rows = ItemRows {
         first: first,
@@ -197,7 +194,7 @@ pub fn ask(t: &mut [u32], p: u32, c: u32, items: Items) -> Answer
 {
     let n = find::count_rows(t);
     let Some(i) = lookups::held_by(t, n, p, c) else {
-        return Answer::Refused(7);
+        return Refusal::NotHeld.into();
     };
     let request = NewRequest {
         number: read::next_of(t),
@@ -205,5 +202,5 @@ pub fn ask(t: &mut [u32], p: u32, c: u32, items: Items) -> Answer
         slot: i,
         asker: p,
     };
-    ask_items(t, n, request, items)
+    ask_items(t, n, request, items).unwrap_or_else(Answer::from)
 }

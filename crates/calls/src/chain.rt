@@ -4,8 +4,8 @@ ghost use Rattle.rows.specs.vocabulary.Sizes.{ROWS, IsTables};
 ghost use Rattle.calls.specs.declared.Call.{Call};
 ghost use Rattle.calls.specs.vocabulary.Performs.{PerformsApart, ChainedAt};
 
-use crate::Answer;
 use crate::numbers::four_from;
+use crate::{Answer, Refusal};
 use questions::chain;
 use rows::codes::GREATEST_DEPTH;
 use rows::find;
@@ -35,7 +35,7 @@ pub fn chain(t: &[u32], e: u32) -> Answer
 {
     let n = find::count_rows(t);
     let Some(i) = find::row_among(t, n, e) else {
-        return Answer::Refused(7);
+        return Refusal::NotHeld.into();
     };
     chain_at(t, i)
 }

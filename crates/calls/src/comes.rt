@@ -3,7 +3,7 @@ ghost use Rattle.rows.specs.vocabulary.Sizes.{IsTables};
 ghost use Rattle.calls.specs.declared.Call.{Call};
 ghost use Rattle.calls.specs.vocabulary.Performs.{PerformsApart};
 
-use crate::{Answer, lookups};
+use crate::{Answer, Refusal, lookups};
 use questions::question;
 use rows::find;
 
@@ -15,11 +15,11 @@ pub fn comes(t: &[u32], e: u32, q: u32) -> Answer
 {
     let n = find::count_rows(t);
     let Some(i) = find::row_among(t, n, e) else {
-        return Answer::Refused(7);
+        return Refusal::NotHeld.into();
     };
     let m = find::count_requests(t);
     let Some(_) = lookups::request_among(t, m, q) else {
-        return Answer::Refused(7);
+        return Refusal::NotHeld.into();
     };
     let told = question::comes(t, i, q);
     Answer::Told(told)

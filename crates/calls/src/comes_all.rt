@@ -9,8 +9,8 @@ ghost use Rattle.calls.specs.vocabulary.Pairs.{Sixteens, TellsPair, TellsEach, T
 use crate::{Answer, Sixteen, lookups, numbers};
 use questions::pairs;
 use questions::pairs::{PAIRS, PairMarks};
-use rows::layout::ROWS;
 use rows::find;
+use rows::layout::ROWS;
 
 // what is told of a pair: no, or yes, one more; or nothing, since comes is 7
 pub const NO: u32 = 1;

@@ -3,12 +3,12 @@ ghost use Rattle.std.specs.Prelude.{◌≤◌, ◌<◌};
 ghost use Rattle.rows.specs.vocabulary.Sizes.{ROWS, LAST-NUMBER, IsTables, IsRecords};
 ghost use Rattle.calls.specs.declared.Call.{Call};
 ghost use Rattle.calls.specs.vocabulary.Performs.{Performs, HasRoom, RefusesHold, HoldsRow, RefusesRegister};
-ghost use Rattle.calls.specs.vocabulary.Performs.{RegistersRow, IsSourceOfSome, RefusesDrop};
+ghost use Rattle.calls.specs.vocabulary.Performs.{RegistersRow, IsSourceOfSome, RefusesDrop, DropsHeld, refusal_in, answer_in};
 ghost use Rattle.calls.specs.vocabulary.Effects.{IsProcess, GoesHome, GoesThrough, HeldBy};
 ghost use Rattle.calls.specs.vocabulary.Effects.{RegisteredBy};
 
 use crate::new_rows::append_copy;
-use crate::{Answer, NewCopy, lookups, tests};
+use crate::{Answer, NewCopy, Refusal, lookups, tests};
 use changes::change;
 use closing::close::drop_row;
 use questions::question;
@@ -105,45 +105,42 @@ pub fn go(t: &[u32], ps: &mut [u32], p: u32, e: u32) -> Answer
     }
     let n = find::count_rows(t);
     let Some(i) = lookups::held_by(t, n, p, e) else {
-        return Answer::Refused(7);
+        return Refusal::NotHeld.into();
     };
     if t[KIND + i] != A_SUBDIRECTORY {
-        return Answer::Refused(8);
+        return Refusal::WrongKind.into();
     }
     go_through(t, i, ps, p, e);
     Answer::Done
 }
 
-// What refuses to hold the row in slot i, of the active node: 9 and on, 0 for nothing.
-fn hold_refusal(t: &[u32], n: usize, i: usize, via: u32, d: u32, next: u32) -> u32
+// What refuses to hold the row in slot i, of the active node: 9 and on.
+fn hold_refusal(t: &[u32], n: usize, i: usize, via: u32, d: u32, next: u32) -> Result<(), Refusal>
     requires { IsTables t.now × (n ≤ ROWS) × (i < n) × (via ≤ n) }
-    ensures lowest { RefusesHold t.now n i via d next result }
-    ensures room { HasRoom n next 1 result }
+    ensures lowest { RefusesHold t.now n i via d next (refusal_in result) }
+    ensures room { HasRoom n next 1 (refusal_in result) }
 {
     let rights = Rights(t[RIGHTS + i]);
     if !rights.contains(Rights::HOLD) {
-        return 9;
+        return Err(Refusal::NoRight);
     }
     if tests::takes_lent(t, i, via) {
-        return 12;
+        return Err(Refusal::Lent);
     }
     tests::rows_refusal(n, next, d, 1)
 }
 
 // hold of the row in slot i, which is in the active node of p.
-fn hold_row(t: &mut [u32], n: usize, i: usize, via: u32, p: u32) -> Answer
+fn hold_row(t: &mut [u32], n: usize, i: usize, via: u32, p: u32) -> Result<Answer, Refusal>
     requires { IsTables t.old × (n ≤ ROWS) × (i < n) × (via ≤ n) }
-    ensures answers { HoldsRow t.old n i via p t.new result }
+    ensures answers { HoldsRow t.old n i via p t.new (answer_in result) }
     ensures long { IsTables t.new }
 {
     let next = read::next_of(t);
     let d = lookups::depth_over(t, (i + 1) as u32, via);
-    let k = hold_refusal(t, n, i, via, d, next);
-    if k != 0 {
-        return Answer::Refused(k);
-    }
+    hold_refusal(t, n, i, via, d, next)?;
     add_held(t, n, i, p, via, d, next);
-    Answer::Made(next)
+    Ok(Answer::Made(next))
 }
 
 // hold: 7 for a row that is not in the active node; then the row's own refusals.
@@ -157,46 +154,43 @@ pub fn hold(t: &mut [u32], ps: &[u32], p: u32, s: u32) -> Answer
     let x = record_at(ps, (p - 1) as usize);
     let n = find::count_rows(t);
     let Some(i) = lookups::row_in(t, n, x.active, s) else {
-        return Answer::Refused(7);
+        return Refusal::NotHeld.into();
     };
     let via = lookups::row_word(t, n, x.through);
-    hold_row(t, n, i, via, p)
+    hold_row(t, n, i, via, p).unwrap_or_else(Answer::from)
 }
 
-// What refuses to register the row in slot i, which the caller holds: 8 and on, 0 for nothing.
-fn register_refusal(t: &[u32], n: usize, i: usize, d: u32, next: u32) -> u32
+// What refuses to register the row in slot i, which the caller holds: 8 and on.
+fn register_refusal(t: &[u32], n: usize, i: usize, d: u32, next: u32) -> Result<(), Refusal>
     requires { IsTables t.now × (n ≤ ROWS) × (i < n) }
-    ensures lowest { RefusesRegister t.now n i d next result }
-    ensures room { HasRoom n next 1 result }
+    ensures lowest { RefusesRegister t.now n i d next (refusal_in result) }
+    ensures room { HasRoom n next 1 (refusal_in result) }
 {
     if is_end(t[KIND + i]) {
-        return 8;
+        return Err(Refusal::WrongKind);
     }
     let rights = Rights(t[RIGHTS + i]);
     if !rights.contains(Rights::REGISTER) {
-        return 9;
+        return Err(Refusal::NoRight);
     }
     if question::lent(t, i) {
-        return 12;
+        return Err(Refusal::Lent);
     }
     tests::rows_refusal(n, next, d, 1)
 }
 
 // register of the row in slot i, which the caller holds, into a node.
-fn register_row(t: &mut [u32], n: usize, i: usize, node: u32) -> Answer
+fn register_row(t: &mut [u32], n: usize, i: usize, node: u32) -> Result<Answer, Refusal>
     requires { IsTables t.old × (n ≤ ROWS) × (i < n) }
-    ensures answers { RegistersRow t.old n i node t.new result }
+    ensures answers { RegistersRow t.old n i node t.new (answer_in result) }
     ensures long { IsTables t.new }
 {
     let next = read::next_of(t);
     let source = lookups::source_word(t, n, i);
     let d = lookups::depth_over(t, source, 0);
-    let k = register_refusal(t, n, i, d, next);
-    if k != 0 {
-        return Answer::Refused(k);
-    }
+    register_refusal(t, n, i, d, next)?;
     add_registered(t, n, i, node, source, d, next);
-    Answer::Made(next)
+    Ok(Answer::Made(next))
 }
 
 // register: 7 for a row that the caller does not hold; then the row's own refusals.
@@ -210,9 +204,9 @@ pub fn register(t: &mut [u32], ps: &[u32], p: u32, e: u32) -> Answer
     let x = record_at(ps, (p - 1) as usize);
     let n = find::count_rows(t);
     let Some(i) = lookups::held_by(t, n, p, e) else {
-        return Answer::Refused(7);
+        return Refusal::NotHeld.into();
     };
-    register_row(t, n, i, x.active)
+    register_row(t, n, i, x.active).unwrap_or_else(Answer::from)
 }
 
 // Whether a row has the row in slot i for a source.
@@ -229,18 +223,37 @@ fn is_source(t: &[u32], n: usize, i: usize) -> bool
     found
 }
 
-// What refuses to drop the row e in slot i, which the caller holds: 8, 13, 0 for nothing.
-fn drop_refusal(t: &[u32], n: usize, i: usize, through: u32, e: u32) -> u32
+// What refuses to drop the row e in slot i, which the caller holds: 8, 13.
+fn drop_refusal(t: &[u32], n: usize, i: usize, through: u32, e: u32) -> Result<(), Refusal>
     requires { IsTables t.now × (n ≤ ROWS) × (i < ROWS) }
-    ensures { RefusesDrop t.now n i through e result }
+    ensures { RefusesDrop t.now n i through e (refusal_in result) }
 {
     if is_end(t[KIND + i]) {
-        return 8;
+        return Err(Refusal::WrongKind);
     }
     if is_source(t, n, i) | (through == e) {
-        return 13;
+        return Err(Refusal::InUse);
     }
-    0
+    Ok(())
+}
+
+// drop of the row e in slot i, which the caller holds.
+fn drop_held(
+    t: &mut [u32],
+    n: usize,
+    ps: &mut [u32],
+    i: usize,
+    through: u32,
+    e: u32,
+) -> Result<Answer, Refusal>
+    requires { IsTables t.old × IsRecords ps.old × (n ≤ ROWS) × (i < ROWS) }
+    ensures drops { DropsHeld t.old n ps.old i through e t.new
+        ps.new (answer_in result) }
+    ensures long { IsTables t.new × IsRecords ps.new }
+{
+    drop_refusal(t, n, i, through, e)?;
+    drop_row(t, ps, e);
+    Ok(Answer::Done)
 }
 
 // drop: 7 for a row that the caller does not hold; then the row's own refusals.
@@ -254,12 +267,7 @@ pub fn drop(t: &mut [u32], ps: &mut [u32], p: u32, e: u32) -> Answer
     let x = record_at(ps, (p - 1) as usize);
     let n = find::count_rows(t);
     let Some(i) = lookups::held_by(t, n, p, e) else {
-        return Answer::Refused(7);
+        return Refusal::NotHeld.into();
     };
-    let k = drop_refusal(t, n, i, x.through, e);
-    if k != 0 {
-        return Answer::Refused(k);
-    }
-    drop_row(t, ps, e);
-    Answer::Done
+    drop_held(t, n, ps, i, x.through, e).unwrap_or_else(Answer::from)
 }

@@ -3,10 +3,10 @@ ghost use Rattle.std.specs.Prelude.{[], ◌∷◌, ◌≤◌, ◌<◌};
 ghost use Rattle.rows.specs.vocabulary.Sizes.{ROWS, REQUESTS, IsTables};
 ghost use Rattle.calls.specs.declared.Call.{Call};
 ghost use Rattle.calls.specs.vocabulary.Effects.{IsProcess};
-ghost use Rattle.calls.specs.vocabulary.Performs.{PerformsApart, FetchesRequest, FetchesEnd};
+ghost use Rattle.calls.specs.vocabulary.Performs.{PerformsApart, FetchesRequest, FetchesEnd, answer_in};
 ghost use Rattle.calls.specs.vocabulary.Loans.{ItemsPlaced, HandedOver};
 
-use crate::{Answer, lookups};
+use crate::{Answer, Refusal, lookups};
 use changes::change;
 use rows::codes::{A_SERVER_END, clist};
 use rows::layout::{ITEMS, KIND};
@@ -56,32 +56,32 @@ pub fn hand_over(t: &mut [u32], n: usize, j: usize, p: u32)
 }
 
 // fetch of the request in slot j, which is open on the port of a server end of p: 11 where it is fetched.
-fn fetch_request(t: &mut [u32], n: usize, j: usize, p: u32) -> Answer
+fn fetch_request(t: &mut [u32], n: usize, j: usize, p: u32) -> Result<Answer, Refusal>
     requires { IsTables t.old × (n ≤ ROWS) × (j < REQUESTS) }
-    ensures answers { FetchesRequest t.old n j p t.new result }
+    ensures answers { FetchesRequest t.old n j p t.new (answer_in result) }
     ensures long { IsTables t.new }
 {
     let v = read::request_at(t, j);
     if v.fetched == 1 {
-        return Answer::Refused(11);
+        return Err(Refusal::NoRequest);
     }
     let items = v.items;
     hand_over(t, n, j, p);
-    Answer::Fetched(v.number, items[0], items[1], items[2], items[3])
+    Ok(Answer::Fetched(v.number, items[0], items[1], items[2], items[3]))
 }
 
 // fetch at the end in slot i, which p holds: 8 for one that is no server end, 11 with no request.
-fn fetch_end(t: &mut [u32], n: usize, i: usize, p: u32) -> Answer
+fn fetch_end(t: &mut [u32], n: usize, i: usize, p: u32) -> Result<Answer, Refusal>
     requires { IsTables t.old × (n ≤ ROWS) × (i < n) }
-    ensures answers { FetchesEnd t.old n i p t.new result }
+    ensures answers { FetchesEnd t.old n i p t.new (answer_in result) }
     ensures long { IsTables t.new }
 {
     if t[KIND + i] != A_SERVER_END {
-        return Answer::Refused(8);
+        return Err(Refusal::WrongKind);
     }
     let m = find::count_requests(t);
     let Some(j) = lookups::asked_at(t, m, i) else {
-        return Answer::Refused(11);
+        return Err(Refusal::NoRequest);
     };
     fetch_request(t, n, j, p)
 }
@@ -95,7 +95,7 @@ pub fn fetch(t: &mut [u32], p: u32, e: u32) -> Answer
 {
     let n = find::count_rows(t);
     let Some(i) = lookups::held_by(t, n, p, e) else {
-        return Answer::Refused(7);
+        return Refusal::NotHeld.into();
     };
-    fetch_end(t, n, i, p)
+    fetch_end(t, n, i, p).unwrap_or_else(Answer::from)
 }

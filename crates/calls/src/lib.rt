@@ -55,7 +55,38 @@ pub enum Call {
     ComesAll(Sixteen, Sixteen),
 }
 
+// Why the state refuses a call: each by the number that its answer has.
+// The numbers are those of lines and states, 2 to 18; 2 to 6 are for the text of a line, which has its own crate.
+#[derive(Clone, Copy)]
+pub enum Refusal {
+    // what is named is not the caller's, or not there
+    NotHeld = 7,
+    // it is of another kind
+    WrongKind = 8,
+    // a right is missing, or more is lent than the row has
+    NoRight = 9,
+    // a port has an open request, or an item is an end of the port asked over
+    Busy = 10,
+    // the port has no request for this: none is open, or it is fetched already, or not yet
+    NoRequest = 11,
+    // a loan forbids it
+    Lent = 12,
+    // another row has the row for a source, or the caller is in a node through it
+    InUse = 13,
+    // a lent end is not back
+    Away = 14,
+    // the new row would have depth 13
+    TooDeep = 15,
+    // too few rows are free
+    RowsFull = 16,
+    // no request is free
+    RequestsFull = 17,
+    // too few numbers are left
+    NumbersSpent = 18,
+}
+
 // What a call answers. The numbers and values of each case: specs/Answers.antt.
+// A refusal is its number here: that of a line's text is no `Refusal`, and definitions and cases have the number.
 #[derive(Clone, Copy)]
 pub enum Answer {
     Done,
@@ -149,5 +180,6 @@ pub mod new_rows;
 pub mod numbers;
 pub mod perform;
 pub mod ports;
+pub mod refusals;
 pub mod revoke;
 pub mod tests;

@@ -7,8 +7,8 @@ ghost use Rattle.calls.specs.vocabulary.Lookups.{IsSourceWord, IsDepth, IsDepthO
 ghost use Rattle.calls.specs.vocabulary.Performs.{FindsAsked};
 
 use rows::codes::{GREATEST_DEPTH, clist};
-use rows::layout::{DEPTH, OBJECT, PLACE, Q_ASKER, Q_NUMBER, Q_PORT, SOURCE};
 use rows::find;
+use rows::layout::{DEPTH, OBJECT, PLACE, Q_ASKER, Q_NUMBER, Q_PORT, SOURCE};
 
 // The slot of the row e, where it is in the place: a c-list, or a node.
 // Ruled out: the slot of a row that is in another place; nothing for a row that is there.

@@ -3,11 +3,11 @@ ghost use Rattle.std.specs.Prelude.{◌≤◌, ◌<◌, ◌+◌};
 ghost use Rattle.rows.specs.vocabulary.Sizes.{ROWS, LAST-NUMBER, IsTables, IsRecords};
 ghost use Rattle.calls.specs.declared.Call.{Call};
 ghost use Rattle.calls.specs.vocabulary.Performs.{Performs, PerformsApart, HasRoom, RefusesPort, MakesPort};
-ghost use Rattle.calls.specs.vocabulary.Performs.{RefusesClose};
+ghost use Rattle.calls.specs.vocabulary.Performs.{refusal_in, answer_in, RefusesClose, ClosesHeld};
 ghost use Rattle.calls.specs.vocabulary.Effects.{IsProcess, PortMade};
 
 use crate::new_rows::append_ends;
-use crate::{Answer, NewPort, lookups, tests};
+use crate::{Answer, NewPort, Refusal, lookups, tests};
 use changes::change;
 use closing::close::close_port;
 use questions::question::on_loan;
@@ -34,32 +34,29 @@ pub fn add_port(t: &mut [u32], n: usize, i: usize, p: u32, d: u32, next: u32)
     change::set_next(t, next + 2);
 }
 
-// What refuses a port from the row in slot i, which the caller holds: 8 and on, 0 for nothing.
-fn port_refusal(t: &[u32], n: usize, i: usize, d: u32, next: u32) -> u32
+// What refuses a port from the row in slot i, which the caller holds: 8 and on.
+fn port_refusal(t: &[u32], n: usize, i: usize, d: u32, next: u32) -> Result<(), Refusal>
     requires { IsTables t.now × (n ≤ ROWS) × (i < n) }
-    ensures lowest { RefusesPort t.now n i d next result }
-    ensures room { HasRoom n next 2 result }
+    ensures lowest { RefusesPort t.now n i d next (refusal_in result) }
+    ensures room { HasRoom n next 2 (refusal_in result) }
 {
     if t[KIND + i] != AN_OPERATION {
-        return 8;
+        return Err(Refusal::WrongKind);
     }
     tests::rows_refusal(n, next, d, 2)
 }
 
 // port from the row in slot i, which p holds.
-fn port_row(t: &mut [u32], n: usize, i: usize, p: u32) -> Answer
+fn port_row(t: &mut [u32], n: usize, i: usize, p: u32) -> Result<Answer, Refusal>
     requires { IsTables t.old × (n ≤ ROWS) × (i < n) × IsProcess p }
-    ensures answers { MakesPort t.old n i p t.new result }
+    ensures answers { MakesPort t.old n i p t.new (answer_in result) }
     ensures long { IsTables t.new }
 {
     let next = read::next_of(t);
     let d = lookups::depth_over(t, (i + 1) as u32, 0);
-    let k = port_refusal(t, n, i, d, next);
-    if k != 0 {
-        return Answer::Refused(k);
-    }
+    port_refusal(t, n, i, d, next)?;
     add_port(t, n, i, p, d, next);
-    Answer::Made(next)
+    Ok(Answer::Made(next))
 }
 
 // port: 7 for a row that the caller does not hold; then the row's own refusals.
@@ -71,23 +68,35 @@ pub fn port(t: &mut [u32], p: u32, e: u32) -> Answer
 {
     let n = find::count_rows(t);
     let Some(i) = lookups::held_by(t, n, p, e) else {
-        return Answer::Refused(7);
+        return Refusal::NotHeld.into();
     };
-    port_row(t, n, i, p)
+    port_row(t, n, i, p).unwrap_or_else(Answer::from)
 }
 
-// What refuses to close the port of the row c in slot i, which the caller holds: 8, 12, 0 for nothing.
-fn close_refusal(t: &[u32], i: usize, c: u32) -> u32
+// What refuses to close the port of the row c in slot i, which the caller holds: 8, 12.
+fn close_refusal(t: &[u32], i: usize, c: u32) -> Result<(), Refusal>
     requires { IsTables t.now × (i < ROWS) }
-    ensures { RefusesClose t.now i c result }
+    ensures { RefusesClose t.now i c (refusal_in result) }
 {
     if t[KIND + i] != A_CLIENT_END {
-        return 8;
+        return Err(Refusal::WrongKind);
     }
     if on_loan(t, c) {
-        return 12;
+        return Err(Refusal::Lent);
     }
-    0
+    Ok(())
+}
+
+// close of the port of the row c in slot i, which the caller holds.
+fn close_held(t: &mut [u32], ps: &mut [u32], i: usize, c: u32) -> Result<Answer, Refusal>
+    requires { IsTables t.old × IsRecords ps.old × (i < ROWS) }
+    ensures closes { ClosesHeld t.old ps.old i c t.new
+        ps.new (answer_in result) }
+    ensures long { IsTables t.new × IsRecords ps.new }
+{
+    close_refusal(t, i, c)?;
+    close_port(t, ps, c);
+    Ok(Answer::Done)
 }
 
 // close: 7 for a row that the caller does not hold; then the row's own refusals.
@@ -100,12 +109,7 @@ pub fn close(t: &mut [u32], ps: &mut [u32], p: u32, c: u32) -> Answer
 {
     let n = find::count_rows(t);
     let Some(i) = lookups::held_by(t, n, p, c) else {
-        return Answer::Refused(7);
+        return Refusal::NotHeld.into();
     };
-    let k = close_refusal(t, i, c);
-    if k != 0 {
-        return Answer::Refused(k);
-    }
-    close_port(t, ps, c);
-    Answer::Done
+    close_held(t, ps, i, c).unwrap_or_else(Answer::from)
 }

@@ -4,10 +4,10 @@ ghost use Rattle.calls.specs.declared.Call.{Call};
 ghost use Rattle.calls.specs.vocabulary.Performs.{Performs};
 ghost use Rattle.calls.specs.vocabulary.Effects.{IsProcess};
 
-use crate::{Answer, lookups};
+use crate::{Answer, Refusal, lookups};
 use closing::close::close_request;
-use rows::layout::Q_ASKER;
 use rows::find;
+use rows::layout::Q_ASKER;
 
 // revoke: 7 for what is no open request of the caller's.
 // Ruled out: another process's request closes; a request that is fetched stays open.
@@ -19,10 +19,10 @@ pub fn revoke(t: &mut [u32], ps: &mut [u32], p: u32, q: u32) -> Answer
 {
     let m = find::count_requests(t);
     let Some(j) = lookups::request_among(t, m, q) else {
-        return Answer::Refused(7);
+        return Refusal::NotHeld.into();
     };
     if t[Q_ASKER + j] != p {
-        return Answer::Refused(7);
+        return Refusal::NotHeld.into();
     }
     close_request(t, ps, q);
     Answer::Done

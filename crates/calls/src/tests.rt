@@ -1,50 +1,50 @@
 // What the tests of several calls ask: room for new rows and requests, open requests, lent rows.
 ghost use Rattle.std.specs.Prelude.{◌≤◌, ◌<◌};
 ghost use Rattle.rows.specs.vocabulary.Sizes.{ROWS, REQUESTS, ITEMS, IsTables};
-ghost use Rattle.calls.specs.vocabulary.Performs.{RefusesRows, HasRoom, IsLentWord, TakesLent};
+ghost use Rattle.calls.specs.vocabulary.Performs.{refusal_in, RefusesRows, HasRoom, IsLentWord, TakesLent};
 ghost use Rattle.calls.specs.vocabulary.Asks.{TellsOpen, RefusesRequest, SpaceUnless};
 
-use crate::lookups;
+use crate::{Refusal, lookups};
 use questions::question;
 use rows::codes::{A_SUBDIRECTORY, GREATEST_DEPTH, LAST_NEXT};
 use rows::layout::{KIND, REQUESTS, ROWS};
 
-// What refuses k new rows of depth d: 15, 16, 18; 0 for nothing.
+// What refuses k new rows of depth d: 15, 16, 18.
 // Ruled out: full, with a slot free; a row of depth 13.
-pub fn rows_refusal(n: usize, next: u32, d: u32, k: u32) -> u32
+pub fn rows_refusal(n: usize, next: u32, d: u32, k: u32) -> Result<(), Refusal>
     requires { (n ≤ ROWS) × (k ≤ 2) }
-    ensures lowest { RefusesRows n next d k result }
-    ensures room { HasRoom n next k result }
+    ensures lowest { RefusesRows n next d k (refusal_in result) }
+    ensures room { HasRoom n next k (refusal_in result) }
 {
     if GREATEST_DEPTH < d {
-        return 15;
+        return Err(Refusal::TooDeep);
     }
     if ROWS < n + k as usize {
-        return 16;
+        return Err(Refusal::RowsFull);
     }
     if LAST_NEXT - k < next {
-        return 18;
+        return Err(Refusal::NumbersSpent);
     }
-    0
+    Ok(())
 }
 
-// What refuses a request with so many copies: 16, 17, 18; 0 for nothing.
+// What refuses a request with so many copies: 16, 17, 18.
 // Ruled out: 17 with a slot free; the number of the request is not counted.
-pub fn request_refusal(n: usize, m: usize, next: u32, copies: u32) -> u32
+pub fn request_refusal(n: usize, m: usize, next: u32, copies: u32) -> Result<(), Refusal>
     requires { (n ≤ ROWS) × (m ≤ REQUESTS) × (copies ≤ ITEMS) }
-    ensures lowest { RefusesRequest n m next copies result }
-    ensures room { SpaceUnless result n m next copies }
+    ensures lowest { RefusesRequest n m next copies (refusal_in result) }
+    ensures room { SpaceUnless (refusal_in result) n m next copies }
 {
     if ROWS < n + copies as usize {
-        return 16;
+        return Err(Refusal::RowsFull);
     }
     if REQUESTS <= m {
-        return 17;
+        return Err(Refusal::RequestsFull);
     }
     if LAST_NEXT - (copies + 1) < next {
-        return 18;
+        return Err(Refusal::NumbersSpent);
     }
-    0
+    Ok(())
 }
 
 // Whether the port whose client end is c has an open request.

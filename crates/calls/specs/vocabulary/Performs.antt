@@ -1,6 +1,6 @@
 -- What the calls' functions answer: the numbers of refusals, and that answer, words and records are the definition's.
 use Rattle.std.specs.Prelude.{ℕ, suc, ◌+◌, ◌≤◌, Bool, true, ◌&&◌, List, [], ◌∷◌, ◌≡◌, eqb, length}
-use Rattle.std.specs.Prelude.{Option}
+use Rattle.std.specs.Prelude.{Option, Result, Ok, Err}
 use Rattle.rows.specs.declared.Process.{Process}
 use Rattle.rows.specs.Lists.{any, member, some}
 use Rattle.rows.specs.Codes.{is_subdirectory, is_server, in_clist, in_node}
@@ -10,10 +10,12 @@ use Rattle.rows.specs.Layout.{row_slot, records_in, records_of}
 use Rattle.rows.specs.vocabulary.Represents.{Represents}
 use Rattle.rows.specs.vocabulary.Slots.{found_slot, open_slot}
 use Rattle.rows.specs.vocabulary.Sizes.{ROWS, PROCESSES, LAST-NEXT}
+use Rattle.calls.specs.declared.Refusal.{Refusal}
 use Rattle.calls.specs.declared.Answer.{Answer}
 use Rattle.calls.specs.declared.Answer.TheVariants.{Refused}
 use Rattle.calls.specs.declared.Call.{Call}
 use Rattle.calls.specs.declared.Call.TheVariants.{Go, Hold, Register, Drop, Port, Close, Ask, Fetch, Revoke, Comes, Chain, ComesAll}
+use Rattle.calls.specs.Answers.{refusal_number}
 use Rattle.calls.specs.Rules.{Out, ◌when◌, lowest, too_deep, rows_full, numbers_spent}
 use Rattle.calls.specs.Calls.{refusals_hold, held_depth, refusals_register, registered_depth, refusals_port, port_depth, refusals_close, refusals_drop, chained_answer, perform, caller_of}
 use Rattle.calls.specs.vocabulary.Lookups.{HasRows, HasRequests, StandsAt}
@@ -70,6 +72,17 @@ CallerInRange (Revoke p q) = IsProcess p
 CallerInRange (Comes e q) = Unit {0}
 CallerInRange (Chain e) = Unit {0}
 CallerInRange (ComesAll es qs) = Unit {0}
+
+-- ---- a step that may be refused
+-- the number of the refusal, 0 for none
+abbrev pub refusal_in : {A : Type 0} → Result A Refusal → ℕ
+refusal_in (Ok x) = 0
+refusal_in (Err r) = refusal_number r
+
+-- the answer of the call
+abbrev pub answer_in : Result Answer Refusal → Answer
+answer_in (Ok r) = r
+answer_in (Err r) = Refused (refusal_number r)
 
 -- ---- what refuses new rows
 -- k rows of depth d: 15, 16, 18, 0 for nothing
@@ -144,6 +157,11 @@ abbrev pub RefusesClose : List ℕ → ℕ → ℕ → ℕ → Type 0
 RefusesClose t i c r =
     (st : State) (p : ℕ) → sound st ≡ true → Represents t st → HeldAt st p c i → r ≡ lowest (refusals_close st p c)
 
+abbrev pub ClosesHeld : List ℕ → List ℕ → ℕ → ℕ → List ℕ → List ℕ → Answer → Type 0
+ClosesHeld t ps i c after left r =
+    (st : State) (p : ℕ) → sound st ≡ true → Represents t st → st.processes ≡ records_in ps → HeldAt st p c i
+    → Agrees after (records_in left) r (perform st (Close p c))
+
 -- ---- fetch, answer
 -- r is the slot of the request that the server sees at its end, which stands in slot i
 abbrev pub FindsAsked : List ℕ → ℕ → ℕ → Option ℕ → Type 0
@@ -177,6 +195,12 @@ abbrev pub RefusesDrop : List ℕ → ℕ → ℕ → ℕ → ℕ → ℕ → Ty
 RefusesDrop t n i through e r =
     (st : State) (p : ℕ) → HasRows t n st → HeldAt st p e i → (process_at st.processes p).through ≡ through
     → r ≡ lowest (refusals_drop st p e)
+
+abbrev pub DropsHeld : List ℕ → ℕ → List ℕ → ℕ → ℕ → ℕ → List ℕ → List ℕ → Answer → Type 0
+DropsHeld t n ps i through e after left r =
+    (st : State) (p : ℕ) → sound st ≡ true → HasRows t n st → st.processes ≡ records_in ps → HeldAt st p e i
+    → (process_at st.processes p).through ≡ through
+    → Agrees after (records_in left) r (perform st (Drop p e))
 
 -- ---- chain
 -- r is the answer for the row in slot i

@@ -1,5 +1,6 @@
 -- `answering::answer_end`: no server end, no request, refused, or the request closes.
 use native.Mathlib.Omega.{arith}
+use Rattle.std.proofs.lemmas.Result.{err_from_is_err_and}
 use mathlib.Core.Bool.{not, ◌&&◌, ◌||◌}
 use mathlib.Core.Path.{ap, sym, ◌∙◌}
 use lib.Dec.{eqb}
@@ -12,7 +13,7 @@ use Rattle.rows.proofs.Slots.{at-below, found_at, found_nothing, row-words, open
 use Rattle.calls.specs.declared.Call.{Call}
 use Rattle.calls.specs.Rules.{asked_of}
 use Rattle.calls.specs.Calls.{refusals}
-use Rattle.calls.proofs.Judging.{test-holds, test-fails, refused-agrees, accepted-agrees}
+use Rattle.calls.proofs.Judging.{refusal-some, test-holds, test-fails, refused-agrees, accepted-agrees}
 use Rattle.calls.proofs.Refusing.{held, no-server, is-server, asked-none}
 use Rattle.calls.proofs.LentEnds.{answer-rest, none_lent}
 use Rattle.calls.proofs.Effected.{answered-request}
@@ -46,16 +47,17 @@ returns-in_default c =
       long = (c.requires.0, c.requires.1);
     }
 
-pub answer_refusal-k-requires : goal.answer_refusal-k-requires
-answer_refusal-k-requires c =
+pub answer_refusal-requires : goal.answer_refusal-requires
+answer_refusal-requires c =
     let found = c.asked_at in
     let count = c.count_requests-m in
     (c.requires.0, c.requires.2, count.ensures.within, omega (arith, count.ensures.within, at-below count.result found.result c.in-Some.j found.ensures.within c.in-Some.is))
 
-pub returns-then-k-ne0 : goal.returns-then-k-ne0
+pub returns-in_err-answer_refusal : goal.returns-in_err-answer_refusal
 unfolding refusals
-returns-then-k-ne0 c =
-    let no = c.answer_refusal-k in
+returns-in_err-answer_refusal c =
+    let no = c.in_err-answer_refusal in
+    let (y, is, residual) = err_from_is_err_and c.from_residual.result c.from_residual.ensures.1 in
     let found = c.asked_at in
     let counted = c.count_requests-m in
     let a = c.args in record {
@@ -63,7 +65,7 @@ returns-then-k-ne0 c =
           let requests = counted.ensures.counted st rep in
           let server = is-server (row_of st.rows e).kind (sym (row-words rep e a.i m.0).kind ∙ c.if-t-i-ne-A_SERVER_END.false) in
           let slot = found_at (open_slot st.requests (row_of st.rows e).object) c.in-Some.j (found.ensures.found st e (rep, requests) m.0) c.in-Some.is in
-          refused-agrees st (Call.Answer a.p e a.served) rep same no.result (no.ensures st e (rep, count, requests) (m.1, server, slot) few) c.if-k-ne0.true);
+          rw (is, residual) (refused-agrees st (Call.Answer a.p e a.served) rep same _ (no.ensures st e (rep, count, requests) (m.1, server, slot) few) (refusal-some _)));
       long = (c.requires.0, c.requires.1);
     }
 
@@ -89,7 +91,7 @@ pub returns : goal.returns
 unfolding refusals asked_of
 returns c =
     let closed = c.close_request in
-    let no = c.answer_refusal-k in
+    let no = c.in_ok-answer_refusal in
     let found = c.asked_at in
     let counted = c.count_requests-m in
     let a = c.args in record {
@@ -98,7 +100,7 @@ returns c =
           let requests = counted.ensures.counted st rep in
           let server = is-server (row_of st.rows e).kind (sym (row-words rep e a.i m.0).kind ∙ c.if-t-i-ne-A_SERVER_END.false) in
           let slot = found_at (open_slot st.requests port) c.in-Some.j (found.ensures.found st e (rep, requests) m.0) c.in-Some.is in
-          accepted-agrees st (Call.Answer a.p e a.served) (sym c.if-k-ne0.false ∙ no.ensures st e (rep, count, requests) (m.1, server, slot) few)
+          accepted-agrees st (Call.Answer a.p e a.served) (no.ensures st e (rep, count, requests) (m.1, server, slot) few)
           (answered-request st a.p e _ a.served _ (open-words rep port c.in-Some.j slot).number (closed.ensures.closed st sd rep same)));
       long = closed.ensures.long;
     }

@@ -1,5 +1,5 @@
 -- `answering::listed_newer`: `found` says whether one of the requests that the loop passed is newer and lists the item.
-use Prim.Native.Nat.{◌≤◌, ◌-◌}
+use Prim.Native.Nat.{◌≤◌}
 use mathlib.Core.Path.{◌≡◌}
 use Rattle.calls.proofs.LentEnds.{newer_to}
 use Rattle.calls.proofs.answering.listed_newer.Given as goal

@@ -4,7 +4,7 @@ use mathlib.Core.Path.{subst}
 use Rattle.calls.specs.declared.Items.{Items}
 use Rattle.calls.specs.declared.Call.TheVariants.{Ask}
 use Rattle.calls.specs.Calls.{refusals, perform}
-use Rattle.calls.specs.vocabulary.Performs.{Answers}
+use Rattle.calls.specs.vocabulary.Performs.{answer_in, Answers}
 use Rattle.calls.proofs.Judging.{refused-answers}
 use Rattle.calls.proofs.Asked.{looked-found, looked-nothing, held_fits, first-seven, second-seven, third-seven, fourth-seven}
 use Rattle.calls.proofs.ask.ask_items.Goals as goal
@@ -93,7 +93,7 @@ returns c =
           let (q2, h2) = looked-found st w.asker is.second r2.result c.in-Held-item_row.second (r2.ensures.found st h few) c.in-Held-item_row.is in
           let (q3, h3) = looked-found st w.asker is.third r3.result c.in-Held-item_row-2.third (r3.ensures.found st h few) c.in-Held-item_row-2.is in
           let (q4, h4) = looked-found st w.asker is.fourth r4.result c.in-Held-item_row-3.fourth (r4.ensures.found st h few) c.in-Held-item_row-3.is in
-          subst (λ (js : Items). Answers done.new.t done.result (perform st (Ask w.asker w.port js)))
+          subst (λ (js : Items). Answers done.new.t (answer_in done.result) (perform st (Ask w.asker w.port js)))
           (λ j. record { first = q1 j; second = q2 j; third = q3 j; fourth = q4 j })
           (done.ensures.answers st sd h over (h1, h2, h3, h4)));
       long = done.ensures.long;

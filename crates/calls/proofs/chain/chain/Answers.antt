@@ -4,7 +4,7 @@ use Rattle.rows.specs.Layout.{row_slot}
 use Rattle.rows.proofs.Slots.{at-below, found_at, found_nothing}
 use Rattle.calls.specs.declared.Call.TheVariants.{Chain}
 use Rattle.calls.specs.Calls.{refusals}
-use Rattle.calls.proofs.Judging.{refused-agrees, accepted-agrees}
+use Rattle.calls.proofs.Judging.{by-number, refused-agrees, accepted-agrees}
 use Rattle.calls.proofs.Refusing.{chain-no-row, chain-row, row-some}
 use Rattle.calls.proofs.Effected.{told-chain}
 use Rattle.calls.proofs.chain.chain.Goals as goal
@@ -17,7 +17,7 @@ returns-in_default c =
     let a = c.args in
     λ ps st sd rep same listed.
     let none = found_nothing (row_slot st.rows a.e) (found.ensures.found st rep (count.ensures.counted st rep)) c.in_default.is in
-    refused-agrees st (Chain a.e) rep same 7 (chain-no-row st a.e none) (λ z. absurd (omega arith))
+    by-number c.into.ensures (refused-agrees st (Chain a.e) rep same 7 (chain-no-row st a.e none) (λ z. absurd (omega arith)))
 
 pub chain_at-requires : goal.chain_at-requires
 chain_at-requires c =

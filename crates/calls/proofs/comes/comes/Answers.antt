@@ -5,7 +5,7 @@ use Rattle.rows.specs.vocabulary.Slots.{request_slot}
 use Rattle.rows.proofs.Slots.{at-below, found_at, found_nothing}
 use Rattle.calls.specs.declared.Call.TheVariants.{Comes}
 use Rattle.calls.specs.Calls.{refusals}
-use Rattle.calls.proofs.Judging.{refused-agrees, accepted-agrees}
+use Rattle.calls.proofs.Judging.{by-number, refused-agrees, accepted-agrees}
 use Rattle.calls.proofs.Refusing.{comes-no-row, comes-no-request, comes-both, row-some, request-some}
 use Rattle.calls.proofs.Effected.{told-comes}
 use Rattle.calls.proofs.comes.comes.Goals as goal
@@ -18,7 +18,7 @@ returns-in_default c =
     let a = c.args in
     λ ps st sd rep same listed.
     let none = found_nothing (row_slot st.rows a.e) (found.ensures.found st rep (count.ensures.counted st rep)) c.in_default.is in
-    refused-agrees st (Comes a.e a.q) rep same 7 (comes-no-row st a.e a.q none) (λ z. absurd (omega arith))
+    by-number c.into.ensures (refused-agrees st (Comes a.e a.q) rep same 7 (comes-no-row st a.e a.q none) (λ z. absurd (omega arith)))
 
 pub returns-in_default-request_among : goal.returns-in_default-request_among
 unfolding refusals
@@ -28,7 +28,7 @@ returns-in_default-request_among c =
     let a = c.args in
     λ ps st sd rep same listed.
     let none = found_nothing (request_slot st.requests a.q) (found.ensures.found st (rep, count.ensures.counted st rep)) c.in_default-request_among.is in
-    refused-agrees st (Comes a.e a.q) rep same 7 (comes-no-request st a.e a.q none) (λ z. absurd (omega arith))
+    by-number c.into-in_default-request_among.ensures (refused-agrees st (Comes a.e a.q) rep same 7 (comes-no-request st a.e a.q none) (λ z. absurd (omega arith)))
 
 pub comes-told-requires : goal.comes-told-requires
 comes-told-requires c =

@@ -1,5 +1,5 @@
 -- The pairs passed are told, each in its place.
-use Prim.Native.Nat.{◌≤◌, ◌-◌}
+use Prim.Native.Nat.{◌≤◌}
 use mathlib.Core.Path.{◌≡◌}
 use lib.ListN.{length}
 use Rattle.calls.proofs.PairsTold.{ToldTo}

@@ -6,7 +6,7 @@ use Rattle.rows.proofs.Slots.{at-below, row-words}
 use Rattle.calls.specs.declared.Call.TheVariants.{Go}
 use Rattle.calls.specs.Calls.{refusals}
 use Rattle.calls.proofs.LookedUp.{found_in}
-use Rattle.calls.proofs.Judging.{not-in-clist, refused-agrees, accepted-agrees}
+use Rattle.calls.proofs.Judging.{by-number, not-in-clist, refused-agrees, accepted-agrees}
 use Rattle.calls.proofs.Refusing.{held, not-held, go-home-allowed, go-seven, go-eight, go-allowed}
 use Rattle.calls.proofs.Effected.{went-home, went-through}
 use Rattle.calls.proofs.directories.go.Goals as goal
@@ -29,7 +29,7 @@ returns-in_default c =
     let a = c.args in record {
       performs = (λ st sd rep same listed.
           let away = not-in-clist st a.p a.e found.result (found.ensures.found st (rep, c.count_rows-n.ensures.counted st rep) c.requires.2.1) c.in_default.is in
-          refused-agrees st (Go a.p a.e) rep same 7 (go-seven st a.p a.e c.if-e-eq0.false (not-held st a.p a.e away)) (λ z. absurd (omega arith)));
+          by-number c.into.ensures (refused-agrees st (Go a.p a.e) rep same 7 (go-seven st a.p a.e c.if-e-eq0.false (not-held st a.p a.e away)) (λ z. absurd (omega arith))));
       long = c.requires.1;
     }
 
@@ -59,8 +59,8 @@ returns-then-t-i-ne-A_SUBDIRECTORY c =
     let a = c.args in record {
       performs = (λ st sd rep same listed.
           let (at, here) = found_in st (in_clist a.p) a.e found.result c.in-Some.i (found.ensures.found st (rep, count.ensures.counted st rep) c.requires.2.1) c.in-Some.is in
-          refused-agrees st (Go a.p a.e) rep same 8
-          (go-eight st a.p a.e c.if-e-eq0.false (held st a.p a.e here) (λ k. c.if-t-i-ne-A_SUBDIRECTORY.true ((row-words rep a.e c.in-Some.i at).kind ∙ k))) (λ z. absurd (omega arith)));
+          by-number c.into-then-t-i-ne-A_SUBDIRECTORY.ensures (refused-agrees st (Go a.p a.e) rep same 8
+          (go-eight st a.p a.e c.if-e-eq0.false (held st a.p a.e here) (λ k. c.if-t-i-ne-A_SUBDIRECTORY.true ((row-words rep a.e c.in-Some.i at).kind ∙ k))) (λ z. absurd (omega arith))));
       long = c.requires.1;
     }
 

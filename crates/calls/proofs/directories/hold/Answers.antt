@@ -12,7 +12,7 @@ use Rattle.calls.specs.declared.Call.TheVariants.{Hold}
 use Rattle.calls.specs.Calls.{refusals, caller_of}
 use Rattle.calls.proofs.LookedUp.{found_in}
 use Rattle.calls.proofs.Added.{at-process, node-some, in-active}
-use Rattle.calls.proofs.Judging.{not_in, refused-agrees, records-stay}
+use Rattle.calls.proofs.Judging.{unwrapped, by-number, not_in, refused-agrees, records-stay}
 use Rattle.calls.proofs.Refusing.{hold-seven}
 use Rattle.calls.proofs.Effected.{hold-records}
 use Rattle.calls.proofs.directories.hold.Goals as goal
@@ -28,8 +28,8 @@ returns-in_default c =
           let x = at-process st (records_in a.ps.now) same a.p pre.2.0 read.result read.ensures in
           let node = node-some _ (ap (λ (y : Process). is_node y.active) x ∙ active-node st (sound-open st sd).placed a.p (listed (pos-some a.p pre.2.0))) in
           let away = not_in st _ a.s node found.result (found.ensures.found st (rep, c.count_rows-n.ensures.counted st rep)) c.in_default.is in
-          refused-agrees st (Hold a.p a.s) rep same 7 (hold-seven st a.p a.s (in-active st a.p a.s _ (ap (λ (y : Process). y.active) x) _ away))
-          (λ z. absurd (omega arith)));
+          by-number c.into.ensures (refused-agrees st (Hold a.p a.s) rep same 7 (hold-seven st a.p a.s (in-active st a.p a.s _ (ap (λ (y : Process). y.active) x) _ away))
+          (λ z. absurd (omega arith))));
       long = pre.0;
     }
 
@@ -55,7 +55,7 @@ returns c =
           let (at, here) = found_in st _ a.s found.result c.in-Some.i (found.ensures.found st (rep, counted)) c.in-Some.is in
           let active = in-active st a.p a.s _ (ap (λ (y : Process). y.active) x) _ here in
           let word = ap (λ (y : Process). row_slot st.rows y.through) (sym x) ∙ sym (via.ensures.word st (rep, counted)) in
-          records-stay st (Hold a.p a.s) same (hold-records st a.p a.s) row.result
-          (row.ensures.answers st a.s sd (rep, counted) (at, active, word) (listed (pos-some a.p pre.2.0))));
+          rw (unwrapped row.result _ c.unwrap_or_else.ensures) (records-stay st (Hold a.p a.s) same (hold-records st a.p a.s) _
+          (row.ensures.answers st a.s sd (rep, counted) (at, active, word) (listed (pos-some a.p pre.2.0)))));
       long = row.ensures.long;
     }

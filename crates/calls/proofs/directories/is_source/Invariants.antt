@@ -1,5 +1,5 @@
 -- `directories::is_source`: `found` says whether one of the rows that the loop passed has the word.
-use Prim.Native.Nat.{◌≤◌, ◌-◌}
+use Prim.Native.Nat.{◌≤◌}
 use mathlib.Core.Path.{◌≡◌}
 use Rattle.calls.proofs.Used.{used_to}
 use Rattle.calls.proofs.directories.is_source.Given as goal

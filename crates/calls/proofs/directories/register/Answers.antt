@@ -9,7 +9,7 @@ use Rattle.calls.specs.declared.Call.TheVariants.{Register}
 use Rattle.calls.specs.Calls.{refusals}
 use Rattle.calls.proofs.LookedUp.{found_in}
 use Rattle.calls.proofs.Added.{at-process}
-use Rattle.calls.proofs.Judging.{not-in-clist, refused-agrees, records-stay}
+use Rattle.calls.proofs.Judging.{unwrapped, by-number, not-in-clist, refused-agrees, records-stay}
 use Rattle.calls.proofs.Refusing.{not-held, register-seven}
 use Rattle.calls.proofs.Effected.{register-records}
 use Rattle.calls.proofs.directories.register.Goals as goal
@@ -22,7 +22,7 @@ returns-in_default c =
     let a = c.args in record {
       performs = (λ st sd rep same listed.
           let away = not-in-clist st a.p a.e found.result (found.ensures.found st (rep, c.count_rows-n.ensures.counted st rep) pre.2.1) c.in_default.is in
-          refused-agrees st (Register a.p a.e) rep same 7 (register-seven st a.p a.e (not-held st a.p a.e away)) (λ z. absurd (omega arith)));
+          by-number c.into.ensures (refused-agrees st (Register a.p a.e) rep same 7 (register-seven st a.p a.e (not-held st a.p a.e away)) (λ z. absurd (omega arith))));
       long = pre.0;
     }
 
@@ -44,6 +44,6 @@ returns c =
           let counted = count.ensures.counted st rep in
           let (at, here) = found_in st (in_clist a.p) a.e found.result c.in-Some.i (found.ensures.found st (rep, counted) pre.2.1) c.in-Some.is in
           let node = ap (λ (x : Process). x.active) (sym (at-process st (records_in a.ps.now) same a.p pre.2.0 read.result read.ensures)) in
-          records-stay st (Register a.p a.e) same (register-records st a.p a.e) row.result (row.ensures.answers st a.p a.e sd (rep, counted) (at, here) node));
+          rw (unwrapped row.result _ c.unwrap_or_else.ensures) (records-stay st (Register a.p a.e) same (register-records st a.p a.e) _ (row.ensures.answers st a.p a.e sd (rep, counted) (at, here) node)));
       long = row.ensures.long;
     }

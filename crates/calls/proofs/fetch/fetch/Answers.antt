@@ -7,7 +7,7 @@ use Rattle.calls.proofs.Refusing.{not-held, seven}
 use Rattle.calls.specs.Rules.{not_held}
 use Rattle.calls.specs.declared.Call.TheVariants.{Fetch}
 use Rattle.calls.specs.Calls.{refusals, refusals_fetch}
-use Rattle.calls.proofs.Judging.{not-in-clist, refused-agrees, records-stay}
+use Rattle.calls.proofs.Judging.{unwrapped, by-number, not-in-clist, refused-agrees, records-stay}
 use Rattle.calls.proofs.Effected.{fetch-records}
 use Rattle.calls.proofs.fetch.fetch.Goals as goal
 
@@ -18,7 +18,7 @@ returns-in_default c =
     let a = c.args in record {
       performs = (λ ps st sd rep same listed.
           let away = not-in-clist st a.p a.e found.result (found.ensures.found st (rep, c.count_rows-n.ensures.counted st rep) c.requires.1.1) c.in_default.is in
-          refused-agrees st (Fetch a.p a.e) rep same 7 (seven (not_held st a.p a.e) _ (not-held st a.p a.e away)) (λ z. absurd (omega arith)));
+          by-number c.into.ensures (refused-agrees st (Fetch a.p a.e) rep same 7 (seven (not_held st a.p a.e) _ (not-held st a.p a.e away)) (λ z. absurd (omega arith))));
       long = c.requires.0;
     }
 
@@ -37,6 +37,6 @@ returns c =
       performs = (λ ps st sd rep same listed.
           let counted = count.ensures.counted st rep in
           let here = found_in st (in_clist a.p) a.e found.result c.in-Some.i (found.ensures.found st (rep, counted) c.requires.1.1) c.in-Some.is in
-          records-stay st (Fetch a.p a.e) same (fetch-records st a.p a.e) end.result (end.ensures.answers st a.e sd (rep, counted) here c.requires.1.1));
+          rw (unwrapped end.result _ c.unwrap_or_else.ensures) (records-stay st (Fetch a.p a.e) same (fetch-records st a.p a.e) _ (end.ensures.answers st a.e sd (rep, counted) here c.requires.1.1)));
       long = end.ensures.long;
     }

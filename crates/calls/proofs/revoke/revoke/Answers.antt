@@ -5,7 +5,7 @@ use Rattle.rows.specs.vocabulary.Slots.{request_slot}
 use Rattle.rows.proofs.Slots.{at-below, found_at, found_nothing, request-words}
 use Rattle.calls.specs.declared.Call.TheVariants.{Revoke}
 use Rattle.calls.specs.Calls.{refusals}
-use Rattle.calls.proofs.Judging.{refused-agrees, accepted-agrees}
+use Rattle.calls.proofs.Judging.{by-number, refused-agrees, accepted-agrees}
 use Rattle.calls.proofs.Refusing.{revoke-none, revoke-other, revoke-own, request-some}
 use Rattle.calls.proofs.Effected.{revoked}
 use Rattle.calls.proofs.revoke.revoke.Goals as goal
@@ -17,7 +17,7 @@ returns-in_default c =
     let a = c.args in record {
       performs = (λ st sd rep same listed.
           let none = found_nothing (request_slot st.requests a.q) (found.ensures.found st (rep, c.count_requests-m.ensures.counted st rep)) c.in_default.is in
-          refused-agrees st (Revoke a.p a.q) rep same 7 (revoke-none st a.p a.q none) (λ z. absurd (omega arith)));
+          by-number c.into.ensures (refused-agrees st (Revoke a.p a.q) rep same 7 (revoke-none st a.p a.q none) (λ z. absurd (omega arith))));
       long = (c.requires.0, c.requires.1);
     }
 
@@ -47,8 +47,8 @@ returns-then-t-j c =
     let a = c.args in record {
       performs = (λ st sd rep same listed.
           let at = found_at (request_slot st.requests a.q) c.in-Some.j (found.ensures.found st (rep, count.ensures.counted st rep)) c.in-Some.is in
-          refused-agrees st (Revoke a.p a.q) rep same 7
-          (revoke-other st a.p a.q (λ k. c.if-t-j.true ((request-words rep a.q c.in-Some.j at).asker ∙ k))) (λ z. absurd (omega arith)));
+          by-number c.into-then-t-j.ensures (refused-agrees st (Revoke a.p a.q) rep same 7
+          (revoke-other st a.p a.q (λ k. c.if-t-j.true ((request-words rep a.q c.in-Some.j at).asker ∙ k))) (λ z. absurd (omega arith))));
       long = (c.requires.0, c.requires.1);
     }
 
