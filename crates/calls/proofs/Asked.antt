@@ -24,8 +24,7 @@ use Rattle.calls.specs.declared.Item.{Item}
 use Rattle.calls.specs.declared.Items.{Items}
 use Rattle.calls.specs.declared.ItemRow.{ItemRow}
 use Rattle.calls.specs.declared.ItemRows.{ItemRows}
-use Rattle.calls.specs.declared.Looked.{Looked}
-use Rattle.calls.specs.declared.Looked.TheVariants.{Held, Missing}
+use Rattle.std.specs.Prelude.{Option, Some, None}
 use Rattle.calls.specs.Rules.{Test, ◌when◌, lowest, not_held, has_open, too_deep, rows_full, requests_full, numbers_spent}
 use Rattle.calls.specs.Loans.{items_of, item_row, moves, copies, copy_depth}
 use Rattle.calls.specs.Calls.{lacks_right, is_busy, refusals_ask}
@@ -35,46 +34,46 @@ use Rattle.calls.proofs.Joined.{any-filter, four-tests}
 
 -- ---- the look-up of an item
 module _ (st : State) (p : ℕ) (i : Item) where
-  pub looked-none : {t : List ℕ} → Represents t st → i.row ≡ 0 → Held (record { item = i; word = 0; copies = 0 }) ≡ looked_up st p i
+  pub looked-none : {t : List ℕ} → Represents t st → i.row ≡ 0 → Some (record { item = i; word = 0; copies = 0 }) ≡ looked_up st p i
   unfolding looked_up item_row_of
   looked-none rep z =
       let none : some i.row ≡ false = ap some z ∙ (unfold some in refl) in
       let word = sym (ap (row_slot st.rows) z ∙ zero_word rep) in
-      rw none (ap (λ (w : ℕ). Held (record { item = i; word = w; copies = 0 })) word)
+      rw none (ap (λ (w : ℕ). Some (record { item = i; word = w; copies = 0 })) word)
 
-  pub looked-missing : some i.row ≡ true → not_held st p i.row ≡ true → Missing ≡ looked_up st p i
+  pub looked-missing : some i.row ≡ true → not_held st p i.row ≡ true → ◌≡◌ {A = Option ItemRow} None (looked_up st p i)
   unfolding looked_up
   looked-missing s h = rw (s, h) refl
 
   pub looked-held : some i.row ≡ true → not_held st p i.row ≡ false → (j : ℕ) → row_slot st.rows i.row ≡ suc j → (k : ℕ) → k ≡ cond (not (moves st i)) 1 0
-      → Held (record { item = i; word = j + 1; copies = k }) ≡ looked_up st p i
+      → Some (record { item = i; word = j + 1; copies = k }) ≡ looked_up st p i
   unfolding looked_up item_row_of
   looked-held s h j at k same = rw (s, h, at, same, add-one j) refl
 
   -- what was found is held, and is the item's
-  pub looked-found : (r : Looked) (x : ItemRow) → r ≡ looked_up st p i → r ≡ Held x → (x.item ≡ i) × ItemHeld st p x
+  pub looked-found : (r : Option ItemRow) (x : ItemRow) → r ≡ looked_up st p i → r ≡ Some x → (x.item ≡ i) × ItemHeld st p x
   unfolding looked_up
   looked-found r x f a = pick (is_missing st p i) refl f
     where
-      pick : (b : Bool) → is_missing st p i ≡ b → r ≡ cond b Missing (Held (item_row_of st i)) → (x.item ≡ i) × ItemHeld st p x
+      pick : (b : Bool) → is_missing st p i ≡ b → r ≡ cond b None (Some (item_row_of st i)) → (x.item ≡ i) × ItemHeld st p x
       pick true q f = let z : ◌≡◌ {A = ℕ} 0 1 = cc in absurd (omega arith)
       pick false q f =
           let same : x ≡ item_row_of st i = cc in
           let item : x.item ≡ i = ap (λ (y : ItemRow). y.item) same ∙ (unfold item_row_of in refl) in
           (item, (same ∙ ap (item_row_of st) (sym item), ap (is_missing st p) item ∙ q))
 
-  pub looked-nothing : (r : Looked) → r ≡ looked_up st p i → r ≡ Missing → is_missing st p i ≡ true
+  pub looked-nothing : (r : Option ItemRow) → r ≡ looked_up st p i → r ≡ None → is_missing st p i ≡ true
   unfolding looked_up
   looked-nothing r f a = pick (is_missing st p i) f
     where
-      pick : (b : Bool) → r ≡ cond b Missing (Held (item_row_of st i)) → b ≡ true
+      pick : (b : Bool) → r ≡ cond b None (Some (item_row_of st i)) → b ≡ true
       pick true f = refl
       pick false f = let z : ◌≡◌ {A = ℕ} 0 1 = cc in absurd (omega arith)
 
-pub held_fits : (n : ℕ) (r : Looked) (x : ItemRow) → LookedFits n r → r ≡ Held x → ItemFits n x
+pub held_fits : (n : ℕ) (r : Option ItemRow) (x : ItemRow) → LookedFits n r → r ≡ Some x → ItemFits n x
 unfolding LookedFits
-held_fits n (Held y) x h e = let same : y ≡ x = cc in subst (ItemFits n) same h
-held_fits n Missing x h e = let z : ◌≡◌ {A = ℕ} 0 1 = cc in absurd (omega arith)
+held_fits n (Some y) x h e = let same : y ≡ x = cc in subst (ItemFits n) same h
+held_fits n None x h e = let z : ◌≡◌ {A = ℕ} 0 1 = cc in absurd (omega arith)
 
 -- ---- one item
 module _ (st : State) (p : ℕ) (x : ItemRow) (h : ItemHeld st p x) where

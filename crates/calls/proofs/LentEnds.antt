@@ -6,7 +6,7 @@ use mathlib.Core.Path.{◌≡◌, refl, ap, sym, ◌∙◌}
 use native.Mathlib.Omega.{arith}
 use native.Mathlib.Numerals.{add-one}
 use lib.Dec.{ltb, eqb}
-use lib.ListN.{length, get_or}
+use lib.ListN.{length}
 use Rattle.rows.specs.declared.Request.{Request}
 use Rattle.std.specs.Prelude.{Option}
 use Rattle.std.specs.Prelude.{Some, None}
@@ -19,14 +19,14 @@ use Rattle.rows.specs.vocabulary.Represents.{Represents}
 use Rattle.rows.specs.vocabulary.Slots.{found_slot, open_slot}
 use Rattle.rows.proofs.Bools.{and-rf, or-false, any-eq, not-zero, zero-none}
 use Rattle.rows.proofs.Lists.{filter-filter}
-use Rattle.rows.proofs.LayoutRequests.{four}
 use Rattle.rows.proofs.Slots.{found_at, found_nothing, row-absent, represented-requests, open-absent}
 use Rattle.questions.proofs.Listed.{requests-read}
 use Rattle.calls.specs.Rules.{lowest, not_held, has_open, asked_of}
 use Rattle.calls.specs.Calls.{lent_ends, is_away, refusals_answer}
 use Rattle.calls.specs.vocabulary.Answering.{end_slot, end_item, listed_newer}
 use Rattle.calls.proofs.Refusing.{row-some}
-use Rattle.calls.proofs.Joined.{any-filter, four-tests}
+use Rattle.std.specs.List.{list_any}
+use Rattle.calls.proofs.Joined.{any-filter, any-list, any-member}
 
 -- ---- one item
 module _ (st : State) (e : ℕ) where
@@ -93,28 +93,15 @@ any-ends : (f g : ℕ → Bool) (is : List ℕ) → any f (filter g (nonzero is)
 unfolding nonzero
 any-ends f g is = ap (any f) (filter-filter g some (λ e. some e && g e) (λ e. refl) is) ∙ any-filter f (λ e. some e && g e) is
 
--- the tests of the four items, joined
-pub any-of-four : (st : State) (v : Request) → length v.items ≡ 4 → (f : ℕ → Bool) {a b c d : Bool}
-    → a ≡ end_item st (get_or v.items 0 0) && f (get_or v.items 0 0) → b ≡ end_item st (get_or v.items 1 0) && f (get_or v.items 1 0)
-    → c ≡ end_item st (get_or v.items 2 0) && f (get_or v.items 2 0) → d ≡ end_item st (get_or v.items 3 0) && f (get_or v.items 3 0)
-    → a || b || c || d ≡ any f (lent_ends st v)
-unfolding lent_ends any
-any-of-four st v l f {a} {b} {c} {d} p q r s =
-    four-tests a b c d ∙ rw (p, q, r, s) refl
-    ∙ ap (any (λ e. (some e && is_end (row_of st.rows e).kind) && f e)) (four v.items l)
-    ∙ sym (any-ends f (λ e. is_end (row_of st.rows e).kind) v.items)
+-- the tests of the items, joined
+pub any-lent : (st : State) (v : Request) (f : ℕ → Bool) → list_any (λ e. end_item st e && f e) v.items ≡ any f (lent_ends st v)
+unfolding lent_ends
+any-lent st v f = any-list (λ e. end_item st e && f e) v.items ∙ sym (any-ends f (λ e. is_end (row_of st.rows e).kind) v.items)
 
 -- ---- requests that are newer and list an item
-pub newer-read : (t : List ℕ) (k q e : ℕ) (w : Request) → w ≡ request_at t k
-    → ltb q w.number && (eqb e (get_or w.items 0 0) || eqb e (get_or w.items 1 0) || eqb e (get_or w.items 2 0) || eqb e (get_or w.items 3 0))
-    ≡ ltb q (request_at t k).number && member e (request_at t k).items
-unfolding request_at member
-newer-read t k q e w h =
-    ap (λ (w : Request). ltb q w.number && (eqb e (get_or w.items 0 0) || eqb e (get_or w.items 1 0) || eqb e (get_or w.items 2 0) || eqb e (get_or w.items 3 0))) h
-    ∙ ap (λ (b : Bool). ltb q (request_at t k).number && b) (four-tests (is 0) (is 1) (is 2) (is 3))
-  where
-    is : ℕ → Bool
-    is i = eqb e (get_or (request_at t k).items i 0)
+pub newer-read : (t : List ℕ) (k q e : ℕ) (w : Request) → w ≡ request_at t k → (b : Bool) → b ≡ list_any (λ i. eqb i e) w.items
+    → ltb q w.number && b ≡ ltb q (request_at t k).number && member e (request_at t k).items
+newer-read t k q e w h b r = rw (r, h, any-list (λ i. eqb i e) (request_at t k).items, any-member e (request_at t k).items) refl
 
 module _ (t : List ℕ) (q e : ℕ) where
   abbrev newer : Request → Bool

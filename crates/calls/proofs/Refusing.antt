@@ -1,8 +1,9 @@
 -- The tests of go, hold, register and port once the look-up has found the row; and room for new rows.
-use Prim.Native.Nat.{ℕ, suc, ◌+◌, ◌<◌, ◌≤◌}
+use Rattle.std.specs.Prelude.{Option, is_some}
+use Prim.Native.Nat.{ℕ, zero, suc, ◌+◌, ◌<◌, ◌≤◌}
 use mathlib.Core.Bool.{Bool, true, false, cond, not, ◌&&◌, ◌||◌}
 use mathlib.Core.List.{List, [], ◌∷◌}
-use mathlib.Core.Path.{◌≡◌, refl, ap}
+use mathlib.Core.Path.{◌≡◌, refl, ap, sym, ◌∙◌}
 use native.Mathlib.Omega.{arith}
 use borrow.Author.Tests.{eq-eqb, ne_eqb, lt-ltb, le-ltb}
 use lib.Dec.{eqb}
@@ -15,11 +16,11 @@ use Rattle.rows.specs.Tables.{State, no_row, no_request, row_of, request_of, ope
 use Rattle.rows.specs.Sound.{is_fetched}
 use Rattle.rows.specs.Layout.{row_slot}
 use Rattle.rows.specs.vocabulary.Represents.{Represents}
-use Rattle.rows.specs.vocabulary.Slots.{request_slot, open_slot}
-use Rattle.rows.proofs.Bools.{pos-some}
+use Rattle.rows.specs.vocabulary.Slots.{found_slot, request_slot, open_slot}
+use Rattle.rows.proofs.Bools.{pos-some, zero-none, not-zero}
 use Rattle.rows.proofs.Keyed.{rises-range}
 use Rattle.rows.proofs.Slots.{represented-well, row-found, row-absent, request-found, request-absent, open-absent}
-use Rattle.calls.specs.Rules.{Test, ◌when◌, lowest, not_held, asked_of, too_deep, rows_full, numbers_spent}
+use Rattle.calls.specs.Rules.{Test, ◌when◌, lowest, not_held, has_open, asked_of, too_deep, rows_full, numbers_spent}
 use Rattle.calls.specs.Calls.{refusals_go, refusals_hold, held_depth, refusals_register, registered_depth, refusals_port, port_depth, in_use, refusals_drop, refusals_close, refusals_fetch, refusals_revoke, refusals_comes, refusals_chain}
 use Rattle.calls.proofs.Handed.{open-number}
 
@@ -148,6 +149,15 @@ module _ (st : State) (c : ℕ) where
       let there = (request-found st.requests v.number j (open-number st.requests up c j h)).0 in
       let (lo, hi) = rises-range (λ v. v.number) st.requests up v.number there in
       ne_eqb v.number 0 (λ z. omega arith)
+
+  -- what the look-up tells
+  pub open-told : {t : List ℕ} → Represents t st → (r : Option ℕ) → r ≡ found_slot (open_slot st.requests c) → is_some r ≡ has_open st c
+  unfolding found_slot has_open
+  open-told rep r found = ap is_some found ∙ pick (open_slot st.requests c) refl
+    where
+      pick : (j : ℕ) → open_slot st.requests c ≡ j → is_some (found_slot j) ≡ some (open_on st.requests c).number
+      pick zero h = sym (zero-none (open_on st.requests c).number (open_none h))
+      pick (suc j) h = sym (not-zero (open_on st.requests c).number (open-some rep j h))
 
 -- ---- the request at a server end
 module _ (st : State) (e : ℕ) where

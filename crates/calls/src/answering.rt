@@ -38,10 +38,7 @@ fn end_busy(t: &[u32], n: usize, m: usize, e: u32) -> bool
     let Some(i) = end_at(t, n, e) else {
         return false;
     };
-    let Some(_) = lookups::asked_at(t, m, i) else {
-        return false;
-    };
-    true
+    lookups::asked_at(t, m, i).is_some()
 }
 
 // One of the ends that v lists has a busy port.
@@ -49,12 +46,7 @@ fn any_busy(t: &[u32], n: usize, m: usize, v: Request) -> bool
     requires { IsTables t.now × (n ≤ ROWS) × (m ≤ REQUESTS) }
     ensures { AnyBusy t.now n m v result }
 {
-    let items = v.items;
-    let first = end_busy(t, n, m, items[0]);
-    let second = end_busy(t, n, m, items[1]);
-    let third = end_busy(t, n, m, items[2]);
-    let fourth = end_busy(t, n, m, items[3]);
-    first | second | third | fourth
+    v.items.iter().any(|&e| end_busy(t, n, m, e))
 }
 
 // Whether the request in slot k is newer than q and lists e.
@@ -63,9 +55,7 @@ fn newer_lists(t: &[u32], k: usize, q: u32, e: u32) -> bool
     ensures { result ≡ newer_listing q e (request_at t.now k) }
 {
     let w = read::request_at(t, k);
-    let items = w.items;
-    let listed = (e == items[0]) | (e == items[1]) | (e == items[2]) | (e == items[3]);
-    (q < w.number) & listed
+    (q < w.number) & w.items.contains(&e)
 }
 
 // Whether a request newer than q lists e.
@@ -99,12 +89,8 @@ fn any_away(t: &[u32], n: usize, m: usize, v: Request, p: u32) -> bool
     requires { IsTables t.now × (n ≤ ROWS) × (m ≤ REQUESTS) }
     ensures { AnyAway t.now n m v p result }
 {
-    let items = v.items;
-    let first = end_away(t, n, m, v.number, p, items[0]);
-    let second = end_away(t, n, m, v.number, p, items[1]);
-    let third = end_away(t, n, m, v.number, p, items[2]);
-    let fourth = end_away(t, n, m, v.number, p, items[3]);
-    first | second | third | fourth
+    let q = v.number;
+    v.items.iter().any(|&e| end_away(t, n, m, q, p, e))
 }
 
 // What refuses the answer of p to the request in slot j, where it was served: 10, 11, 14.

@@ -9,36 +9,36 @@ ghost use Rattle.calls.specs.vocabulary.Asks.{ItemBusy, AnyItemBusy, CopyDeep, A
 ghost use Rattle.calls.specs.vocabulary.Asks.{SpaceUnless, copies_in, AsksHeld, AsksItems};
 
 use crate::lend::add_request;
-use crate::{Answer, Item, ItemRow, ItemRows, Items, Looked, NewRequest, Refusal, lookups, tests};
+use crate::{Answer, Item, ItemRow, ItemRows, Items, NewRequest, Refusal, lookups, tests};
 use rows::codes::{A_CLIENT_END, GREATEST_DEPTH, is_end};
 use rows::layout::{KIND, OBJECT, RIGHTS};
 use rows::{Rights, find, read};
 
 // The item with its row, where p holds it; no item has no row.
-fn item_row(t: &[u32], n: usize, p: u32, item: Item) -> Looked
+fn item_row(t: &[u32], n: usize, p: u32, item: Item) -> Option<ItemRow>
     requires { IsTables t.now × (n ≤ ROWS) }
     ensures fits { LookedFits n result }
     ensures found { LooksUp t.now n p item result }
 {
     if item.row == 0 {
-        return Looked::Held(ItemRow {
+        return Some(ItemRow {
             item: item,
             word: 0,
             copies: 0,
         });
     }
     let Some(i) = lookups::held_by(t, n, p, item.row) else {
-        return Looked::Missing;
+        return None;
     };
     let word = (i + 1) as u32;
     if is_end(t[KIND + i]) {
-        return Looked::Held(ItemRow {
+        return Some(ItemRow {
             item: item,
             word: word,
             copies: 0,
         });
     }
-    Looked::Held(ItemRow {
+    Some(ItemRow {
         item: item,
         word: word,
         copies: 1,
@@ -164,16 +164,16 @@ fn ask_items(t: &mut [u32], n: usize, w: NewRequest, items: Items) -> Result<Ans
     ensures answers { AsksItems t.old n w items t.new (answer_in result) }
     ensures long { IsTables t.new }
 {
-    let Looked::Held(first) = item_row(t, n, w.asker, items.first) else {
+    let Some(first) = item_row(t, n, w.asker, items.first) else {
         return Err(Refusal::NotHeld);
     };
-    let Looked::Held(second) = item_row(t, n, w.asker, items.second) else {
+    let Some(second) = item_row(t, n, w.asker, items.second) else {
         return Err(Refusal::NotHeld);
     };
-    let Looked::Held(third) = item_row(t, n, w.asker, items.third) else {
+    let Some(third) = item_row(t, n, w.asker, items.third) else {
         return Err(Refusal::NotHeld);
     };
-    let Looked::Held(fourth) = item_row(t, n, w.asker, items.fourth) else {
+    let Some(fourth) = item_row(t, n, w.asker, items.fourth) else {
         return Err(Refusal::NotHeld);
     };
     let rows = ItemRows {

@@ -35,7 +35,7 @@ fn tell(t: &[u32], n: usize, m: usize, marks: &PairMarks, k: usize, e: u32, q: u
         return NOT_TOLD;
     };
     let comes = pairs::is_marked(marks, i, k);
-    NO + comes as u32
+    NO + u32::from(comes)
 }
 
 // What is told of each pair, in order, by the marks of the rows.

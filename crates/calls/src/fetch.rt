@@ -33,12 +33,8 @@ fn place_items(t: &mut [u32], n: usize, v: Request, place: u32)
     ensures placed { ItemsPlaced t.old n v.items place t.new }
     ensures long { IsTables t.new }
 {
-    let items = v.items;
-    let mut k = ITEMS;
-    while 0 < k {
-        k -= 1;
-        let e = items[k];
-        place_item(t, n, e, place);
+    for k in (0..ITEMS).rev() {
+        place_item(t, n, v.items[k], place);
     }
 }
 

@@ -142,13 +142,6 @@ pub struct ItemRows {
     pub fourth: ItemRow,
 }
 
-// What the look-up of an item answers: its row, where the caller holds it; no item is held.
-#[derive(Clone, Copy)]
-pub enum Looked {
-    Held(ItemRow),
-    Missing,
-}
-
 // A new request: its number, its port's client end and the slot of that row, the process that asks.
 #[derive(Clone, Copy)]
 pub struct NewRequest {

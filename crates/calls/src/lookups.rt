@@ -112,13 +112,6 @@ pub fn depth_over(t: &[u32], s: u32, v: u32) -> u32
     requires { IsTables t.now × (s ≤ ROWS) × (v ≤ ROWS) }
     ensures { IsDepthOver t.now s v result }
 {
-    let first = depth_at(t, s);
-    let second = depth_at(t, v);
-    if (GREATEST_DEPTH <= first) | (GREATEST_DEPTH <= second) {
-        return GREATEST_DEPTH + 1;
-    }
-    if first < second {
-        return second + 1;
-    }
-    first + 1
+    let deeper = depth_at(t, s).max(depth_at(t, v));
+    deeper.min(GREATEST_DEPTH) + 1
 }

@@ -53,10 +53,7 @@ pub fn has_open(t: &[u32], m: usize, c: u32) -> bool
     requires { IsTables t.now × (m ≤ REQUESTS) }
     ensures { TellsOpen t.now m c result }
 {
-    let Some(_) = lookups::open_among(t, m, c) else {
-        return false;
-    };
-    true
+    lookups::open_among(t, m, c).is_some()
 }
 
 // Whether the row at a source word is lent; 0 is none.

@@ -1,5 +1,5 @@
 -- What the functions of ask answer: the items with their rows looked up, the tests of each item, the items lent one after the other.
-use Rattle.std.specs.Prelude.{ℕ, suc, ◌+◌, ◌<◌, ◌≤◌, Bool, true, false, not, ◌&&◌, List, [], ◌∷◌, ◌≡◌, length, if◌then◌else◌}
+use Rattle.std.specs.Prelude.{Option, Some, None, ℕ, suc, ◌+◌, ◌<◌, ◌≤◌, Bool, true, false, not, ◌&&◌, List, [], ◌∷◌, ◌≡◌, length, if◌then◌else◌}
 use Rattle.rows.specs.Lists.{any, some, pad, top_of}
 use Rattle.rows.specs.Tables.{State, row_of}
 use Rattle.rows.specs.Setters.{with_rows, with_place}
@@ -11,8 +11,6 @@ use Rattle.calls.specs.declared.Item.{Item}
 use Rattle.calls.specs.declared.Items.{Items}
 use Rattle.calls.specs.declared.ItemRow.{ItemRow}
 use Rattle.calls.specs.declared.ItemRows.{ItemRows}
-use Rattle.calls.specs.declared.Looked.{Looked}
-use Rattle.calls.specs.declared.Looked.TheVariants.{Held, Missing}
 use Rattle.calls.specs.declared.NewRequest.{NewRequest}
 use Rattle.calls.specs.declared.Loan.{Loan}
 use Rattle.calls.specs.declared.Answer.{Answer}
@@ -36,19 +34,19 @@ item_row_of st i = record { item = i; word = row_slot st.rows i.row; copies = if
 abbrev pub is_missing : State → ℕ → Item → Bool
 is_missing st p i = some i.row && not_held st p i.row
 
-unfoldable pub looked_up : State → ℕ → Item → Looked
-looked_up st p i = if is_missing st p i then Missing else Held (item_row_of st i)
+unfoldable pub looked_up : State → ℕ → Item → Option ItemRow
+looked_up st p i = if is_missing st p i then None else Some (item_row_of st i)
 
-abbrev pub LooksUp : List ℕ → ℕ → ℕ → Item → Looked → Type 0
+abbrev pub LooksUp : List ℕ → ℕ → ℕ → Item → Option ItemRow → Type 0
 LooksUp t n p i r = (st : State) → HasRows t n st → p ≤ PROCESSES → r ≡ looked_up st p i
 
 -- of n rows: the word is that of a slot, and the item takes one row at most
 abbrev pub ItemFits : ℕ → ItemRow → Type 0
 ItemFits n x = (x.word ≤ n) × (x.copies ≤ 1)
 
-unfoldable pub LookedFits : ℕ → Looked → Type 0
-LookedFits n (Held x) = ItemFits n x
-LookedFits n Missing = Unit {0}
+unfoldable pub LookedFits : ℕ → Option ItemRow → Type 0
+LookedFits n (Some x) = ItemFits n x
+LookedFits n None = Unit {0}
 
 abbrev pub ItemsFit : ℕ → ItemRows → Type 0
 ItemsFit n xs = ItemFits n xs.first × ItemFits n xs.second × ItemFits n xs.third × ItemFits n xs.fourth

@@ -71,10 +71,10 @@ ask_held-requires c =
       c.requires.1,
       c.requires.2,
       (
-        held_fits n r1.result c.in-Held.first r1.ensures.fits c.in-Held.is,
-        held_fits n r2.result c.in-Held-item_row.second r2.ensures.fits c.in-Held-item_row.is,
-        held_fits n r3.result c.in-Held-item_row-2.third r3.ensures.fits c.in-Held-item_row-2.is,
-        held_fits n r4.result c.in-Held-item_row-3.fourth r4.ensures.fits c.in-Held-item_row-3.is,
+        held_fits n r1.result c.in-Some.first r1.ensures.fits c.in-Some.is,
+        held_fits n r2.result c.in-Some-item_row.second r2.ensures.fits c.in-Some-item_row.is,
+        held_fits n r3.result c.in-Some-item_row-2.third r3.ensures.fits c.in-Some-item_row-2.is,
+        held_fits n r4.result c.in-Some-item_row-3.fourth r4.ensures.fits c.in-Some-item_row-3.is,
       ),
     )
 
@@ -89,10 +89,10 @@ returns c =
     let r4 = c.item_row-4 in
     record {
       answers = (λ st sd h over few.
-          let (q1, h1) = looked-found st w.asker is.first r1.result c.in-Held.first (r1.ensures.found st h few) c.in-Held.is in
-          let (q2, h2) = looked-found st w.asker is.second r2.result c.in-Held-item_row.second (r2.ensures.found st h few) c.in-Held-item_row.is in
-          let (q3, h3) = looked-found st w.asker is.third r3.result c.in-Held-item_row-2.third (r3.ensures.found st h few) c.in-Held-item_row-2.is in
-          let (q4, h4) = looked-found st w.asker is.fourth r4.result c.in-Held-item_row-3.fourth (r4.ensures.found st h few) c.in-Held-item_row-3.is in
+          let (q1, h1) = looked-found st w.asker is.first r1.result c.in-Some.first (r1.ensures.found st h few) c.in-Some.is in
+          let (q2, h2) = looked-found st w.asker is.second r2.result c.in-Some-item_row.second (r2.ensures.found st h few) c.in-Some-item_row.is in
+          let (q3, h3) = looked-found st w.asker is.third r3.result c.in-Some-item_row-2.third (r3.ensures.found st h few) c.in-Some-item_row-2.is in
+          let (q4, h4) = looked-found st w.asker is.fourth r4.result c.in-Some-item_row-3.fourth (r4.ensures.found st h few) c.in-Some-item_row-3.is in
           subst (λ (js : Items). Answers done.new.t (answer_in done.result) (perform st (Ask w.asker w.port js)))
           (λ j. record { first = q1 j; second = q2 j; third = q3 j; fourth = q4 j })
           (done.ensures.answers st sd h over (h1, h2, h3, h4)));

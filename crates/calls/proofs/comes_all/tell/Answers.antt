@@ -1,5 +1,6 @@
 -- No pair; no such row, no such request; or the mark of the pair.
-use mathlib.Core.Path.{◌∙◌}
+use Prim.Native.Nat.{ℕ, ◌+◌}
+use mathlib.Core.Path.{ap, ◌∙◌}
 use native.Mathlib.Omega.{arith}
 use Rattle.rows.specs.Layout.{row_slot}
 use Rattle.rows.specs.vocabulary.Slots.{request_slot}
@@ -33,7 +34,7 @@ is_marked-comes-requires c =
     (omega (arith, at-below c.args.n found.result c.in-Some.i found.ensures.within c.in-Some.is, c.requires.1), c.requires.3)
 
 pub overflow_add-result : goal.overflow_add-result
-overflow_add-result c = record { fits = omega (arith, byte-few c.is_marked-comes.result) }
+overflow_add-result c = record { fits = omega (arith, c.from.ensures, byte-few c.is_marked-comes.result) }
 
 pub returns : goal.returns
 returns c =
@@ -44,5 +45,5 @@ returns c =
     let at = found_at (row_slot st.rows a.e) c.in-Some.i (row.ensures.found st rows.0 rows.1) c.in-Some.is in
     let there = found_at (request_slot st.requests a.q) c.in-Some-request_among.field-0 (request.ensures.found st requests) c.in-Some-request_among.is in
     let (number, known) = request-some rows.0 a.q c.in-Some-request_among.field-0 there in
-    told-by st a.e a.q c.if-e-eq0.false (comes-both st a.e a.q (row-some rows.0 a.e c.in-Some.i at).0 number) c.is_marked-comes.result
+    ap (λ (k : ℕ). 1 + k) c.from.ensures ∙ told-by st a.e a.q c.if-e-eq0.false (comes-both st a.e a.q (row-some rows.0 a.e c.in-Some.i at).0 number) c.is_marked-comes.result
     (c.is_marked-comes.ensures ∙ mark-told st qs a.marks.now a.e c.in-Some.i a.k a.q so rows right at c.requires.3 is known)

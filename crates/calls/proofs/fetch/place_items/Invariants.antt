@@ -9,7 +9,4 @@ use Rattle.calls.specs.vocabulary.Loans.{items_placed}
 use Rattle.calls.proofs.fetch.place_items.Given as goal
 
 abbrev pub invariant-loop-k : goal.invariant-loop-k
-invariant-loop-k l = (l.k ≤ 4) × (length l.t ≡ 11265) × ((st : State) → HasRows l.initial.t l.n st → Represents l.t (items_placed (drop l.k l.items) l.place st))
-
-abbrev pub decreases-loop-k : goal.decreases-loop-k
-decreases-loop-k l = l.k
+invariant-loop-k l = (l.k ≤ 4) × (length l.t ≡ 11265) × ((st : State) → HasRows l.initial.t l.n st → Represents l.t (items_placed (drop l.k l.v.items) l.place st))
