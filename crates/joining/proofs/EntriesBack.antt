@@ -13,7 +13,7 @@ use Rattle.rows.specs.Codes.{operation, subdirectory, is_operation, is_subdirect
 use Rattle.rows.proofs.Bools.{and_l, and_r}
 use Rattle.calls.specs.Answers.{num}
 use Rattle.text.specs.declared.Entry.{Entry}
-use Rattle.text.specs.declared.EntryRead.{EntryRead}
+use Rattle.std.specs.Prelude.{Option, Some, None}
 use Rattle.text.specs.Patterns.{is_digit, bad, began, form}
 use Rattle.text.specs.Opening.{Entries, operation_entry, subdirectory_entry, add_entry, entries_from, entry_ranged}
 use Rattle.text.specs.Answers.{digits_of, value_text, spaced}
@@ -61,10 +61,12 @@ subdirectory-then e u =
 
 -- ---- one entry
 -- it is read where its text stands, and the reader stands after it
-record Reads (s : List ℕ) (e : Entry) (u : List ℕ) (x : EntryRead) : Type 0 where
-  good : x.good ≡ true
-  entry : x.entry ≡ e
-  there : At s x.next u
+record Reads (s : List ℕ) (e : Entry) (u : List ℕ) (x : Option (Entry × ℕ)) : Type 0 where
+  read : Entry
+  next : ℕ
+  is : x ≡ Some (read, next)
+  entry : read ≡ e
+  there : At s next u
 
 pub small : (n : ℕ) → n < 1000 → n ≤ greatest_number
 unfolding greatest_number
@@ -101,7 +103,7 @@ module _ (s : List ℕ) (j : ℕ) (e : Entry) (u : List ℕ) (fits : EntryFits e
       (then-reads s _ _ _ 32 _ (takes-byte s _ 0 0 o p 32 _ a8 refl refl)
       (then-reads s _ _ _ 35 _ (takes-number s _ 0 0 o p r _ a9 (small r (omega arith)) refl)
       (then-reads s _ _ _ 41 _ (takes-byte s _ 0 o p r 41 _ b1 refl refl) (reads_all s _))))))))))))
-      (record { good = refl; entry = λ i. record { kind = sym k i; object = o; operation = p; rights = r }; there = at_next s _ 41 _ b1 })
+      (record { read = _; next = _; is = refl; entry = λ i. record { kind = sym k i; object = o; operation = p; rights = r }; there = at_next s _ 41 _ b1 })
 
   no-operation : (v : List ℕ) → At s j (32 ∷ 40 ∷ 100 ∷ v) → form s j " (op # # #)" ≡ bad
   unfolding form began bytes
@@ -141,7 +143,7 @@ module _ (s : List ℕ) (j : ℕ) (e : Entry) (u : List ℕ) (fits : EntryFits e
             (then-reads s _ _ _ 35 _ (takes-number s _ 0 0 0 o r _ a8 (small r (omega arith)) refl)
             (then-reads s _ _ _ 41 _ (takes-byte s _ 0 0 o r 41 _ a9 refl refl) (reads_all s _)))))))))),
       )
-      (record { good = refl; entry = λ i. record { kind = sym k i; object = o; operation = sym z i; rights = r }; there = at_next s _ 41 _ a9 })
+      (record { read = _; next = _; is = refl; entry = λ i. record { kind = sym k i; object = o; operation = sym z i; rights = r }; there = at_next s _ 41 _ a9 })
 
 -- ---- one entry of either kind
 entry-read : (s : List ℕ) (j : ℕ) (e : Entry) (u : List ℕ) → entry_good e ≡ true → At s j (entry_text e ++ u) → Reads s e u (entry_read s j)
@@ -156,7 +158,7 @@ entry-read s j e u good a = pick (eqb e.kind operation) refl (and_r (entry_range
         (eqb-true e.operation 0 (and_r (eqb e.kind subdirectory) (eqb e.operation 0) shaped)) (subst (At s j) (subdirectory-then e u) a)
 
 -- ---- all entries, and the bracket after them
-no-entry : (s : List ℕ) (j : ℕ) (u : List ℕ) → At s j (41 ∷ u) → (entry_read s j).good ≡ false
+no-entry : (s : List ℕ) (j : ℕ) (u : List ℕ) → At s j (41 ∷ u) → entry_read s j ≡ None
 unfolding entry_read form began bytes bad
 no-entry s j u a =
     rw (
@@ -170,13 +172,13 @@ pub record ReadsAll (s : List ℕ) (es : List Entry) (u : List ℕ) (g : Entries
 
 pub entries-read : (s : List ℕ) (u : List ℕ) (es : List Entry) (n j : ℕ) → length es ≤ n → all entry_good es ≡ true → At s j (entries_text es ++ (41 ∷ u)) → ReadsAll s es u (entries_from n s j)
 unfolding entries_text all add_entry
-entries-read s u [] n j few good a = rw (from-none n s j (entry_read s j) refl (no-entry s j u a)) (record { entries = refl; there = a })
+entries-read s u [] n j few good a = rw (from-none n s j (no-entry s j u a)) (record { entries = refl; there = a })
 entries-read s u (e ∷ es) zero j few good a = absurd (omega arith)
 entries-read s u (e ∷ es) (suc n) j few good a =
     let at : At s j (entry_text e ++ (entries_text es ++ (41 ∷ u))) = subst (At s j) (append_assoc (entry_text e) (entries_text es) (41 ∷ u)) a in
     let x = entry-read s j e (entries_text es ++ (41 ∷ u)) (and_l (entry_good e) (all entry_good es) good) at in
-    let later = entries-read s u es n (entry_read s j).next (omega arith) (and_r (entry_good e) (all entry_good es) good) x.there in
-    rw (from_more n s j (entry_read s j) refl x.good) (record { entries = λ i. x.entry i ∷ later.entries i; there = later.there })
+    let later = entries-read s u es n x.next (omega arith) (and_r (entry_good e) (all entry_good es) good) x.there in
+    rw (from_more n s j x.read x.next x.is) (record { entries = λ i. x.entry i ∷ later.entries i; there = later.there })
 
 -- ---- how long they are
 entry-short : (e : Entry) → EntryFits e → length (entry_text e) ≤ ENTRY

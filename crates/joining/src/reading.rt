@@ -19,17 +19,14 @@ fn store_entries(words: &mut [u32], at: usize, line: &[u8], from: usize) -> usiz
     ensures { StoresCodes words.old at line.now from words.new result }
 {
     let mut i = from;
-    let mut n = 0;
-    while n < MOST_ENTRIES {
-        let e = entry_at(line, i);
-        if !e.good {
+    for n in 0..MOST_ENTRIES {
+        let Some((entry, next)) = entry_at(line, i) else {
             return n;
-        }
-        words[at + n] = entry_code(e.entry);
-        i = e.next;
-        n += 1;
+        };
+        words[at + n] = entry_code(entry);
+        i = next;
     }
-    n
+    MOST_ENTRIES
 }
 
 // Stores a node: it is given, and has the entries from a position of a line on.

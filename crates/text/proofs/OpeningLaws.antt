@@ -12,14 +12,16 @@ use borrow.Author.Tests.{eq-eqb, ne_eqb, eqb-true}
 use Rattle.rows.proofs.Bools.{clash}
 use Rattle.rows.specs.Lists.{all, any}
 use Rattle.rows.proofs.Lists.{same-everywhere}
-use Rattle.text.specs.Opening.{lines_of, with_byte, Entries, entries_from, add_entry, entry_ranged, Form, node_form, gives_node, gives_process, process_form}
+use Rattle.text.specs.Opening.{lines_of, with_byte, Entries, entries_from, add_entry, operation_entry, subdirectory_entry, entry_ranged, Form, node_form, gives_node, gives_process, process_form}
 use Rattle.text.specs.vocabulary.Openings.{first_line, entries_read, entry_read, Gives}
 use Rattle.text.specs.vocabulary.Sizes.{NODES}
 use Rattle.rows.specs.vocabulary.Sizes.{PROCESSES}
 use Rattle.text.specs.declared.EntriesRead.{EntriesRead}
 use Rattle.text.specs.declared.Entry.{Entry}
-use Rattle.text.specs.declared.EntryRead.{EntryRead}
+use Rattle.std.specs.Prelude.{Option, Some, None}
 use Rattle.text.specs.declared.Given.{Given}
+use Rattle.text.specs.declared.Read.{Read}
+use Rattle.text.specs.Patterns.{form}
 use Rattle.text.proofs.GroupLaws.{all_snoc}
 
 -- ---- lines
@@ -87,17 +89,35 @@ pub record Entering (n : ℕ) (s : List ℕ) (at : ℕ) (r : EntriesRead) : Type
   pub told : r ≡ entries_read read
   pub whole : entries_from n s at ≡ entries_joined read (entries_from (n - length read.entries) s read.next)
 
--- the entries from a position on, by the entry at it
-pub from_more : (n : ℕ) (s : List ℕ) (i : ℕ) (e : EntryRead) → entry_read s i ≡ e → e.good ≡ true → entries_from (suc n) s i ≡ add_entry e.entry (entries_from n s e.next)
-unfolding entries_from entry_read
-from_more n s i e is good =
-    let sure : (entry_read s i).good ≡ true = ap (λ (x : EntryRead). x.good) is ∙ good in
-    (rw sure) ∙ ap (λ (x : EntryRead). add_entry x.entry (entries_from n s x.next)) is
+-- the entries from a position on, by what is read at it
+by_read : ℕ → List ℕ → ℕ → Option (Entry × ℕ) → Entries
+by_read n s i None = record { entries = []; next = i }
+by_read n s i (Some x) = add_entry x.0 (entries_from n s x.1)
 
-pub from-none : (n : ℕ) (s : List ℕ) (i : ℕ) (e : EntryRead) → entry_read s i ≡ e → e.good ≡ false → entries_from n s i ≡ record { entries = []; next = i }
-unfolding entries_from entry_read
-from-none zero s i e is none = refl
-from-none (suc n) s i e is none = let sure : (entry_read s i).good ≡ false = ap (λ (x : EntryRead). x.good) is ∙ none in rw sure
+from_read : (n : ℕ) (s : List ℕ) (i : ℕ) → entries_from (suc n) s i ≡ by_read n s i (entry_read s i)
+unfolding entries_from entry_read by_read
+from_read n s i = pick o.good d.good
+  where
+    o : Read
+    o = form s i " (op # # #)"
+
+    d : Read
+    d = form s i " (dir # #)"
+
+    pick : (a b : Bool) → cond (a || b) (add_entry (cond a (operation_entry o) (subdirectory_entry d)) (entries_from n s (cond a o.next d.next))) (record { entries = []; next = i })
+        ≡ by_read n s i (cond a (Some (operation_entry o, o.next)) (cond b (Some (subdirectory_entry d, d.next)) None))
+    pick true b = refl
+    pick false true = refl
+    pick false false = refl
+
+pub from_more : (n : ℕ) (s : List ℕ) (i : ℕ) (e : Entry) (next : ℕ) → entry_read s i ≡ Some (e, next) → entries_from (suc n) s i ≡ add_entry e (entries_from n s next)
+unfolding by_read
+from_more n s i e next is = from_read n s i ∙ ap (by_read n s i) is
+
+pub from-none : (n : ℕ) (s : List ℕ) (i : ℕ) → entry_read s i ≡ None → entries_from n s i ≡ record { entries = []; next = i }
+unfolding entries_from by_read
+from-none zero s i none = refl
+from-none (suc n) s i none = from_read n s i ∙ ap (by_read n s i) none
 
 module _ (n : ℕ) (s : List ℕ) (at : ℕ) where
   pub entering-starts : (r : EntriesRead) → r ≡ entries_read (record { entries = []; next = at }) → Entering n s at r
@@ -113,30 +133,29 @@ module _ (n : ℕ) (s : List ℕ) (at : ℕ) where
     count_same = ap (λ (x : EntriesRead). x.count) k.told
 
     -- one more entry was read
-    pub entering-goes-on : (e : EntryRead) → e ≡ entry_read s r.next → e.good ≡ true → r.count < n
-        → Entering n s at (record { next = e.next; count = r.count + 1; ranged = r.ranged && entry_ranged e.entry })
+    pub entering-goes-on : (x : Entry) (next : ℕ) → entry_read s r.next ≡ Some (x, next) → r.count < n
+        → Entering n s at (record { next = next; count = r.count + 1; ranged = r.ranged && entry_ranged x })
     unfolding add_entry entries_read
-    entering-goes-on e is good h =
+    entering-goes-on x next is h =
         let es = k.read.entries in
-        let x = e.entry in
         let c = count_same in
         let m : length (es ++ (x ∷ [])) ≡ length es + 1 = length-append es (x ∷ []) in
         let q : n - length es ≡ suc (n - length (es ++ (x ∷ []))) = omega arith in
-        let there : entry_read s k.read.next ≡ e = ap (entry_read s) (sym next-same) ∙ sym is in
+        let there : entry_read s k.read.next ≡ Some (x, next) = ap (entry_read s) (sym next-same) ∙ is in
         let counted : r.count + 1 ≡ length (es ++ (x ∷ [])) = omega arith in
         let ranged : r.ranged && entry_ranged x ≡ all entry_ranged (es ++ (x ∷ [])) =
         ap (λ (y : EntriesRead). y.ranged && entry_ranged x) k.told ∙ sym (all_snoc entry_ranged es x) in
         record {
-          read = record { entries = es ++ (x ∷ []); next = e.next };
-          told = λ j. record { next = e.next; count = counted j; ranged = ranged j };
-          whole = k.whole ∙ (rw (q, from_more (n - length (es ++ (x ∷ []))) s k.read.next e there good, append_snoc));
+          read = record { entries = es ++ (x ∷ []); next = next };
+          told = λ j. record { next = next; count = counted j; ranged = ranged j };
+          whole = k.whole ∙ (rw (q, from_more (n - length (es ++ (x ∷ []))) s k.read.next x next there, append_snoc));
         }
 
     -- no entry follows; no more are read
-    pub entering-stops : (e : EntryRead) → e ≡ entry_read s r.next → e.good ≡ false → r ≡ entries_read (entries_from n s at)
-    entering-stops e is none =
-        let there : entry_read s k.read.next ≡ e = ap (entry_read s) (sym next-same) ∙ sym is in
-        k.told ∙ (rw (k.whole, from-none (n - length k.read.entries) s k.read.next e there none, append-nil))
+    pub entering-stops : entry_read s r.next ≡ None → r ≡ entries_read (entries_from n s at)
+    entering-stops none =
+        let there : entry_read s k.read.next ≡ None = ap (entry_read s) (sym next-same) ∙ none in
+        k.told ∙ (rw (k.whole, from-none (n - length k.read.entries) s k.read.next there, append-nil))
 
     pub entering-ends : n ≤ r.count → r ≡ entries_read (entries_from n s at)
     unfolding entries_from

@@ -22,7 +22,7 @@ use Rattle.rows.specs.vocabulary.Slots.{number_of_slot, with_source_numbers}
 use Rattle.rows.specs.vocabulary.Sizes.{RECORDS, IsTables, sizes-meant}
 use Rattle.changes.specs.vocabulary.Changes.{AddsRow}
 use Rattle.text.specs.declared.Entry.{Entry}
-use Rattle.text.specs.declared.EntryRead.{EntryRead}
+use Rattle.std.specs.Prelude.{Some, None}
 use Rattle.text.specs.declared.Given.{Given}
 use Rattle.text.specs.declared.Naming.TheVariants.{Listed, Missing}
 use Rattle.text.specs.Opening.{Form, Entries, entries_from, add_entry, entry_listed, entry_row, with_entries}
@@ -162,42 +162,41 @@ module _ {g : Given} {t u s : List ℕ} {at node rows i n k : ℕ} (w : Writing 
   unfolding entries_from
   writing-ends h = let q : GROUPS - k ≡ 0 = omega arith in done (ap (λ (m : ℕ). (entries_from m s i).entries) q)
 
-  module _ (e : EntryRead) (is : e ≡ entry_read s i) where
-    pub writing-stops : e.good ≡ false → NamesEntries g s at rows (Listed n) × WritesEntries t u s at node rows (Listed n)
-    writing-stops none = done (ap (λ (x : Entries). x.entries) (from-none (GROUPS - k) s i e (sym is) none))
+  pub writing-stops : entry_read s i ≡ None → NamesEntries g s at rows (Listed n) × WritesEntries t u s at node rows (Listed n)
+  writing-stops none = done (ap (λ (x : Entries). x.entries) (from-none (GROUPS - k) s i none))
 
-    module _ (h : k < GROUPS) (good : e.good ≡ true) where
-      next-left : left_from s i k ≡ e.entry ∷ left_from s e.next (k + 1)
-      unfolding add_entry
-      next-left =
-          let q : GROUPS - k ≡ suc (GROUPS - (k + 1)) = omega arith in
-          ap (λ (m : ℕ). (entries_from m s i).entries) q ∙ ap (λ (x : Entries). x.entries) (from_more (GROUPS - (k + 1)) s i e (sym is) good)
+  module _ (e : Entry) (next : ℕ) (is : entry_read s i ≡ Some (e, next)) (h : k < GROUPS) where
+    next-left : left_from s i k ≡ e ∷ left_from s next (k + 1)
+    unfolding add_entry
+    next-left =
+        let q : GROUPS - k ≡ suc (GROUPS - (k + 1)) = omega arith in
+        ap (λ (m : ℕ). (entries_from m s i).entries) q ∙ ap (λ (x : Entries). x.entries) (from_more (GROUPS - (k + 1)) s i e next is)
 
-      pub writing-room : n + 1 ≤ rows + length (entries_here s at)
-      writing-room = let m = w.many in let l = ap length next-left in omega arith
+    pub writing-room : n + 1 ≤ rows + length (entries_here s at)
+    writing-room = let m = w.many in let l = ap length next-left in omega arith
 
-      -- what the entry names decides
-      listed_next : (fs : List Form) → Gives g fs → entry_listed fs e.entry && listed_from fs (GROUPS - (k + 1)) s e.next ≡ listed_from fs GROUPS s at
-      unfolding listed_from all
-      listed_next fs k = sym (ap (all (entry_listed fs)) next-left) ∙ w.listed fs k
+    -- what the entry names decides
+    listed_next : (fs : List Form) → Gives g fs → entry_listed fs e && listed_from fs (GROUPS - (k + 1)) s next ≡ listed_from fs GROUPS s at
+    unfolding listed_from all
+    listed_next fs k = sym (ap (all (entry_listed fs)) next-left) ∙ w.listed fs k
 
-      pub writing-missing : (b : Bool) → ((fs : List Form) → Gives g fs → b ≡ entry_listed fs e.entry) → b ≡ false → NamesEntries g s at rows Missing
-      unfolding naming_of
-      writing-missing b told f fs k = let none : listed_from fs GROUPS s at ≡ false = sym (listed_next fs k) ∙ rw (sym (told fs k) ∙ f) in rw none
+    pub writing-missing : (b : Bool) → ((fs : List Form) → Gives g fs → b ≡ entry_listed fs e) → b ≡ false → NamesEntries g s at rows Missing
+    unfolding naming_of
+    writing-missing b told f fs k = let none : listed_from fs GROUPS s at ≡ false = sym (listed_next fs k) ∙ rw (sym (told fs k) ∙ f) in rw none
 
-      pub writing-goes-on : (b : Bool) → ((fs : List Form) → Gives g fs → b ≡ entry_listed fs e.entry) → b ≡ true → (v : List ℕ) (r : Row) → r ≡ entry_row (n + 1) node e.entry → AddsRow u v n r
-          → Writing g t v s at node rows e.next (n + 1) (k + 1)
-      writing-goes-on b told f v r row adds =
-          let m = w.many in
-          let l = ap length next-left in
-          record {
-            many = omega arith;
-            listed = λ fs k. sym (rw (sym (told fs k) ∙ f)) ∙ listed_next fs k;
-            words =
-                λ st rep many top.
-                left-more (all_written s at node rows st) u node n e.entry (left_from s e.next (k + 1))
-                (subst (Left (all_written s at node rows st) u node n) next-left (w.words st rep many top)) v r row adds;
-          }
+    pub writing-goes-on : (b : Bool) → ((fs : List Form) → Gives g fs → b ≡ entry_listed fs e) → b ≡ true → (v : List ℕ) (r : Row) → r ≡ entry_row (n + 1) node e → AddsRow u v n r
+        → Writing g t v s at node rows next (n + 1) (k + 1)
+    writing-goes-on b told f v r row adds =
+        let m = w.many in
+        let l = ap length next-left in
+        record {
+          many = omega arith;
+          listed = λ fs k. sym (rw (sym (told fs k) ∙ f)) ∙ listed_next fs k;
+          words =
+              λ st rep many top.
+              left-more (all_written s at node rows st) u node n e (left_from s next (k + 1))
+              (subst (Left (all_written s at node rows st) u node n) next-left (w.words st rep many top)) v r row adds;
+        }
 
 -- ---- one process record, in three stores
 pub record-set : (ps : List Process) (i : ℕ) (x : Process) → set (set (set (records_of ps) (3 * i) x.prime) (3 * i + 1) x.active) (3 * i + 2) x.through ≡ records_of (set ps i x)

@@ -89,14 +89,6 @@ pub struct Reply {
     pub length: usize,
 }
 
-// One entry of a node form and the position after it; not good where none stands.
-#[derive(Clone, Copy)]
-pub struct EntryRead {
-    pub good: bool,
-    pub next: usize,
-    pub entry: Entry,
-}
-
 // The entries of a node form: the position after them, how many, whether each is in range.
 #[derive(Clone, Copy)]
 pub struct EntriesRead {

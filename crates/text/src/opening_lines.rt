@@ -8,7 +8,7 @@ ghost use Rattle.text.specs.vocabulary.Openings.{line_end, JudgesNode};
 
 use crate::call_line::{GROUPS, LONGEST_LINE, is_process};
 use crate::patterns::{ends_at, is_whole, read_form};
-use crate::{EntriesRead, Entry, EntryRead, LineRead, Read, Reader};
+use crate::{EntriesRead, Entry, LineRead, Read, Reader};
 use rows::codes::{A_SUBDIRECTORY, ALL_RIGHTS, AN_OPERATION, LAST_OPERATION, is_node};
 
 // ---- lines
@@ -59,9 +59,9 @@ pub fn line_end(text: &[u8], at: usize) -> usize
 }
 
 // ---- entries
-// The entry at a position: `(op 2 5 7)` or `(dir 2 3)` after a space.
+// The entry at a position, `(op 2 5 7)` or `(dir 2 3)` after a space, and the position after it.
 // Ruled out: an operation for a `dir`; an entry where the bracket does not close.
-pub fn entry_at(line: &[u8], at: usize) -> EntryRead
+pub fn entry_at(line: &[u8], at: usize) -> Option<(Entry, usize)>
     ensures { result ≡ entry_read line.now at }
 {
     let o = read_form(line, at, b" (op # # #)");
@@ -72,24 +72,19 @@ pub fn entry_at(line: &[u8], at: usize) -> EntryRead
             operation: o.b,
             rights: o.c,
         };
-        return EntryRead {
-            good: true,
-            next: o.next,
-            entry,
-        };
+        return Some((entry, o.next));
     }
     let d = read_form(line, at, b" (dir # #)");
-    let entry = Entry {
-        kind: A_SUBDIRECTORY,
-        object: d.b,
-        operation: 0,
-        rights: d.c,
-    };
-    EntryRead {
-        good: d.good,
-        next: d.next,
-        entry,
+    if d.good {
+        let entry = Entry {
+            kind: A_SUBDIRECTORY,
+            object: d.b,
+            operation: 0,
+            rights: d.c,
+        };
+        return Some((entry, d.next));
     }
+    None
 }
 
 // Whether an entry's numbers are in range.
@@ -112,16 +107,13 @@ fn entries_at(line: &[u8], at: usize) -> EntriesRead
         count: 0,
         ranged: true,
     };
-    while r.count < GROUPS {
-        let i = r.next;
-        let e = entry_at(line, i);
-        if !e.good {
+    for n in 0..GROUPS {
+        let Some((entry, next)) = entry_at(line, r.next) else {
             return r;
-        }
-        let entry = e.entry;
+        };
         r = EntriesRead {
-            next: e.next,
-            count: r.count + 1,
+            next,
+            count: n + 1,
             ranged: r.ranged & entry_ranged(entry),
         };
     }

@@ -81,17 +81,15 @@ fn write_entries(t: &mut [u32], line: &[u8], at: usize, g: Given, node: u32, row
     let mut i = at;
     let mut n = rows;
     for k in 0..GROUPS {
-        let e = entry_at(line, i);
-        if !e.good {
+        let Some((entry, next)) = entry_at(line, i) else {
             return Naming::Listed(n);
-        }
-        let entry = e.entry;
+        };
         if !entry_listed(g, entry) {
             return Naming::Missing;
         }
         let row = entry_row((n + 1) as u32, node, entry);
         change::append_row(t, n, row);
-        i = e.next;
+        i = next;
         n += 1;
     }
     Naming::Listed(n)

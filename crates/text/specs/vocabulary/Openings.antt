@@ -1,9 +1,8 @@
 -- What the reader of an opening text tells of it: an entry, entries, a line, what is given, and how the passes end.
-use Rattle.std.specs.Prelude.{ℕ, suc, ◌+◌, ◌<◌, ◌≡◌, Bool, true, false, ◌&&◌, ◌||◌, List, [], ◌∷◌, eqb, length, get_or, drop, if◌then◌else◌}
+use Rattle.std.specs.Prelude.{ℕ, suc, ◌+◌, ◌<◌, ◌≡◌, Bool, true, false, ◌&&◌, List, [], ◌∷◌, Option, Some, None, eqb, length, get_or, drop, if◌then◌else◌}
 use Rattle.rows.specs.Lists.{all, any}
 use Rattle.text.specs.declared.Read.{Read}
 use Rattle.text.specs.declared.Entry.{Entry}
-use Rattle.text.specs.declared.EntryRead.{EntryRead}
 use Rattle.text.specs.declared.EntriesRead.{EntriesRead}
 use Rattle.text.specs.declared.LineRead.{LineRead}
 use Rattle.text.specs.declared.LineRead.TheVariants.{Node, Process, Last, Bad}
@@ -29,16 +28,12 @@ abbrev pub line_end : List ℕ → ℕ → ℕ
 line_end t i = i + first_line (drop i t)
 
 -- ---- entries
--- the entry at a position
-unfoldable pub entry_read : List ℕ → ℕ → EntryRead
+-- the entry at a position, and the position after it
+unfoldable pub entry_read : List ℕ → ℕ → Option (Entry × ℕ)
 entry_read s i =
     let o = form s i " (op # # #)" in
     let d = form s i " (dir # #)" in
-    record {
-      good = o.good || d.good;
-      next = if o.good then o.next else d.next;
-      entry = if o.good then operation_entry o else subdirectory_entry d;
-    }
+    if o.good then Some (operation_entry o, o.next) else if d.good then Some (subdirectory_entry d, d.next) else None
 
 unfoldable pub entries_read : Entries → EntriesRead
 entries_read g = record { next = g.next; count = length g.entries; ranged = all entry_ranged g.entries }

@@ -1,7 +1,6 @@
 -- `call_line::is_named` meets its contract: the numbers left decide.
-use Prim.Native.Nat.{◌-◌}
 use mathlib.Core.Path.{◌≡◌}
-use lib.ListN.{drop, length}
+use lib.ListN.{drop}
 use Rattle.rows.specs.Lists.{member}
 use Rattle.text.proofs.call_line.is_named.Given as goal
 

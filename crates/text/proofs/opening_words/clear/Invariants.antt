@@ -1,5 +1,5 @@
 -- `opening_words::clear` meets its contract: every word passed is 0.
-use Prim.Native.Nat.{ℕ, ◌≤◌, ◌<◌, ◌-◌}
+use Prim.Native.Nat.{ℕ, ◌≤◌, ◌<◌}
 use mathlib.Core.Path.{◌≡◌}
 use lib.ListN.{length, get_or}
 use Rattle.text.proofs.opening_words.clear.Given as goal

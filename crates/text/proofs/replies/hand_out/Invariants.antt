@@ -1,5 +1,5 @@
 -- `replies::hand_out` meets its contract: byte by byte a prefix of the run is replaced.
-use Prim.Native.Nat.{◌≤◌, ◌-◌}
+use Prim.Native.Nat.{◌≤◌}
 use mathlib.Core.Path.{◌≡◌}
 use lib.ListN.{length}
 use Rattle.text.specs.vocabulary.Sizes.{REPLY}
