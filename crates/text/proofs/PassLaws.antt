@@ -8,15 +8,25 @@ use mathlib.Core.Path.{◌≡◌, refl, ap, subst, ◌∙◌}
 use lib.Dec.{eqb}
 use lib.ListN.{drop, length, take, drop_of_length-le}
 use borrow.Author.Tests.{eq-eqb, ne_eqb, eqb-true, eqb-false}
-use Rattle.rows.proofs.Bools.{clash}
 use Rattle.text.specs.Opening.{Form, Line, FirstPass, last_line, read_to, form_line, form_refusal, first_pass, stopped_by, bad_line, line_of, node_form, process_form, lines_of}
-use Rattle.text.specs.vocabulary.Openings.{line_read, NodeTold, FormSteps, Steps, Gives, gone-on, stopped, first_line, Ends}
+use Rattle.text.specs.vocabulary.Openings.{line_read, NodeTold, Step, GoesOn, EndsText, RefusedWith, FormSteps, Steps, Gives, first_line, Ends}
+use Rattle.text.specs.vocabulary.Refusals.{number_of}
+use Rattle.std.specs.Prelude.{Some, None, Ok, Err}
 use Rattle.text.specs.declared.Entry.{Entry}
 use Rattle.text.specs.declared.Given.{Given}
 use Rattle.text.specs.declared.LineRead.TheVariants.{Node, Process, Last, Bad}
-use Rattle.text.specs.declared.Passed.{Passed}
-use Rattle.text.specs.declared.Step.{Step}
+use Rattle.text.specs.declared.Refusal.{Refusal}
+use Rattle.text.specs.declared.Refusal.TheVariants.{BadForm, OutOfRange, GivenTwice, NotListed, TooMany, PrimesDiffer}
 use Rattle.text.proofs.OpeningLaws.{line-split}
+
+-- a refusal's number
+pub some_number : (r : Refusal) → number_of r ≡ 0 → ⊥
+some_number BadForm e = omega arith
+some_number OutOfRange e = omega arith
+some_number GivenTwice e = omega arith
+some_number NotListed e = omega arith
+some_number TooMany e = omega arith
+some_number PrimesDiffer e = omega arith
 
 -- ---- one line of the first pass, by what it is
 unfoldable pub by_line : List Form → ℕ → List (List ℕ) → Line → FirstPass
@@ -70,32 +80,34 @@ module _ (fs : List Form) (x : Line) (r : Step) where
           let prime : n ≡ m = cc in
           rw (← same, ← prime) h
 
-  pub steps-last : Last ≡ line_read x → r.going ≡ false → r.refusal ≡ 0 → Gives r.given fs → Steps fs x r
+  pub steps-last : Last ≡ line_read x → EndsText r → Steps fs x r
   unfolding line_read Steps
-  steps-last e g z k = pick x e
+  steps-last e k = pick x e
     where
       pick : (y : Line) → Last ≡ line_read y → Steps fs y r
-      pick last_line q = (g, z, k)
+      pick last_line q = k
       pick bad_line q = absurd (let z : ◌≡◌ {A = ℕ} 0 1 = cc in omega arith)
       pick (form_line (node_form m es)) q = absurd (let z : ◌≡◌ {A = ℕ} 0 1 = cc in omega arith)
       pick (form_line (process_form o m)) q = absurd (let z : ◌≡◌ {A = ℕ} 0 1 = cc in omega arith)
 
-  pub steps-bad : Bad ≡ line_read x → r.going ≡ false → r.refusal ≡ 2 → Steps fs x r
+  pub steps-bad : Bad ≡ line_read x → RefusedWith 2 r → Steps fs x r
   unfolding line_read Steps
-  steps-bad e g z = pick x e
+  steps-bad e k = pick x e
     where
       pick : (y : Line) → Bad ≡ line_read y → Steps fs y r
       pick last_line q = absurd (let z : ◌≡◌ {A = ℕ} 0 1 = cc in omega arith)
-      pick bad_line q = (g, z)
+      pick bad_line q = k
       pick (form_line (node_form m es)) q = absurd (let z : ◌≡◌ {A = ℕ} 0 1 = cc in omega arith)
       pick (form_line (process_form o m)) q = absurd (let z : ◌≡◌ {A = ℕ} 0 1 = cc in omega arith)
 
 -- a form taken, or refused
-pub form-goes : (fs : List Form) (f : Form) (g : Given) → form_refusal fs f ≡ 0 → Gives g (f ∷ fs) → FormSteps fs f (gone-on g)
-form-goes fs f g e k = record { taken = λ q. (refl, k); refused = λ q. absurd (q e) }
+pub form-goes : (fs : List Form) (f : Form) (g : Given) → form_refusal fs f ≡ 0 → Gives g (f ∷ fs) → FormSteps fs f (Ok (Some g))
+unfolding GoesOn
+form-goes fs f g e k = record { taken = λ q. k; refused = λ q. absurd (q e) }
 
-pub form-stops : (fs : List Form) (f : Form) (g : Given) (k : ℕ) → k ≡ form_refusal fs f → (k ≡ 0 → ⊥) → FormSteps fs f (stopped g k)
-form-stops fs f g k e z = record { taken = λ q. absurd (z (e ∙ q)); refused = λ q. (refl, e) }
+pub form-stops : (fs : List Form) (f : Form) (e : Refusal) → number_of e ≡ form_refusal fs f → FormSteps fs f (Err e)
+unfolding RefusedWith
+form-stops fs f e k = record { taken = λ q. absurd (some_number e (k ∙ q)); refused = λ q. k }
 
 -- ---- the first pass: the forms read, then the lines left
 pub record Passing (t : List ℕ) (at n : ℕ) (g : Given) : Type 0 where
@@ -114,43 +126,62 @@ left_by : (t : List ℕ) (at e n : ℕ) (fs : List Form) → at < length t → e
     → first_pass fs n (lines_of (drop at t)) ≡ by_line fs n (lines_of (drop e t)) (line_of (take (e - at) (drop at t)))
 left_by t at e n fs h is = ap (first_pass fs n) (line-here t at e h is) ∙ by-line fs n (take (e - at) (drop at t)) (lines_of (drop e t))
 
-module _ (t : List ℕ) (at n : ℕ) (g : Given) (k : Passing t at n g) (e : ℕ) (h : at < length t) (is : e ≡ at + first_line (drop at t)) (r : Step)
-    (st : Steps k.read (line_of (take (e - at) (drop at t))) r) where
-  pub passing-goes-on : r.going ≡ true → Passing t e (n + 1) r.given
-  unfolding Steps
-  passing-goes-on going = pick (line_of (take (e - at) (drop at t))) (k.whole ∙ left_by t at e n k.read h is) st
+module _ (t : List ℕ) (at n : ℕ) (g : Given) (k : Passing t at n g) (e : ℕ) (h : at < length t) (is : e ≡ at + first_line (drop at t)) where
+  abbrev here : Line
+  here = line_of (take (e - at) (drop at t))
+
+  abbrev after : Line → FirstPass
+  after x = by_line k.read n (lines_of (drop e t)) x
+
+  whole-here : first_pass [] 1 (lines_of t) ≡ after here
+  whole-here = k.whole ∙ left_by t at e n k.read h is
+
+  pub passing-goes-on : (r : Given) → Steps k.read here (Ok (Some r)) → Passing t e (n + 1) r
+  unfolding Steps GoesOn EndsText RefusedWith
+  passing-goes-on r st = pick here whole-here st
     where
-      taken : (f : Form) → first_pass [] 1 (lines_of t) ≡ by_line k.read n (lines_of (drop e t)) (form_line f) → FormSteps k.read f r
-          → (b : Bool) → eqb (form_refusal k.read f) 0 ≡ b → Passing t e (n + 1) r.given
+      taken : (f : Form) → first_pass [] 1 (lines_of t) ≡ after (form_line f) → FormSteps k.read f (Ok (Some r))
+          → (b : Bool) → eqb (form_refusal k.read f) 0 ≡ b → Passing t e (n + 1) r
       taken f w s true q =
           let z = eqb-true (form_refusal k.read f) 0 q in
-          record { read = f ∷ k.read; gives = (s.taken z).1; whole = rw add-one (w ∙ form-taken k.read n (lines_of (drop e t)) f z) }
-      taken f w s false q = clash going (s.refused (eqb-false (form_refusal k.read f) 0 q)).0
+          record { read = f ∷ k.read; gives = s.taken z; whole = rw add-one (w ∙ form-taken k.read n (lines_of (drop e t)) f z) }
+      taken f w s false q = absurd (s.refused (eqb-false (form_refusal k.read f) 0 q))
 
-      pick : (x : Line) → first_pass [] 1 (lines_of t) ≡ by_line k.read n (lines_of (drop e t)) x → Steps k.read x r → Passing t e (n + 1) r.given
-      pick last_line w s = clash going s.0
-      pick bad_line w s = clash going s.0
+      pick : (x : Line) → first_pass [] 1 (lines_of t) ≡ after x → Steps k.read x (Ok (Some r)) → Passing t e (n + 1) r
+      pick last_line w s = absurd s
+      pick bad_line w s = absurd s
       pick (form_line f) w s = taken f w s (eqb (form_refusal k.read f) 0) refl
 
-  pub passing-stops : r.going ≡ false → Ends (first_pass [] 1 (lines_of t)) (record { refusal = r.refusal; line = n; given = r.given })
-  unfolding Steps Ends by_line
-  passing-stops stops = pick (line_of (take (e - at) (drop at t))) (k.whole ∙ left_by t at e n k.read h is) st
+  -- the text ends with what the forms read give
+  pub passing-last : Steps k.read here (Ok None) → Ends (first_pass [] 1 (lines_of t)) (Ok g)
+  unfolding Steps GoesOn EndsText RefusedWith Ends by_line
+  passing-last st = pick here whole-here st
     where
-      p : Passed
-      p = record { refusal = r.refusal; line = n; given = r.given }
+      no-form : (f : Form) → FormSteps k.read f (Ok None) → (b : Bool) → eqb (form_refusal k.read f) 0 ≡ b → ⊥
+      no-form f s true q = s.taken (eqb-true (form_refusal k.read f) 0 q)
+      no-form f s false q = s.refused (eqb-false (form_refusal k.read f) 0 q)
 
-      stopped-at : (f : Form) → first_pass [] 1 (lines_of t) ≡ by_line k.read n (lines_of (drop e t)) (form_line f) → FormSteps k.read f r
-          → (b : Bool) → eqb (form_refusal k.read f) 0 ≡ b → Ends (first_pass [] 1 (lines_of t)) p
-      stopped-at f w s true q = clash (s.taken (eqb-true (form_refusal k.read f) 0 q)).0 stops
+      pick : (x : Line) → first_pass [] 1 (lines_of t) ≡ after x → Steps k.read x (Ok None) → Ends (first_pass [] 1 (lines_of t)) (Ok g)
+      pick last_line w s = rw w k.gives
+      pick bad_line w s = absurd s
+      pick (form_line f) w s = absurd (no-form f s (eqb (form_refusal k.read f) 0) refl)
+
+  pub passing-stops : (r : Refusal) → Steps k.read here (Err r) → Ends (first_pass [] 1 (lines_of t)) (Err (record { number = number_of r; line = n }))
+  unfolding Steps GoesOn EndsText RefusedWith Ends by_line
+  passing-stops r st = pick here whole-here st
+    where
+      stopped-at : (f : Form) → first_pass [] 1 (lines_of t) ≡ after (form_line f) → FormSteps k.read f (Err r)
+          → (b : Bool) → eqb (form_refusal k.read f) 0 ≡ b → Ends (first_pass [] 1 (lines_of t)) (Err (record { number = number_of r; line = n }))
+      stopped-at f w s true q = absurd (s.taken (eqb-true (form_refusal k.read f) 0 q))
       stopped-at f w s false q =
           let z = eqb-false (form_refusal k.read f) 0 q in
-          rw (w ∙ form-refused k.read n (lines_of (drop e t)) f z) ((s.refused z).1, refl, omega arith)
+          rw (w ∙ form-refused k.read n (lines_of (drop e t)) f z) (s.refused z, refl, omega arith)
 
-      pick : (x : Line) → first_pass [] 1 (lines_of t) ≡ by_line k.read n (lines_of (drop e t)) x → Steps k.read x r → Ends (first_pass [] 1 (lines_of t)) p
-      pick last_line w s = rw w (s.1, s.2)
-      pick bad_line w s = rw w (s.1, refl, omega arith)
+      pick : (x : Line) → first_pass [] 1 (lines_of t) ≡ after x → Steps k.read x (Err r) → Ends (first_pass [] 1 (lines_of t)) (Err (record { number = number_of r; line = n }))
+      pick last_line w s = absurd s
+      pick bad_line w s = rw w (s, refl, omega arith)
       pick (form_line f) w s = stopped-at f w s (eqb (form_refusal k.read f) 0) refl
 
-pub passing-ends : (t : List ℕ) (at n : ℕ) (g : Given) → Passing t at n g → length t ≤ at → Ends (first_pass [] 1 (lines_of t)) (record { refusal = 2; line = n; given = g })
+pub passing-ends : (t : List ℕ) (at n : ℕ) (g : Given) → Passing t at n g → length t ≤ at → Ends (first_pass [] 1 (lines_of t)) (Err (record { number = 2; line = n }))
 unfolding Ends first_pass lines_of
 passing-ends t at n g k h = rw (k.whole, drop_of_length-le t h) (refl, refl, omega arith)

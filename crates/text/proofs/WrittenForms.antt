@@ -7,7 +7,7 @@ use mathlib.Core.List.{List, ◌∷◌, []}
 use mathlib.Core.Path.{◌≡◌, refl, ap, subst, ◌∙◌, sym}
 use lib.Dec.{eqb}
 use lib.ListN.{drop, length, take, set, drop_of_length-le}
-use borrow.Author.Tests.{eq-eqb, ne_eqb, eqb-true, eqb-false, lt-ltb}
+use borrow.Author.Tests.{ne_eqb, eqb-true, eqb-false, lt-ltb}
 use Rattle.rows.specs.Lists.{all, each}
 use Rattle.rows.specs.Limits.{processes}
 use Rattle.rows.specs.Tables.{State, empty}
@@ -19,12 +19,13 @@ use Rattle.changes.specs.vocabulary.Changes.{SetsNext}
 use Rattle.calls.proofs.Effected.{records-apart}
 use Rattle.text.specs.Opening.{Form, Line, FirstPass, last_line, read_to, form_line, form_refusal, first_pass, stopped_by, bad_line, line_of, node_form, process_form, lines_of, entries_in, form_listed, missing_at, second_pass, Opening, opens, refused_at, opening_of, with_entries, with_form, opened_from}
 use Rattle.text.specs.Entry.{state_opened}
-use Rattle.text.specs.vocabulary.Openings.{Gives, first_line, Ends, naming, naming_of, ReadTo, Misses, verdict_of}
+use Rattle.text.specs.vocabulary.Openings.{Gives, first_line, Ends, naming, naming_of, ReadTo, Misses, line_at, verdict_of}
 use Rattle.text.specs.vocabulary.Written.{BothRepresent, AddsEntries, SetsRecord, at_home, LineFits, LineWritten, PassedTo, FormsWritten, state_after, OpeningWritten}
 use Rattle.text.specs.declared.Entry.{Entry}
 use Rattle.text.specs.declared.Given.{Given}
 use Rattle.text.specs.declared.Naming.TheVariants.{Ended, Listed, Missing}
-use Rattle.text.specs.declared.Passed.{Passed}
+use Rattle.text.specs.declared.Refused.{Refused}
+use Rattle.std.specs.Prelude.{Option, Some, None, Ok, Err}
 use Rattle.text.proofs.PassLaws.{by_line, by-line, form-taken, form-refused, line-here}
 use Rattle.text.proofs.Opening.{opened-requests}
 use Rattle.text.proofs.OpeningForms.{Shaped, line-shaped, entry_shaped, form_passed, process-passed}
@@ -154,8 +155,8 @@ module _ {text t p : List ℕ} {g : Given} {at n count : ℕ} (k : Forming text 
   forms-same : (fs : List Form) (rest : List (List ℕ)) → ReadTo text fs rest → k.forms ≡ fs
   forms-same fs rest e = let w = sym k.read ∙ e in cc
 
-  pub missing-told : (m : ℕ) → m ≡ missing_at k.forms k.forms → Misses g text m
-  missing-told m e fs rest r gives = e ∙ ap (λ (x : List Form). missing_at x x) (forms-same fs rest r)
+  pub missing-told : (r : Option ℕ) → r ≡ line_at (missing_at k.forms k.forms) → Misses g text r
+  missing-told r e fs rest h gives = e ∙ ap (λ (x : List Form). line_at (missing_at x x)) (forms-same fs rest h)
 
   pub written-told : {u q : List ℕ} → BothRepresent u q (state_opened k.forms) → FormsWritten text u q
   written-told {u} {q} w fs rest r = subst (λ (x : List Form). BothRepresent u q (state_opened x)) (forms-same fs rest r) w
@@ -259,41 +260,65 @@ module _ {text t p : List ℕ} {g : Given} {at n count : ℕ} (k : Forming text 
 
 -- ---- the verdict
 -- the first pass read to `(open)`
-pub passed_to : (text : List ℕ) (p : Passed) → Ends (first_pass [] 1 (lines_of text)) p → p.refusal ≡ 0 → PassedTo text p.given
+pub passed_to : (text : List ℕ) (g : Given) → Ends (first_pass [] 1 (lines_of text)) (Ok g) → PassedTo text g
 unfolding Ends
-passed_to text p ends z = pick (first_pass [] 1 (lines_of text)) refl ends
+passed_to text g ends = pick (first_pass [] 1 (lines_of text)) refl ends
   where
-    pick : (x : FirstPass) → first_pass [] 1 (lines_of text) ≡ x → Ends x p → PassedTo text p.given
-    pick (read_to fs rest) e q = record { forms = fs; rest = rest; read = e; gives = q.1 }
-    pick (stopped_by k n) e q = let r = q.0 in let s = q.2 in absurd (omega arith)
+    pick : (x : FirstPass) → first_pass [] 1 (lines_of text) ≡ x → Ends x (Ok g) → PassedTo text g
+    pick (read_to fs rest) e q = record { forms = fs; rest = rest; read = e; gives = q }
+    pick (stopped_by k n) e q = absurd q
 
 -- it was refused: the words stay
-pub opening-stopped : (text t u : List ℕ) (p : Passed) → Ends (first_pass [] 1 (lines_of text)) p → 0 < p.refusal → BothRepresent t u empty
-    → (record { refusal = p.refusal; line = p.line } ≡ verdict_of (opening_of (lines_of text))) × OpeningWritten text t u
+pub opening-stopped : (text t u : List ℕ) (r : Refused) → Ends (first_pass [] 1 (lines_of text)) (Err r) → BothRepresent t u empty
+    → (Err r ≡ verdict_of (opening_of (lines_of text))) × OpeningWritten text t u
 unfolding opening_of Ends verdict_of second_pass state_after
-opening-stopped text t u p ends h w = pick (first_pass [] 1 (lines_of text)) ends
+opening-stopped text t u r ends w = pick (first_pass [] 1 (lines_of text)) ends
   where
-    pick : (x : FirstPass) → Ends x p → (record { refusal = p.refusal; line = p.line } ≡ verdict_of (second_pass x)) × BothRepresent t u (state_after (second_pass x))
-    pick (read_to fs rest) q = let z = q.0 in absurd (omega arith)
-    pick (stopped_by k n) q = (λ j. record { refusal = q.0 j; line = q.1 j }, w)
+    pick : (x : FirstPass) → Ends x (Err r) → (Err r ≡ verdict_of (second_pass x)) × BothRepresent t u (state_after (second_pass x))
+    pick (read_to fs rest) q = absurd q
+    pick (stopped_by k n) q = (λ j. Err (record { number = q.0 j; line = q.1 j }), w)
 
-module _ (text t u : List ℕ) (g : Given) (k : PassedTo text g) (n : ℕ) (missing : Misses g text n) where
+-- the line that is missing
+pub line-at : (m n : ℕ) → n ≡ m → 0 < n → Some n ≡ line_at m
+unfolding line_at
+line-at m n e h = rw (← e, ne_eqb n 0 (omega arith)) refl
+
+pub no-line-at : (m : ℕ) → 0 ≡ m → None ≡ line_at m
+unfolding line_at
+no-line-at m e = rw (← e) refl
+
+some-line : (m n : ℕ) → Some n ≡ line_at m → (eqb m 0 ≡ false) × (n ≡ m)
+unfolding line_at
+some-line m n e = pick (eqb m 0) refl e
+  where
+    pick : (b : Bool) → eqb m 0 ≡ b → Some n ≡ cond b None (Some m) → (eqb m 0 ≡ false) × (n ≡ m)
+    pick true q f = absurd (let z : ◌≡◌ {A = ℕ} 0 1 = cc in omega arith)
+    pick false q f = (q, cc)
+
+no-line : (m : ℕ) → None ≡ line_at m → eqb m 0 ≡ true
+unfolding line_at
+no-line m e = pick (eqb m 0) refl e
+  where
+    pick : (b : Bool) → eqb m 0 ≡ b → ◌≡◌ {A = Option ℕ} None (cond b None (Some m)) → eqb m 0 ≡ true
+    pick true q f = q
+    pick false q f = absurd (let z : ◌≡◌ {A = ℕ} 0 1 = cc in omega arith)
+
+module _ (text t u : List ℕ) (g : Given) (k : PassedTo text g) where
   read_as : (x : Opening) → second_pass (read_to k.forms k.rest) ≡ x → opening_of (lines_of text) ≡ x
   unfolding opening_of
   read_as x e = ap second_pass k.read ∙ e
 
-  first-missing : n ≡ missing_at k.forms k.forms
-  first-missing = missing k.forms k.rest k.read k.gives
-
   -- 5: the words were cleared
-  pub opening-missing : 0 < n → BothRepresent t u empty → (record { refusal = 5; line = n } ≡ verdict_of (opening_of (lines_of text))) × OpeningWritten text t u
+  pub opening-missing : (n : ℕ) → Misses g text (Some n) → BothRepresent t u empty → (Err (record { number = 5; line = n }) ≡ verdict_of (opening_of (lines_of text))) × OpeningWritten text t u
   unfolding verdict_of second_pass state_after
-  opening-missing h w =
-      let is = read_as (refused_at 5 n) (rw (← first-missing, ne_eqb n 0 (omega arith))) in
+  opening-missing n missing w =
+      let m = some-line (missing_at k.forms k.forms) n (missing k.forms k.rest k.read k.gives) in
+      let is = read_as (refused_at 5 n) (rw (m.0, ← m.1) refl) in
       (sym (ap verdict_of is), subst (λ (x : Opening). BothRepresent t u (state_after x)) (sym is) w)
 
-  pub opening-accepted : n ≡ 0 → FormsWritten text t u → (record { refusal = 0; line = 0 } ≡ verdict_of (opening_of (lines_of text))) × OpeningWritten text t u
+  pub opening-accepted : Misses g text None → FormsWritten text t u → (Ok tt ≡ verdict_of (opening_of (lines_of text))) × OpeningWritten text t u
   unfolding verdict_of second_pass state_after
-  opening-accepted h written =
-      let is = read_as (opens k.forms k.rest) (rw (← first-missing, eq-eqb n 0 h)) in
+  opening-accepted missing written =
+      let m = no-line (missing_at k.forms k.forms) (missing k.forms k.rest k.read k.gives) in
+      let is = read_as (opens k.forms k.rest) (rw m refl) in
       (sym (ap verdict_of is), subst (λ (x : Opening). BothRepresent t u (state_after x)) (sym is) (written k.forms k.rest k.read))

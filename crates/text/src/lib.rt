@@ -2,6 +2,9 @@
 
 #![tactic(auto)]
 
+ghost use Rattle.std.specs.Prelude.{◌≡◌};
+ghost use Rattle.text.specs.vocabulary.Refusals.{number_of};
+
 use calls::Call;
 
 // What a run of digits or of letters is worth, and the place after it.
@@ -107,42 +110,52 @@ pub enum LineRead {
     Bad,
 }
 
+// a place for each number of a node, of a process, and for 0
+pub const NODE_PLACES: usize = 33;
+
+pub const PROCESS_PLACES: usize = 65;
+
 // Which nodes and processes forms have given, each under its number.
 #[derive(Clone, Copy)]
 pub struct Given {
-    pub nodes: [bool; 33],
-    pub processes: [bool; 65],
+    pub nodes: [bool; NODE_PLACES],
+    pub processes: [bool; PROCESS_PLACES],
 }
 
-// What one line does: the first pass goes on with what is given now, or ends there: refused, or 0 at `(open)`.
-#[derive(Clone, Copy)]
-pub struct Step {
-    pub going: bool,
-    pub refusal: u32,
-    pub given: Given,
+// Why a line of an opening text, or what a text names, is refused; two texts that are joined also as they differ.
+#[derive(Clone, Copy, Debug, PartialEq, Eq)]
+pub enum Refusal {
+    BadForm = 2,
+    OutOfRange = 3,
+    GivenTwice = 4,
+    NotListed = 5,
+    TooMany = 6,
+    PrimesDiffer = 20,
 }
 
-// What the first pass ends with: a refusal and its line, or 0 and what is given.
+// The number that an answer prints.
+impl From<Refusal> for u32 {
+    ghost from_gives = { λ r n. n ≡ number_of r };
+
+    fn from(r: Refusal) -> u32 {
+        r as u32
+    }
+}
+
+// An opening text is refused: with a number, at a line.
 #[derive(Clone, Copy)]
-pub struct Passed {
-    pub refusal: u32,
+pub struct Refused {
+    pub number: u32,
     pub line: usize,
-    pub given: Given,
 }
 
 // Whether a line names only what is given, and how many rows are written then; the second pass ends at the last line.
+// Three cases, no Result of an Option: what is missing has a line, which the caller knows, and no number of its own.
 #[derive(Clone, Copy)]
 pub enum Naming {
     Listed(usize),
     Missing,
     Ended,
-}
-
-// An opening text is accepted (0), or refused with a number at a line.
-#[derive(Clone, Copy)]
-pub struct Verdict {
-    pub refusal: u32,
-    pub line: usize,
 }
 
 // ---- functions

@@ -1,15 +1,15 @@
 // The first pass over an opening text of any bytes: 2, 3, 4 and 6 (specs/Opening.antt).
 ghost use Rattle.std.specs.Prelude.{◌≡◌, false, List, [], ◌∷◌, ◌≤◌, get_or};
+ghost use Rattle.text.specs.vocabulary.Refusals.{refusal_in};
 ghost use Rattle.text.specs.declared.Entry.{Entry};
 ghost use Rattle.text.specs.Opening.{lines_of, Form, node_form, process_form, line_of, form_refusal, first_pass};
 ghost use Rattle.text.specs.vocabulary.Sizes.{NODES};
 ghost use Rattle.rows.specs.vocabulary.Sizes.{PROCESSES};
-ghost use Rattle.text.specs.vocabulary.Openings.{Gives, RefusesNode, StepsNode, FormSteps, Steps, stopped};
-ghost use Rattle.text.specs.vocabulary.Openings.{gone-on, Ends};
+ghost use Rattle.text.specs.vocabulary.Openings.{Gives, RefusesNode, StepsNode, FormSteps, Steps, Ends};
 
 use crate::call_line::is_process;
 use crate::opening_lines::{line_end, read_line};
-use crate::{Given, LineRead, Passed, Step};
+use crate::{Given, LineRead, NODE_PLACES, PROCESS_PLACES, Refusal, Refused};
 use rows::codes::is_node;
 
 // (rule O15)
@@ -20,8 +20,8 @@ pub const MOST_ENTRIES: usize = 16;
 pub fn none_given() -> Given
     ensures { Gives result [] }
 {
-    let nodes = [false; 33];
-    let processes = [false; 65];
+    let nodes = [false; NODE_PLACES];
+    let processes = [false; PROCESS_PLACES];
     Given { nodes, processes }
 }
 
@@ -59,123 +59,100 @@ fn with_process(g: Given, p: u32, n: u32) -> Given
 }
 
 // ---- the first pass: 2, 3, 4 and 6
-// The refusal of a node form after the forms given, the lowest number first; 0 for none.
-fn node_refusal(g: Given, n: u32, count: usize, ranged: bool) -> u32
-    ensures refused { RefusesNode g n count ranged result }
-    ensures within { result ≡ 0 → n ≤ NODES }
+// The refusal of a node form after the forms given, the lowest number first.
+fn node_refusal(g: Given, n: u32, count: usize, ranged: bool) -> Result<(), Refusal>
+    ensures refused { RefusesNode g n count ranged (refusal_in result) }
+    ensures within { refusal_in result ≡ 0 → n ≤ NODES }
 {
     let good = is_node(n) & ranged;
     if !good {
-        return 3;
+        return Err(Refusal::OutOfRange);
     }
     let nodes = g.nodes;
     if is_given(&nodes, n) {
-        return 4;
+        return Err(Refusal::GivenTwice);
     }
     if MOST_ENTRIES < count {
-        return 6;
+        return Err(Refusal::TooMany);
     }
-    0
+    Ok(())
 }
 
-// The refusal of a process form after the forms given; 0 for none.
-fn process_refusal(g: Given, p: u32, n: u32) -> u32
-    ensures refused { (fs : List Form) → Gives g fs → result ≡ form_refusal fs (process_form p n) }
-    ensures within { result ≡ 0 → p ≤ PROCESSES }
+// The refusal of a process form after the forms given.
+fn process_refusal(g: Given, p: u32, n: u32) -> Result<(), Refusal>
+    ensures refused { (fs : List Form) → Gives g fs → refusal_in result ≡ form_refusal fs (process_form p n) }
+    ensures within { refusal_in result ≡ 0 → p ≤ PROCESSES }
 {
     let good = is_process(p) & is_node(n);
     if !good {
-        return 3;
+        return Err(Refusal::OutOfRange);
     }
     let processes = g.processes;
     if is_given(&processes, p) {
-        return 4;
+        return Err(Refusal::GivenTwice);
     }
-    0
-}
-
-// The first pass stops here: at `(open)` (0), or refused.
-fn stop(g: Given, k: u32) -> Step
-    ensures { result ≡ stopped g k }
-{
-    Step {
-        going: false,
-        refusal: k,
-        given: g,
-    }
-}
-
-// The first pass goes on with what is given now.
-fn go_on(g: Given) -> Step
-    ensures { result ≡ gone-on g }
-{
-    Step {
-        going: true,
-        refusal: 0,
-        given: g,
-    }
+    Ok(())
 }
 
 // What a node form does after the forms given.
-fn node_step(g: Given, n: u32, count: usize, ranged: bool) -> Step
+fn node_step(g: Given, n: u32, count: usize, ranged: bool) -> Result<Option<Given>, Refusal>
     ensures { StepsNode g n count ranged result }
 {
-    let k = node_refusal(g, n, count, ranged);
-    if k == 0 {
-        return go_on(with_node(g, n));
-    }
-    stop(g, k)
+    node_refusal(g, n, count, ranged)?;
+    Ok(Some(with_node(g, n)))
 }
 
 // What a process form does after the forms given.
-fn process_step(g: Given, p: u32, n: u32) -> Step
+fn process_step(g: Given, p: u32, n: u32) -> Result<Option<Given>, Refusal>
     ensures { (fs : List Form) → Gives g fs → FormSteps fs (process_form p n) result }
 {
-    let k = process_refusal(g, p, n);
-    if k == 0 {
-        return go_on(with_process(g, p, n));
-    }
-    stop(g, k)
+    process_refusal(g, p, n)?;
+    Ok(Some(with_process(g, p, n)))
 }
 
-// What one line does after the forms given.
+// What one line does after the forms given: the first pass goes on with what is given now, or ends at `(open)`.
 // Ruled out: a second form for a node is taken; `(open)` is a bad line.
-pub fn pass_line(line: &[u8], g: Given) -> Step
+pub fn pass_line(line: &[u8], g: Given) -> Result<Option<Given>, Refusal>
     ensures { (fs : List Form) → Gives g fs → Steps fs (line_of line.now) result }
 {
     let l = read_line(line);
     match l {
         LineRead::Node(n, count, ranged) => node_step(g, n, count, ranged),
         LineRead::Process(p, n) => process_step(g, p, n),
-        LineRead::Last => stop(g, 0),
-        LineRead::Bad => stop(g, 2),
+        LineRead::Last => Ok(None),
+        LineRead::Bad => Err(Refusal::BadForm),
     }
 }
 
 // The first line with 2, 3, 4 or 6, with the lowest of its numbers; or what is given up to `(open)`.
-pub fn first_pass(text: &[u8]) -> Passed
+pub fn first_pass(text: &[u8]) -> Result<Given, Refused>
     ensures { Ends (first_pass [] 1 (lines_of text.now)) result }
 {
     let mut at = 0;
     let mut n = 1;
     let mut g = none_given();
+    // a while: at goes on by a whole line
     while at < text.len() {
         let e = line_end(text, at);
-        let step = pass_line(&text[at..e], g);
-        g = step.given;
-        if !step.going {
-            return Passed {
-                refusal: step.refusal,
-                line: n,
-                given: g,
-            };
+        match pass_line(&text[at..e], g) {
+            Ok(Some(given)) => {
+                g = given;
+                at = e;
+                n += 1;
+            }
+            Ok(None) => {
+                return Ok(g);
+            }
+            Err(refusal) => {
+                return Err(Refused {
+                    number: refusal.into(),
+                    line: n,
+                });
+            }
         }
-        at = e;
-        n += 1;
     }
-    Passed {
-        refusal: 2,
+    Err(Refused {
+        number: Refusal::BadForm.into(),
         line: n,
-        given: g,
-    }
+    })
 }

@@ -1,6 +1,6 @@
 // The second pass over an opening text, whose lines are good: 5, and rows and records written into the lent words as
 // they are read. A refused text leaves empty tables.
-ghost use Rattle.std.specs.Prelude.{◌≡◌, List, ◌+◌, ◌≤◌, length, replicate};
+ghost use Rattle.std.specs.Prelude.{◌≡◌, List, ◌+◌, ◌≤◌, None, length, replicate};
 ghost use Rattle.rows.specs.Tables.{empty};
 ghost use Rattle.rows.specs.Layout.{words_of};
 ghost use Rattle.rows.specs.vocabulary.Sizes.{ROWS, PROCESSES, IsTables, IsRecords};
@@ -14,7 +14,7 @@ use crate::call_line::GROUPS;
 use crate::opening_lines::{entry_at, line_end};
 use crate::opening_text::{first_pass, is_given};
 use crate::patterns::{is_whole, read_form};
-use crate::{Entry, Given, Naming, Verdict};
+use crate::{Entry, Given, Naming, Refusal, Refused};
 use changes::change;
 use rows::Row;
 use rows::codes::AN_OPERATION;
@@ -146,18 +146,19 @@ fn write_line(t: &mut [u32], p: &mut [u32], line: &[u8], g: Given, rows: usize) 
 }
 
 // The second pass: writes the forms of a text that the first pass read to `(open)`. The first line that names what is
-// not given, 0 for none; then all is written.
-fn write_forms(t: &mut [u32], p: &mut [u32], text: &[u8], g: Given) -> usize
+// not given; for none all is written.
+fn write_forms(t: &mut [u32], p: &mut [u32], text: &[u8], g: Given) -> Option<usize>
     requires sizes { IsTables t.old × IsRecords p.old }
     requires empty { BothRepresent t.old p.old empty }
     requires passed { PassedTo text.now g }
     ensures missing { Misses g text.now result }
-    ensures written { result ≡ 0 → FormsWritten text.now t.new p.new }
+    ensures written { result ≡ None → FormsWritten text.now t.new p.new }
     ensures long { IsTables t.new × IsRecords p.new }
 {
     let mut at = 0;
     let mut n = 1;
     let mut rows = 0;
+    // a while: at goes on by a whole line
     while at < text.len() {
         let e = line_end(text, at);
         let named = write_line(t, p, &text[at..e], g, rows);
@@ -168,46 +169,35 @@ fn write_forms(t: &mut [u32], p: &mut [u32], text: &[u8], g: Given) -> usize
                 n += 1;
             }
             Naming::Missing => {
-                return n;
+                return Some(n);
             }
             Naming::Ended => {
                 change::set_next(t, (rows + 1) as u32);
-                return 0;
+                return None;
             }
         }
     }
-    0
+    None
 }
 
 // ---- the opening
 // Reads an opening text of any bytes into empty tables: it is accepted and written, or refused with a number at a line,
 // and the tables are left empty.
 // Ruled out: 5 at a line before one with 2, 3, 4 or 6; rows of a text that is refused for its last line.
-pub fn read_opening(t: &mut [u32], p: &mut [u32], text: &[u8]) -> Verdict
+pub fn read_opening(t: &mut [u32], p: &mut [u32], text: &[u8]) -> Result<(), Refused>
     requires sizes { IsTables t.old × IsRecords p.old }
     requires empty { BothRepresent t.old p.old empty }
     ensures verdict { result ≡ verdict_of (opening_of (lines_of text.now)) }
     ensures written { OpeningWritten text.now t.new p.new }
 {
-    let passed = first_pass(text);
-    if 0 < passed.refusal {
-        return Verdict {
-            refusal: passed.refusal,
-            line: passed.line,
-        };
-    }
-    let given = passed.given;
-    let n = write_forms(t, p, text, given);
-    if 0 < n {
+    let given = first_pass(text)?;
+    if let Some(line) = write_forms(t, p, text, given) {
         clear_tables(t);
         clear(p);
-        return Verdict {
-            refusal: 5,
-            line: n,
-        };
+        return Err(Refused {
+            number: Refusal::NotListed.into(),
+            line,
+        });
     }
-    Verdict {
-        refusal: 0,
-        line: 0,
-    }
+    Ok(())
 }

@@ -1,5 +1,5 @@
 -- What the reader of an opening text tells of it: an entry, entries, a line, what is given, and how the passes end.
-use Rattle.std.specs.Prelude.{ℕ, suc, ◌+◌, ◌<◌, ◌≡◌, Bool, true, false, ◌&&◌, List, [], ◌∷◌, Option, Some, None, eqb, length, get_or, drop, if◌then◌else◌}
+use Rattle.std.specs.Prelude.{ℕ, suc, ◌+◌, ◌<◌, ◌≡◌, Bool, false, ◌&&◌, List, [], ◌∷◌, Option, Some, None, Result, Ok, Err, eqb, length, get_or, drop, if◌then◌else◌}
 use Rattle.rows.specs.Lists.{all, any}
 use Rattle.text.specs.declared.Read.{Read}
 use Rattle.text.specs.declared.Entry.{Entry}
@@ -7,14 +7,14 @@ use Rattle.text.specs.declared.EntriesRead.{EntriesRead}
 use Rattle.text.specs.declared.LineRead.{LineRead}
 use Rattle.text.specs.declared.LineRead.TheVariants.{Node, Process, Last, Bad}
 use Rattle.text.specs.declared.Given.{Given}
-use Rattle.text.specs.declared.Step.{Step}
-use Rattle.text.specs.declared.Passed.{Passed}
+use Rattle.text.specs.declared.Refusal.{Refusal}
+use Rattle.text.specs.declared.Refused.{Refused}
 use Rattle.text.specs.declared.Naming.{Naming}
 use Rattle.text.specs.declared.Naming.TheVariants.{Listed, Missing, Ended}
-use Rattle.text.specs.declared.Verdict.{Verdict}
 use Rattle.text.specs.Patterns.{form}
 use Rattle.text.specs.Opening.{operation_entry, subdirectory_entry, Entries, entry_ranged, Form, node_form, process_form, Line, last_line, form_line, bad_line, lines_of, process_line, open_line, entries_from, entries_in, gives_node, gives_process, form_refusal, entry_listed, form_listed, missing_at, first_pass, FirstPass, read_to, stopped_by, Opening, opens, refused_at}
 use Rattle.text.specs.vocabulary.Sizes.{GROUPS, NODES}
+use Rattle.text.specs.vocabulary.Refusals.{number_of}
 use Rattle.rows.specs.vocabulary.Sizes.{PROCESSES}
 
 -- ---- lines
@@ -68,16 +68,31 @@ pub record NodeTold (count : ℕ) (ranged : Bool) (es : List Entry) : Type 0 whe
   pub in-range : ranged ≡ all entry_ranged es
 
 -- ---- the first pass
-abbrev pub stopped : Given → ℕ → Step
-stopped g k = record { going = false; refusal = k; given = g }
+-- what one line does: the first pass goes on with what is given now, ends at `(open)`, or the line is refused
+abbrev pub Step : Type 0
+Step = Result (Option Given) Refusal
 
-abbrev pub gone-on : Given → Step
-gone-on g = record { going = true; refusal = 0; given = g }
+-- it goes on with what the forms fs give
+unfoldable pub GoesOn : List Form → Step → Type 0
+GoesOn fs (Ok (Some g)) = Gives g fs
+GoesOn fs (Ok None) = ⊥
+GoesOn fs (Err e) = ⊥
+
+-- it ends
+unfoldable pub EndsText : Step → Type 0
+EndsText (Ok (Some g)) = ⊥
+EndsText (Ok None) = Unit {0}
+EndsText (Err e) = ⊥
+
+-- it is refused with the number k
+unfoldable pub RefusedWith : ℕ → Step → Type 0
+RefusedWith k (Ok x) = ⊥
+RefusedWith k (Err e) = number_of e ≡ k
 
 -- what a form does after the forms fs: it is taken, or refused
 pub record FormSteps (fs : List Form) (f : Form) (r : Step) : Type 0 where
-  pub taken : form_refusal fs f ≡ 0 → (r.going ≡ true) × Gives r.given (f ∷ fs)
-  pub refused : (form_refusal fs f ≡ 0 → ⊥) → (r.going ≡ false) × (r.refusal ≡ form_refusal fs f)
+  pub taken : form_refusal fs f ≡ 0 → GoesOn (f ∷ fs) r
+  pub refused : (form_refusal fs f ≡ 0 → ⊥) → RefusedWith (form_refusal fs f) r
 
 -- of a node form whose entries are told by their number and range: its refusal; what it does
 abbrev pub RefusesNode : Given → ℕ → ℕ → Bool → ℕ → Type 0
@@ -88,14 +103,16 @@ StepsNode g n count ranged r = (fs : List Form) (es : List Entry) → Gives g fs
 
 -- what a line does after the forms fs
 unfoldable pub Steps : List Form → Line → Step → Type 0
-Steps fs last_line r = (r.going ≡ false) × (r.refusal ≡ 0) × Gives r.given fs
-Steps fs bad_line r = (r.going ≡ false) × (r.refusal ≡ 2)
+Steps fs last_line r = EndsText r
+Steps fs bad_line r = RefusedWith 2 r
 Steps fs (form_line f) r = FormSteps fs f r
 
--- how the first pass ends
-unfoldable pub Ends : FirstPass → Passed → Type 0
-Ends (read_to fs rest) r = (r.refusal ≡ 0) × Gives r.given fs
-Ends (stopped_by k n) r = (r.refusal ≡ k) × (r.line ≡ n) × (0 < k)
+-- how the first pass ends: with what the forms give, or with a refusal and its line
+unfoldable pub Ends : FirstPass → Result Given Refused → Type 0
+Ends (read_to fs rest) (Ok g) = Gives g fs
+Ends (read_to fs rest) (Err r) = ⊥
+Ends (stopped_by k n) (Ok g) = ⊥
+Ends (stopped_by k n) (Err r) = (r.number ≡ k) × (r.line ≡ n) × (0 < k)
 
 -- ---- the second pass
 -- whether the entries from a position on, n at most, name only what the forms fs give
@@ -128,11 +145,15 @@ NamesLine g rows l r = (fs : List Form) → Gives g fs → r ≡ naming fs rows 
 abbrev pub ReadTo : List ℕ → List Form → List (List ℕ) → Type 0
 ReadTo text fs rest = first_pass [] 1 (lines_of text) ≡ read_to fs rest
 
--- n is the first line that names what the forms do not give, 0 for none
-abbrev pub Misses : Given → List ℕ → ℕ → Type 0
-Misses g text n = (fs : List Form) (rest : List (List ℕ)) → ReadTo text fs rest → Gives g fs → n ≡ missing_at fs fs
+-- a line by its number, 0 for none
+unfoldable pub line_at : ℕ → Option ℕ
+line_at n = if eqb n 0 then None else Some n
+
+-- r is the first line that names what the forms do not give
+abbrev pub Misses : Given → List ℕ → Option ℕ → Type 0
+Misses g text r = (fs : List Form) (rest : List (List ℕ)) → ReadTo text fs rest → Gives g fs → r ≡ line_at (missing_at fs fs)
 
 -- ---- the opening
-unfoldable pub verdict_of : Opening → Verdict
-verdict_of (opens fs rest) = record { refusal = 0; line = 0 }
-verdict_of (refused_at k n) = record { refusal = k; line = n }
+unfoldable pub verdict_of : Opening → Result Unit Refused
+verdict_of (opens fs rest) = Ok tt
+verdict_of (refused_at k n) = Err (record { number = k; line = n })

@@ -1,7 +1,7 @@
 -- `opening_text::pass_line` meets its contract: by what the line is.
 use mathlib.Core.Path.{sym, ◌∙◌, refl}
 use Rattle.text.specs.Opening.{line_of}
-use Rattle.text.specs.vocabulary.Openings.{stopped}
+use Rattle.text.specs.vocabulary.Openings.{EndsText, RefusedWith}
 use Rattle.text.proofs.PassLaws.{steps-node, steps-process, steps-last, steps-bad}
 use Rattle.text.proofs.opening_text.pass_line.Goals as goal
 
@@ -16,11 +16,11 @@ returns-in-Process c =
     λ fs k. steps-process fs (line_of s) c.process_step.result _ _ (sym c.in-Process.is ∙ c.read_line-l.ensures) (c.process_step.ensures fs k)
 
 pub returns-in-Last : goal.returns-in-Last
+unfolding EndsText
 returns-in-Last c =
-    let a = c.args in
-    λ fs k. rw c.stop.ensures (steps-last fs (line_of a.line.now) (stopped a.g 0) (sym c.in-Last.is ∙ c.read_line-l.ensures) refl refl k)
+    λ fs k. steps-last fs (line_of c.args.line.now) _ (sym c.in-Last.is ∙ c.read_line-l.ensures) tt
 
 pub returns-in-Bad : goal.returns-in-Bad
+unfolding RefusedWith
 returns-in-Bad c =
-    let a = c.args in
-    λ fs k. rw c.stop-in-Bad.ensures (steps-bad fs (line_of a.line.now) (stopped a.g 2) (sym c.in-Bad.is ∙ c.read_line-l.ensures) refl refl)
+    λ fs k. steps-bad fs (line_of c.args.line.now) _ (sym c.in-Bad.is ∙ c.read_line-l.ensures) refl

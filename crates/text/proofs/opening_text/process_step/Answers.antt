@@ -1,20 +1,21 @@
 -- `opening_text::process_step` meets its contract.
-use mathlib.Core.Path.{sym, ◌∙◌}
+use mathlib.Core.Path.{refl, sym}
+use Rattle.std.proofs.lemmas.Result.{err_from_is_err_and}
 use Rattle.text.specs.Opening.{process_form}
 use Rattle.text.proofs.PassLaws.{form-goes, form-stops}
 use Rattle.text.proofs.opening_text.process_step.Goals as goal
 
-pub with_process-requires : goal.with_process-requires
-with_process-requires c = c.process_refusal-k.ensures.within c.if-k-eq0.true
-
-pub returns-then-k-eq0 : goal.returns-then-k-eq0
-returns-then-k-eq0 c =
+pub returns-in_err-process_refusal : goal.returns-in_err-process_refusal
+returns-in_err-process_refusal c =
     let a = c.args in
-    λ fs k.
-    let none = sym (c.process_refusal-k.ensures.refused fs k) ∙ c.if-k-eq0.true in
-    rw c.go_on.ensures (form-goes fs (process_form a.p a.n) c.with_process.result none (c.with_process.ensures fs k))
+    let no = c.in_err-process_refusal in
+    let p = err_from_is_err_and c.from_residual.result c.from_residual.ensures.1 in
+    λ fs k. rw (p.1, p.2) (form-stops fs (process_form a.p a.n) _ (no.ensures.refused fs k))
+
+pub with_process-requires : goal.with_process-requires
+with_process-requires c = c.in_ok-process_refusal.ensures.within refl
 
 pub returns : goal.returns
 returns c =
     let a = c.args in
-    λ fs k. rw c.stop.ensures (form-stops fs (process_form a.p a.n) a.g c.process_refusal-k.result (c.process_refusal-k.ensures.refused fs k) c.if-k-eq0.false)
+    λ fs k. form-goes fs (process_form a.p a.n) c.with_process.result (sym (c.in_ok-process_refusal.ensures.refused fs k)) (c.with_process.ensures fs k)

@@ -2,7 +2,7 @@ use Prim.Native.Nat.{ℕ}
 use native.Mathlib.Omega.{arith}
 use mathlib.Core.Path.{◌≡◌, sym, ◌∙◌}
 use Rattle.text.proofs.OpeningLaws.{line-some}
-use Rattle.text.proofs.WrittenForms.{forming-starts, forming-few, forming-fits, forming-goes-on, forming-missing, forming-stops, forming-ends, missing-told, written-told}
+use Rattle.text.proofs.WrittenForms.{forming-starts, forming-few, forming-fits, forming-goes-on, forming-missing, forming-stops, forming-ends, missing-told, line-at, no-line-at, written-told}
 use Rattle.text.proofs.opening_words.write_forms.Goals as goal
 
 pub loop-at-init : goal.loop-at-init
@@ -35,7 +35,7 @@ returns-in-Missing c =
     let named = sym c.in-Missing.is ∙ c.write_line-named.ensures.named k.forms k.gives in
     let missing = forming-missing k c.line_end-e.result (omega arith) c.line_end-e.ensures.ends named in
     let n = k.number in
-    record { missing = missing-told k c.loop-at.n missing; written = λ z. absurd (omega arith); long = c.write_line-named.ensures.long }
+    record { missing = missing-told k _ (line-at _ c.loop-at.n missing (omega arith)); written = λ z. absurd (let y : ◌≡◌ {A = ℕ} 0 1 = cc in omega arith); long = c.write_line-named.ensures.long }
 
 pub overflow_add-rows : goal.overflow_add-rows
 overflow_add-rows c =
@@ -59,7 +59,7 @@ returns-in-Ended c =
     let named = sym c.in-Ended.is ∙ c.write_line-named.ensures.named k.forms k.gives in
     let ended = c.write_line-named.ensures.written (λ z. let y : ◌≡◌ {A = ℕ} 0 1 = cc in omega arith) in
     let stops = forming-stops k c.line_end-e.result (omega arith) c.line_end-e.ensures.ends _ _ _ named ended sets.ensures.represents in
-    record { missing = missing-told k 0 stops.0; written = λ z. written-told k stops.1; long = (sets.ensures.long, c.write_line-named.ensures.long.1) }
+    record { missing = missing-told k _ (no-line-at _ stops.0); written = λ z. written-told k stops.1; long = (sets.ensures.long, c.write_line-named.ensures.long.1) }
 
 pub returns : goal.returns
 returns c = absurd (forming-ends c.loop-at.invariant.4 (omega arith))
