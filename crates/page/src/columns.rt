@@ -42,13 +42,12 @@ pub fn put_right(columns: &mut [u8], n: u32)
     requires { 0 < length columns.old }
     ensures { columns.new ≡ right_in (length columns.old) (digits_of n) }
 {
-    let value = n as u64;
-    let mut i = columns.len() - 1;
-    columns[i] = last_digit(value);
+    let value = u64::from(n);
+    let last = columns.len() - 1;
+    columns[last] = last_digit(value);
     let mut left = value / 10;
-    while 0 < i {
-        i -= 1;
+    for i in (0..last).rev() {
         columns[i] = digit_or_space(left);
-        left = left / 10;
+        left /= 10;
     }
 }

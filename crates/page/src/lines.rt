@@ -139,13 +139,14 @@ pub fn write_lines(t: &[u32], from: usize, out: &mut [u8]) -> usize
     ensures { WritesLines t.now from out.old out.new result }
 {
     let rows = rows_in(t);
-    let mut i = from;
     let mut n = 0;
-    while i < rows && LINE <= out.len() - n {
+    for i in from..rows {
+        if out.len() - n < LINE {
+            break;
+        }
         write_line(t, i, &mut out[n..n + WIDTH]);
         out[n + WIDTH] = b'\n';
         n += LINE;
-        i += 1;
     }
     n
 }

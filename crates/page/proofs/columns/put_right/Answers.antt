@@ -12,7 +12,7 @@ loop-i-init c =
     let a = c.args in
     let d = a.columns.now in
     let b = c.last_digit.result in
-    (refl, omega (arith, length-set d (length d - 1) b), rw c.last_digit.ensures (right-start d a.n (omega arith) (omega arith)))
+    (refl, omega (arith, length-set d (length d - 1) b), rw (c.last_digit.ensures, c.from-value.ensures) (right-start d a.n (omega arith) (omega arith)))
 
 pub loop-i-preserved : goal.loop-i-preserved
 loop-i-preserved c =

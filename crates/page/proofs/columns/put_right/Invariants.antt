@@ -10,6 +10,3 @@ use Rattle.page.proofs.columns.put_right.Given as goal
 
 abbrev pub invariant-loop-i : goal.invariant-loop-i
 invariant-loop-i l = (length l.columns ≡ length l.initial.columns) × (l.i < length l.initial.columns) × (before l.i l.left ++ drop l.i l.columns ≡ right_in (length l.initial.columns) (digits_of l.n))
-
-abbrev pub decreases-loop-i : goal.decreases-loop-i
-decreases-loop-i l = l.i

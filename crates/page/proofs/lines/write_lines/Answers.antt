@@ -15,18 +15,18 @@ unfolding lines_from
 loop-i-init c =
     let a = c.args in
     let none : a.from - a.from ≡ 0 = omega arith in
-    (omega arith, omega arith, omega arith, refl, omega arith, rw none refl)
+    (omega arith, omega arith, refl, omega arith, rw none refl)
 
 pub slice_bounds-write_line-end : goal.slice_bounds-write_line-end
 slice_bounds-write_line-end c =
     let l = c.loop-i in
-    let room = c.if-out-n-ge-LINE.true in
+    let room = c.if-out-n-lt-LINE.false in
     search rules
 
 pub bounds-out-n : goal.bounds-out-n
 bounds-out-n c =
     let l = c.loop-i in
-    let room = c.if-out-n-ge-LINE.true in
+    let room = c.if-out-n-lt-LINE.false in
     let same = c.out-1.given.1 in
     omega (arith, room, same)
 
@@ -35,29 +35,28 @@ loop-i-preserved c =
     let a = c.args in
     let l = c.loop-i in
     let more = c.loop-i-test.true in
-    let room = c.if-out-n-ge-LINE.true in
-    let written = line-written a.t.now a.out.now l.out _ a.from l.i l.n (l.n + WIDTH - l.n) (omega arith) l.invariant.0 l.invariant.2 l.invariant.3 room l.invariant.5 c.write_line.ensures in (
-      omega (arith, l.invariant.0),
-      omega (arith, l.invariant.0, more),
-      omega (arith, l.invariant.0, l.invariant.2),
+    let room = c.if-out-n-lt-LINE.false in
+    let written = line-written a.t.now a.out.now l.out _ a.from l.i l.n (l.n + WIDTH - l.n) (omega arith) l.auto.i l.invariant.1 l.invariant.2 room l.invariant.4 c.write_line.ensures in (
+      omega (arith, l.auto.i, more),
+      omega (arith, l.auto.i, l.invariant.1),
       written.0,
-      omega (arith, room, l.invariant.3),
+      omega (arith, room, l.invariant.2),
       written.1,
     )
 
-pub returns-else-out-n-ge-LINE : goal.returns-else-out-n-ge-LINE
-returns-else-out-n-ge-LINE c =
+pub returns-then-out-n-lt-LINE : goal.returns-then-out-n-lt-LINE
+returns-then-out-n-lt-LINE c =
     let a = c.args in
     let l = c.loop-i in
     let k = l.i - a.from in
     let counted = c.rows_in-rows.ensures.counted in
-    let few = l.invariant.1 in
-    let full = c.if-out-n-ge-LINE.false in
+    let few = l.invariant.0 in
+    let full = c.if-out-n-lt-LINE.true in
     let fit : lines_fit (rows_in a.t.now) a.from (length a.out.now) ≡ k =
-    rw (← counted) (fit-full _ a.from (length a.out.now) k (omega (arith, c.loop-i-test.true, l.invariant.0)) (omega (arith, l.invariant.2, l.invariant.4)) (omega (arith, full, l.invariant.2, l.invariant.3))) in
+    rw (← counted) (fit-full _ a.from (length a.out.now) k (omega (arith, c.loop-i-test.true, l.auto.i)) (omega (arith, l.invariant.1, l.invariant.3)) (omega (arith, full, l.invariant.1, l.invariant.2))) in
     record {
-      count = l.invariant.2 ∙ ap (λ (m : ℕ). LINE * m) (sym fit);
-      lines = l.invariant.5 ∙ ap (λ (m : ℕ). lines_from a.t.now a.from m ++ drop l.n a.out.now) (sym fit);
+      count = l.invariant.1 ∙ ap (λ (m : ℕ). LINE * m) (sym fit);
+      lines = l.invariant.4 ∙ ap (λ (m : ℕ). lines_from a.t.now a.from m ++ drop l.n a.out.now) (sym fit);
     }
 
 pub returns-after-loop-i : goal.returns-after-loop-i
@@ -66,10 +65,10 @@ returns-after-loop-i c =
     let l = c.loop-i in
     let k = l.i - a.from in
     let counted = c.rows_in-rows.ensures.counted in
-    let few = l.invariant.1 in
+    let few = l.invariant.0 in
     let fit : lines_fit (rows_in a.t.now) a.from (length a.out.now) ≡ k =
-    rw (← counted) (fit_all _ a.from (length a.out.now) k few (omega (arith, l.invariant.2, l.invariant.4)) (omega (arith, c.loop-i-test.false, l.invariant.0))) in
+    rw (← counted) (fit_all _ a.from (length a.out.now) k few (omega (arith, l.invariant.1, l.invariant.3)) (omega (arith, c.loop-i-test.false, l.auto.i))) in
     record {
-      count = l.invariant.2 ∙ ap (λ (m : ℕ). LINE * m) (sym fit);
-      lines = l.invariant.5 ∙ ap (λ (m : ℕ). lines_from a.t.now a.from m ++ drop l.n a.out.now) (sym fit);
+      count = l.invariant.1 ∙ ap (λ (m : ℕ). LINE * m) (sym fit);
+      lines = l.invariant.4 ∙ ap (λ (m : ℕ). lines_from a.t.now a.from m ++ drop l.n a.out.now) (sym fit);
     }

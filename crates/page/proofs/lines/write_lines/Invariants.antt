@@ -8,8 +8,5 @@ use Rattle.page.specs.vocabulary.Columns.{LINE}
 use Rattle.page.proofs.lines.write_lines.Given as goal
 
 abbrev pub invariant-loop-i : goal.invariant-loop-i
-invariant-loop-i l = (l.from ≤ l.i) × (l.i - l.from ≤ l.rows - l.from) × (l.n ≡ LINE * (l.i - l.from)) × (length l.out ≡ length l.initial.out) × (l.n ≤ length l.initial.out)
+invariant-loop-i l = (l.i - l.from ≤ l.rows - l.from) × (l.n ≡ LINE * (l.i - l.from)) × (length l.out ≡ length l.initial.out) × (l.n ≤ length l.initial.out)
     × (l.out ≡ lines_from l.t l.from (l.i - l.from) ++ drop l.n l.initial.out)
-
-abbrev pub decreases-loop-i : goal.decreases-loop-i
-decreases-loop-i l = l.rows - l.i
