@@ -135,18 +135,23 @@ pub fn feed(
     ensures within { result.printed ≤ length out.new }
 {
     let mut here = k;
-    let mut i = at;
     let mut n = 0;
-    while i < part.len() && REPLY <= out.len() - n {
+    for i in at..part.len() {
+        if out.len() - n < REPLY {
+            return Fed {
+                kept: here,
+                printed: n,
+                next: i,
+            };
+        }
         let moved = feed_byte(tables, processes, kept, here, part[i], &mut out[n..]);
         here = moved.kept;
         n += moved.printed;
-        i += 1;
     }
     Fed {
         kept: here,
         printed: n,
-        next: i,
+        next: part.len(),
     }
 }
 

@@ -18,7 +18,7 @@ feed_byte-moved-requires c =
     let ready = feeding-ready c.args.part.now c.args.at c.args.k c.args.kept.now c.args.tables.now c.args.processes.now c.args.out.now l.here l.kept l.tables l.processes l.out l.i l.n l.invariant.0 c.requires.ready l.invariant.3 in
     let left = length-drop l.n l.out in
     let rest = length-take-le (length l.out - l.n) (drop l.n l.out) (omega arith) in
-    let some = c.if-out-n-ge-REPLY.true in
+    let some = c.if-out-n-lt-REPLY.false in
     let room : REPLY ≤ length (take (length l.out - l.n) (drop l.n l.out)) = omega arith in
     (reached-room l.here _ _ _ ready.long ready.stands ready.reached, room)
 
@@ -29,18 +29,6 @@ overflow_add-n c =
     let short = feeding-within c.args.part.now c.args.at c.args.k c.args.kept.now c.args.tables.now c.args.processes.now c.args.out.now l.here l.kept l.tables l.processes l.out l.i l.n l.invariant.0 l.invariant.5 _ m.result _ _ _ _ m.ensures c.out-1.given.0 in
     search rules
 
-pub overflow_add-i : goal.overflow_add-i
-overflow_add-i c =
-    let taken = c.loop-i-test.true in
-    let good = c.well_formed in
-    search rules
-
-pub loop-i-smaller : goal.loop-i-smaller
-loop-i-smaller c =
-    let l = c.loop-i in
-    let t = c.loop-i-test.true in
-    omega arith
-
 pub loop-i-preserved : goal.loop-i-preserved
 loop-i-preserved c =
     let l = c.loop-i in
@@ -49,15 +37,14 @@ loop-i-preserved c =
     let same = c.out-1.given.1 in
     (feeding-goes-on c.args.part.now c.args.at c.args.k c.args.kept.now c.args.tables.now c.args.processes.now c.args.out.now l.here l.kept l.tables l.processes l.out l.i l.n l.invariant.0 c.loop-i-test.true l.invariant.5 m.result _ _ _ _ m.ensures, c.tables-1.given ∙ l.invariant.1, c.processes-1.given ∙ l.invariant.2, c.kept-1.given ∙ l.invariant.3, same ∙ l.invariant.4, omega arith)
 
-pub returns-else-out-n-ge-REPLY : goal.returns-else-out-n-ge-REPLY
-returns-else-out-n-ge-REPLY c =
+pub returns-then-out-n-lt-REPLY : goal.returns-then-out-n-lt-REPLY
+returns-then-out-n-lt-REPLY c =
     let l = c.loop-i in
     let f = l.invariant.0 in
-    let full = c.if-out-n-ge-REPLY.false in
+    let full = c.if-out-n-lt-REPLY.true in
     record { fed = f.takes; ready = feeding-ready c.args.part.now c.args.at c.args.k c.args.kept.now c.args.tables.now c.args.processes.now c.args.out.now l.here l.kept l.tables l.processes l.out l.i l.n l.invariant.0 c.requires.ready l.invariant.3; reads = (f.low, f.high, λ some. feeding-full c.args.part.now c.args.at c.args.k c.args.kept.now c.args.tables.now c.args.processes.now c.args.out.now l.here l.kept l.tables l.processes l.out l.i l.n l.invariant.0 full (omega arith)); within = l.invariant.5 }
 
-pub returns-after-loop-i : goal.returns-after-loop-i
-returns-after-loop-i c =
+pub returns-clause-ready : goal.returns-clause-ready
+returns-clause-ready c =
     let l = c.loop-i in
-    let f = l.invariant.0 in
-    record { fed = f.takes; ready = feeding-ready c.args.part.now c.args.at c.args.k c.args.kept.now c.args.tables.now c.args.processes.now c.args.out.now l.here l.kept l.tables l.processes l.out l.i l.n l.invariant.0 c.requires.ready l.invariant.3; reads = (f.low, f.high, λ some. omega arith); within = l.invariant.5 }
+    feeding-ready c.args.part.now c.args.at c.args.k c.args.kept.now c.args.tables.now c.args.processes.now c.args.out.now l.here l.kept l.tables l.processes l.out l.i l.n l.invariant.0 c.requires.ready l.invariant.3
