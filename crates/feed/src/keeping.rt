@@ -13,14 +13,8 @@ pub fn keep_byte(kept: &mut [u8], k: Kept, b: u8) -> Kept
     requires { HasRoom k kept.old }
     ensures { KeepsByte b k kept.old result kept.new }
 {
-    let at = k.text;
-    let line = kept_lines::keep_byte(&mut kept[at..], k.line, b);
-    let stage = k.stage;
-    Kept {
-        stage,
-        text: at,
-        line,
-    }
+    let line = kept_lines::keep_byte(&mut kept[k.text..], k.line, b);
+    Kept { line, ..k }
 }
 
 // How many lines a text has. Ruled out: a last line without its line feed is not counted.
@@ -29,6 +23,7 @@ pub fn count_lines(text: &[u8]) -> usize
 {
     let mut at = 0;
     let mut n = 0;
+    // a while: at goes on by a whole line, whose end is looked for
     while at < text.len() {
         at = line_end(text, at);
         n += 1;

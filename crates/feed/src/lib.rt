@@ -3,7 +3,7 @@
 #![tactic(auto)]
 
 // What is read now: the opening text, or calls; or the session is over, after a refused opening.
-#[derive(Clone, Copy)]
+#[derive(Clone, Copy, PartialEq, Eq)]
 pub enum Stage {
     Opening,
     Calls,

@@ -12,6 +12,8 @@ use crate::{Fed, Kept, Moved, Stage};
 use entry::exports::{tablet_call, tablet_open};
 use text::REPLY;
 
+// Both runs, the buffer, what is kept in it and the output stay parameters: `Takes`, from which the theorem on every run
+// starts, speaks of each as it was and as it is, and a struct of references to them would say the same field by field.
 // ---- a line has ended
 // At the start of a line, after so many bytes were printed.
 fn line_start(stage: Stage, text: usize, printed: usize) -> Moved
@@ -79,8 +81,7 @@ pub fn line_ended(
         k kept.now tables.old processes.old out.old
         result kept.now tables.new processes.new out.new }
 {
-    let stage = k.stage;
-    match stage {
+    match k.stage {
         Stage::Opening => opening_line(tables, processes, kept, k, out),
         Stage::Calls => call_line(tables, processes, kept, k, out),
         Stage::Over => line_start(Stage::Over, 0, 0),
@@ -184,8 +185,7 @@ pub fn finish(
 {
     let at = k.text;
     let end = k.text + k.line;
-    let stage = k.stage;
-    match stage {
+    match k.stage {
         Stage::Opening => tablet_open(tables, processes, &kept[..end], out),
         Stage::Calls => {
             if at == end {
