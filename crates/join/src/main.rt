@@ -3,20 +3,9 @@
 #![tactic(auto)]
 
 use crate::texts::join;
-use joining::{DIRECTORY, Joining};
-use std::io::Write;
-use stdio::{End, PART};
+use joining::DIRECTORY;
+use stdio::PART;
 use text::kept_lines::KEPT_LINE;
-
-// How far the texts are read, how many bytes are kept of the line begun, whether to read on, and whether the input could
-// be read.
-#[derive(Clone, Copy)]
-pub struct Turn {
-    pub joining: Joining,
-    pub line: usize,
-    pub going: bool,
-    pub read: bool,
-}
 
 mod texts;
 
@@ -29,7 +18,7 @@ fn main(rt: HostRuntime) {
     let mut line = [0u8; KEPT_LINE];
     let mut part = [0u8; PART];
     let mut out = [0u8; LINES];
-    let end = join(
+    let joined = join(
         &mut rt.stdin(),
         &mut rt.stdout(),
         &mut first,
@@ -38,15 +27,7 @@ fn main(rt: HostRuntime) {
         &mut part,
         &mut out,
     );
-    match end {
-        End::Good => {}
-        End::NotRead => {
-            let _ = rt.stderr().write_all(b"join: the input cannot be read\n");
-        }
-        End::NotWritten => {
-            let _ = rt
-                .stderr()
-                .write_all(b"join: the output cannot be written\n");
-        }
+    if let Err(e) = joined {
+        let _ = eprintln!(rt; "join: {e}");
     }
 }

@@ -5,47 +5,11 @@ ghost use Rattle.text.specs.vocabulary.Sizes.{REPLY, KEPT-LINE};
 ghost use Rattle.joining.specs.vocabulary.Directories.{DIRECTORY};
 ghost use Rattle.joining.specs.vocabulary.Reading.{Ready, ReadyTexts};
 
-use crate::Turn;
 use joining::answers::write_answer;
 use joining::{Joining, SLOTS, feeding};
 use std::io::{Read, Write};
-use stdio::End;
+use stdio::Error;
 use stdio::sessions::write_out;
-
-// Reads once, and feeds what came. At the end of the input nothing more is read.
-fn read_once<R: Read>(
-    reader: &mut R,
-    first: &mut [u32],
-    second: &mut [u32],
-    line: &mut [u8],
-    j: Joining,
-    n: usize,
-    part: &mut [u8],
-) -> Turn
-    requires { ReadyTexts j n line.old first.old second.old }
-    ensures { ReadyTexts result.joining result.line line.new first.new second.new }
-{
-    let read = match reader.read(part) {
-        Ok(0) => true,
-        Ok(m) => {
-            let fed = feeding::feed(first, second, line, j, n, &part[..m]);
-            let joining = fed.joining;
-            return Turn {
-                joining,
-                line: fed.line,
-                going: feeding::is_going(joining),
-                read: true,
-            };
-        }
-        Err(_) => false,
-    };
-    Turn {
-        joining: j,
-        line: n,
-        going: false,
-        read,
-    }
-}
 
 // Prints the answer, as many lines at once as `out` has room for: the joined text may be longer.
 fn print_answer<W: Write>(
@@ -54,22 +18,22 @@ fn print_answer<W: Write>(
     second: &[u32],
     j: Joining,
     out: &mut [u8],
-) -> End
+) -> Result<(), Error>
     requires { Ready j first.now second.now × (REPLY ≤ length out.old) }
 {
     let v = feeding::finish(first, second, j);
     let mut from = 0;
+    // a while: from goes on by as many slots as had room
     while from < SLOTS {
         let written = write_answer(first, second, v, from, out);
-        if !write_out(writer, out, written.printed) {
-            return End::NotWritten;
-        }
+        write_out(writer, out, written.printed)?;
         from = written.next;
     }
-    End::Good
+    Ok(())
 }
 
-// Reads two texts, turn after turn from a number of them that no input uses up, and prints them joined.
+// Reads two texts, a part a turn, until both have ended or the input has, and prints them joined. No input uses up the
+// number of turns.
 pub fn join<R: Read, W: Write>(
     reader: &mut R,
     writer: &mut W,
@@ -78,25 +42,25 @@ pub fn join<R: Read, W: Write>(
     line: &mut [u8],
     part: &mut [u8],
     out: &mut [u8],
-) -> End
+) -> Result<(), Error>
     requires words { (length first.old ≡ DIRECTORY) × (length second.old ≡ DIRECTORY) }
     requires bytes { (length line.old ≡ KEPT-LINE) × (REPLY ≤ length out.old) }
 {
     let mut here = feeding::begin(first, second);
     let mut kept = 0;
-    let mut going = true;
-    let mut read = true;
-    let mut turns = u64::MAX;
-    while going && turns > 0 {
-        let next = read_once(reader, first, second, line, here, kept, part);
-        here = next.joining;
-        kept = next.line;
-        going = next.going;
-        read = next.read;
-        turns -= 1;
-    }
-    if !read {
-        return End::NotRead;
+    for _ in 0..u64::MAX {
+        let Ok(n) = reader.read(part) else {
+            return Err(Error::NotRead);
+        };
+        if n == 0 {
+            break;
+        }
+        let fed = feeding::feed(first, second, line, here, kept, &part[..n]);
+        here = fed.joining;
+        kept = fed.line;
+        if !feeding::is_going(here) {
+            break;
+        }
     }
     print_answer(writer, first, second, here, out)
 }

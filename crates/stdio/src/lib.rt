@@ -1,24 +1,26 @@
-// What the programs share: a session read from an input in parts, its answers printed to an output or not.
+// What the programs share: a session read from an input in parts, its answers written to an output.
 
 #![tactic(auto)]
 
-use feed::Kept;
+use std::fmt;
 
-// How a session ended: read to its end, or the input could not be read, or the output not written.
-#[derive(Clone, Copy)]
-pub enum End {
-    Good,
+// Why a session does not come to its end: the input cannot be read, or the output not written.
+#[derive(Clone, Copy, Debug, PartialEq, Eq)]
+pub enum Error {
     NotRead,
     NotWritten,
 }
 
-// What is kept after a part, whether to read on, and how the session has ended if not.
-#[derive(Clone, Copy)]
-pub struct Turn {
-    pub kept: Kept,
-    pub going: bool,
-    pub end: End,
+impl fmt::Display for Error {
+    fn fmt<W: fmt::Write>(&self, f: &mut fmt::Formatter<W>) -> fmt::Result {
+        match self {
+            Error::NotRead => write!(f, "the input cannot be read"),
+            Error::NotWritten => write!(f, "the output cannot be written"),
+        }
+    }
 }
+
+impl std::error::Error for Error {}
 
 // bytes read at most at once; bytes printed at most before they are written
 pub const PART: usize = 65536;

@@ -4,9 +4,8 @@
 
 use feed::KEPT;
 use rows::layout::{RECORDS, TABLES};
-use std::io::Write;
+use stdio::PART;
 use stdio::sessions::run;
-use stdio::{End, PART};
 
 fn main(rt: HostRuntime) {
     let mut tables = [0u32; TABLES];
@@ -14,7 +13,7 @@ fn main(rt: HostRuntime) {
     let mut kept = [0u8; KEPT];
     let mut part = [0u8; PART];
     let mut out = [0u8; PART];
-    let end = run(
+    let session = run(
         &mut rt.stdin(),
         &mut rt.stdout(),
         &mut tables,
@@ -22,17 +21,8 @@ fn main(rt: HostRuntime) {
         &mut kept,
         &mut part,
         &mut out,
-        true,
     );
-    match end {
-        End::Good => {}
-        End::NotRead => {
-            let _ = rt.stderr().write_all(b"tablet: the input cannot be read\n");
-        }
-        End::NotWritten => {
-            let _ = rt
-                .stderr()
-                .write_all(b"tablet: the output cannot be written\n");
-        }
+    if let Err(e) = session {
+        let _ = eprintln!(rt; "tablet: {e}");
     }
 }

@@ -4,8 +4,5 @@ use Rattle.text.specs.vocabulary.Sizes.{REPLY}
 use Rattle.joining.specs.vocabulary.Reading.{ReadyTexts}
 use Rattle.join.proofs.texts.join.Given as goal
 
-abbrev pub invariant-loop-going : goal.invariant-loop-going
-invariant-loop-going g l = ReadyTexts l.here l.kept l.line l.first l.second × (REPLY ≤ length l.out)
-
-abbrev pub decreases-loop-going : goal.decreases-loop-going
-decreases-loop-going g l = l.turns
+abbrev pub invariant-loop : goal.invariant-loop
+invariant-loop g l = ReadyTexts l.here l.kept l.line l.first l.second × (REPLY ≤ length l.out)

@@ -1,7 +1,7 @@
 -- `sessions::run`: a session that has begun is ready, whatever stands in the buffer and the runs.
 use Rattle.stdio.proofs.sessions.run.Goals as goal
 
-pub loop-going-init : goal.loop-going-init
-loop-going-init g c =
+pub loop-init : goal.loop-init
+loop-init g c =
     let begun = c.begin-here.ensures c.args.kept.now c.args.tables.now c.args.processes.now c.requires.bytes.0 c.requires.words.0 c.requires.words.1 in
-    (λ _. begun.1, c.requires.bytes.1)
+    (begun.1, c.requires.bytes.1)
