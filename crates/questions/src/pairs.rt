@@ -5,7 +5,6 @@ ghost use Rattle.rows.specs.vocabulary.Sizes.{ROWS, IsTables};
 ghost use Rattle.changes.specs.vocabulary.Bits.{bit};
 ghost use Rattle.questions.specs.vocabulary.Pairs.{PAIRS, BitsOfAsking, mark_at, NoneYet, MarksRow, MarksPairs};
 
-use changes::bits::least;
 use rows::layout::{REQUEST, ROWS, SOURCE, VIA};
 
 // the pairs of one pass
@@ -21,7 +20,7 @@ fn asking(requests: &[u32; PAIRS], q: u32) -> u16
 {
     let mut bits = 0u16;
     for k in 0..PAIRS {
-        bits = bits | (((requests[k] == q) as u16) << k);
+        bits |= u16::from(requests[k] == q) << k;
     }
     bits
 }
@@ -31,7 +30,7 @@ fn asking(requests: &[u32; PAIRS], q: u32) -> u16
 fn marks_at(marks: &PairMarks, s: u32) -> u16
     ensures { s ≤ ROWS → result ≡ mark_at marks.now s }
 {
-    marks[least(s as usize, ROWS)]
+    marks[(s as usize).min(ROWS)]
 }
 
 // The marks of the row in slot i, once those of all older rows are there.

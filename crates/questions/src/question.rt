@@ -69,8 +69,7 @@ fn row_question(t: &[u32], s: u32, q: u32, d: u32) -> bool
     ensures { Reaches t.now s q d result }
 {
     let mut word = s;
-    let mut left = d;
-    while 0 < left {
+    for left in (0..d).rev() {
         if word == 0 {
             return false;
         }
@@ -81,11 +80,10 @@ fn row_question(t: &[u32], s: u32, q: u32, d: u32) -> bool
         if touched(t, i, q) {
             return true;
         }
-        if via_question(t, i, q, left) {
+        if via_question(t, i, q, left + 1) {
             return true;
         }
         word = t[SOURCE + i];
-        left -= 1;
     }
     false
 }

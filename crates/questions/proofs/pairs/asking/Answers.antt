@@ -9,7 +9,7 @@ loop-k-init c = (search rules, asked-none _ _)
 pub loop-k-preserved : goal.loop-k-preserved
 loop-k-preserved c =
     let a = c.args in
-    (search rules, asked-turn a.requests.now a.q c.loop-k.k c.loop-k.bits (omega arith) c.loop-k.invariant.1)
+    (search rules, rw c.from.ensures (asked-turn a.requests.now a.q c.loop-k.k c.loop-k.bits (omega arith) c.loop-k.invariant.1))
 
 pub returns : goal.returns
 returns c =

@@ -1,5 +1,5 @@
 -- The bits of the pairs looked at are right, and no other is set.
-use Prim.Native.Nat.{◌≤◌, ◌-◌}
+use Prim.Native.Nat.{◌≤◌}
 use Rattle.questions.proofs.PairMarks.{AskedTo}
 use Rattle.questions.proofs.pairs.asking.Given as goal
 

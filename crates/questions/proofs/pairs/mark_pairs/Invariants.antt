@@ -1,5 +1,5 @@
 -- The marks of the rows passed are right.
-use Prim.Native.Nat.{◌≤◌, ◌-◌}
+use Prim.Native.Nat.{◌≤◌}
 use mathlib.Core.Path.{◌≡◌}
 use lib.ListN.{length}
 use Rattle.questions.specs.vocabulary.Pairs.{MarksPairs}

@@ -6,4 +6,4 @@ use lib.ListN.{get_or}
 use Rattle.questions.proofs.pairs.marks_at.Goals as goal
 
 pub returns : goal.returns
-returns c = λ low. ap (λ (x : ℕ). get_or c.args.marks.now x 0) (omega (arith, c.least.ensures, low))
+returns c = λ low. ap (λ (x : ℕ). get_or c.args.marks.now x 0) (omega (arith, c.min.ensures, low))

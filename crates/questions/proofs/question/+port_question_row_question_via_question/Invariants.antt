@@ -1,5 +1,5 @@
 -- The measure of the cycle is twice the depth: a row's question may ask of its second source at the same depth.
-use Rattle.std.proofs.Common.{◌+◌, ◌≤◌}
+use Rattle.std.proofs.Common.{◌+◌}
 use mathlib.Core.Bool.{Bool}
 use Rattle.questions.specs.vocabulary.Questions.{Reaches}
 use Rattle.questions.proofs.question.+port_question_row_question_via_question.Given as goal
@@ -14,7 +14,4 @@ abbrev pub decreases-via_question : goal.decreases-via_question
 decreases-via_question l = l.d + l.d
 
 abbrev pub invariant-row_question-loop-left : goal.invariant-row_question-loop-left
-invariant-row_question-loop-left l = (l.left ≤ l.d) × ((r : Bool) → Reaches l.t l.word l.q l.left r → Reaches l.t l.s l.q l.d r)
-
-abbrev pub decreases-row_question-loop-left : goal.decreases-row_question-loop-left
-decreases-row_question-loop-left l = l.left
+invariant-row_question-loop-left l = (r : Bool) → Reaches l.t l.word l.q l.left r → Reaches l.t l.s l.q l.d r

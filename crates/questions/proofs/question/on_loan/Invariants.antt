@@ -1,5 +1,5 @@
 -- `question::on_loan` meets its contract: `found` says whether one of the requests that the loop passed lists the end.
-use Prim.Native.Nat.{◌≤◌, ◌-◌}
+use Prim.Native.Nat.{◌≤◌}
 use mathlib.Core.Path.{◌≡◌}
 use Rattle.questions.proofs.Listed.{listed_to}
 use Rattle.questions.proofs.question.on_loan.Given as goal
