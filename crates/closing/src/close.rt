@@ -1,4 +1,5 @@
-// The three closings over the lent words: of a request, of a port, and the drop of one row.
+// The three closings over the lent words: of a request, of a port, and the drop of one row: instances of one function,
+// each with its own definition. t and ps are lent apart, as the C interface lends them.
 ghost use Rattle.std.specs.Prelude.{◌≡◌, ◌≤◌};
 ghost use Rattle.rows.specs.vocabulary.Sizes.{ROWS, IsTables, IsRecords};
 ghost use Rattle.changes.specs.vocabulary.Bits.{marks_in, gones};

@@ -1,4 +1,5 @@
-// Processes that stand in a node through a removed row go to their prime node.
+// Processes that stand in a node through a removed row go to their prime node. Gone through no row is 0, no Option: a
+// record is three lent words.
 ghost use Rattle.std.specs.Prelude.{◌≤◌};
 ghost use Rattle.rows.specs.vocabulary.Sizes.{ROWS, IsTables, IsRecords};
 ghost use Rattle.changes.specs.vocabulary.Bits.{marks_in};
@@ -54,6 +55,7 @@ fn any_away(ps: &[u32]) -> bool
     requires { IsRecords ps.now }
     ensures { AwayIfAny ps.now result }
 {
+    // no .any(..): it would stop early, and most often every record is looked at
     let mut away = false;
     for k in 0..PROCESSES {
         let x = records::record_at(ps, k);

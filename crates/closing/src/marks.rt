@@ -1,4 +1,7 @@
 // Marks of what a closing takes: the rows that come from its seeds, and the requests that close with them.
+// Words of rows are read one by one, kinds as numbers: the lent words may hold any.
+// That nothing is marked before the first seed is a clause of three functions, no field of a struct: marks are set word
+// by word in a local, so the field would be shown at each store, and the three would still name marks and slot.
 ghost use Rattle.std.specs.Prelude.{◌≡◌, ◌≤◌, ◌<◌};
 ghost use Rattle.rows.specs.Lists.{member};
 ghost use Rattle.rows.specs.Layout.{raw_row};

@@ -1,5 +1,6 @@
 // The first stage of `sound`: numbers rise, sources stand before their rows, unused slots are 0. Every word is looked
 // at, with no way out early, so that the loops run over many words at once.
+// t is lent and n or m is counted once a call; a struct of both would be named in each clause, and is no plainer.
 ghost use Rattle.std.specs.Prelude.{◌+◌, ◌*◌, ◌≤◌, length};
 ghost use Rattle.rows.specs.vocabulary.Sizes.{ROWS, REQUESTS, IsTables};
 ghost use Rattle.soundness.specs.vocabulary.Laid.{Decides, Rising, Older, ZeroFrom, RowsUnused, RequestsUnused};
@@ -84,6 +85,7 @@ pub fn requests_unused(t: &[u32], m: usize) -> bool
     columns_unused(t, Q_NUMBER, REQUESTS, REQUEST_COLUMNS, m)
 }
 
+// Two functions, not one: rows have two columns of sources, requests have none.
 // Whether n rows stand in the first slots, as a state lays them out.
 // Ruled out: yes where a source is not older than its row; yes where two numbers fall.
 pub fn rows_laid(t: &[u32], n: usize) -> bool

@@ -1,4 +1,5 @@
 // The clauses of soundness of the process records and of the next number, each named as in rows/specs/Sound.antt.
+// Kinds, places and 0 for none are numbers, no enums and no Option: the lent words may hold any, as `sound` says.
 ghost use Rattle.std.specs.Prelude.{◌≡◌, ◌<◌, ◌≤◌, length};
 ghost use Rattle.rows.specs.Lists.{all};
 ghost use Rattle.rows.specs.Sound.{record_in_range, process_placed, placed_from};
@@ -16,7 +17,7 @@ use rows::read::row_at;
 use rows::records::record_at;
 
 // ---- the next number
-// The last of the first k words of a column, 0 for none. Ruled out: the word after it; the first word.
+// The last of the first k words of a column, 0 for none, as `before` has it, so that it is below any next number. Ruled out: the word after it; the first word.
 pub fn last_of(column: &[u32], k: usize) -> u32
     requires { k ≤ length column.now }
     ensures { result ≡ before column.now k }

@@ -15,6 +15,8 @@ use soundness_loans::holder_clauses::holders_sound;
 use soundness_loans::request_clauses::requests_sound;
 use soundness_rows::rows_sound::rows_sound;
 
+// Groups of tests joined by & look alike, here and in the crates below: each names other clauses, and `all` over a list
+// of tests would be no plainer.
 // The clauses of rows, requests, holders and processes, where the next number and the records are in range.
 // Ruled out: one of the four groups is left out; the processes of another run.
 fn tables_sound(t: &[u32], p: &[u32], n: usize, m: usize) -> bool

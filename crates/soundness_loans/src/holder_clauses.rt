@@ -1,6 +1,8 @@
 // The clauses of soundness of holders, each named as in rows/specs/Sound.antt: the listing of rows by requests, from
 // the newest request to the oldest. It tells copies too: each item is an end or a copy for the request that lists it,
 // so a row that bears a request and is listed is listed by that one. Slots of rows are given plus 1, 0 for none.
+// No Option of a slot: `row_slot`, `code_at` and `list_at` count from 1 with 0 for none, and sources stand so in t.
+// The listing is a column of bytes, 0 for a row not listed, no column of enums: the loop over rows tests many at once.
 ghost use Rattle.std.specs.Prelude.{◌≡◌, ◌||◌, ◌<◌, ◌≤◌, eqb};
 ghost use Rattle.rows.specs.Lists.{some};
 ghost use Rattle.rows.specs.Codes.{is_system};
@@ -45,6 +47,7 @@ fn any_listed(listing: &[u8; ROWS], slots: [usize; 4]) -> bool
     requires { SlotsWithin ROWS slots }
     ensures { result ≡ any_listed listing.now slots }
 {
+    // no .iter().any(..): its proof asks of each item that it is a slot, and did not close
     let mut listed = false;
     for s in slots {
         listed = listed | is_listed(listing, s);

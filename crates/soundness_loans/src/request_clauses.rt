@@ -1,5 +1,8 @@
 // The clauses of soundness of requests, each named as in rows/specs/Sound.antt: of the request in one slot, and the
-// loops over all requests. Slots of rows are given plus 1, 0 for none.
+// loops over all requests. Slots of rows are given plus 1, 0 for none, no Option: `row_slot` and `word_at` count so, and
+// sources stand so in t.
+// t, n and the fact that sources are older travel together; a struct of them would be named in each clause and made anew
+// in each public function, which is no plainer.
 ghost use Rattle.std.specs.Prelude.{◌≡◌, true, not, ◌||◌, [], ◌∷◌, suc, ◌<◌, ◌≤◌, leb, ltb};
 ghost use Rattle.rows.specs.Lists.{all, member, distinct, some, nonzero};
 ghost use Rattle.rows.specs.Tables.{is_listed};
@@ -222,6 +225,7 @@ fn numbers_apart(t: &[u32], n: usize, m: usize) -> bool
     requires { IsTables t.now × (n ≤ ROWS) × (m ≤ REQUESTS) }
     ensures { TestsTables t.now n m result (λ st. numbers_apart st.rows st.requests) }
 {
+    // one column is read, not a Request; .all would stop early
     let mut apart = true;
     let mut s = 0;
     for j in 0..m {

@@ -1,5 +1,7 @@
 // The clauses of soundness of one row, each named as in rows/specs/Sound.antt, without branches, so that a loop over
 // rows tests several at once. The row comes as its slot's words: x; s and v are the packed words of its sources.
+// Kinds and places are numbers, no enums: the lent words may hold any, and soundness must say no to what is none.
+// & and |, not && and an early return: those take 3 times the instructions in the loops over rows.
 ghost use Rattle.std.specs.Prelude.{◌≡◌, suc, ◌&&◌, ◌==◌};
 ghost use Rattle.rows.specs.Sound.{object_in_range, right_in_range, place_in_range, is_opening, is_registered, is_held};
 ghost use Rattle.rows.specs.Sound.{is_port_end, copy_matches, source_of, via_of};
@@ -81,6 +83,7 @@ fn is_opening(x: Row) -> bool
     node & (copied & ((x.source == 0) & ((x.via == 0) & (x.request == 0))))
 }
 
+// The shapes look alike, and each is a clause of its own: they differ in what they ask of the place and of the sources.
 // Ruled out: a source that is in no node; a second source.
 fn is_registered(x: Row, s: u32, v: u32) -> bool
     ensures { SaysOf x s v result (λ y rs. is_registered y (source_of rs y)) }

@@ -1,5 +1,7 @@
 // The rows are sound, but for the requests that they bear (crate soundness_loans): the clauses of every row, the oldest
 // first, in one loop for each group of clauses.
+// The loops go by the slot and test each row: .all, which stops early, takes twice the instructions.
+// t, n and the packed words travel together in two functions alone; a struct of them would be named in each clause.
 ghost use Rattle.std.specs.Prelude.{◌<◌, ◌≤◌};
 ghost use Rattle.rows.specs.Layout.{records_in};
 ghost use Rattle.rows.specs.vocabulary.Sizes.{ROWS, IsTables, IsRecords};

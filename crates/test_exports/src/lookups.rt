@@ -1,4 +1,4 @@
-// Look-ups. They answer the slot plus 1, and 0 for none and for words of another length.
+// Look-ups. They answer the slot plus 1, and 0 for none and for words of another length: C has no Option.
 ghost use Rattle.std.specs.Prelude.{◌≡◌, ◌≤◌};
 ghost use Rattle.rows.specs.Layout.{rows_in, requests_in};
 ghost use Rattle.rows.specs.vocabulary.Slots.{found_slot};

@@ -1,5 +1,6 @@
 // Reading: the version of the layout, the words of a slot, the next number, the process records.
-// Where a length or slot does not fit, nothing is written, and the answer is 0 or no.
+// Where a length or slot does not fit, nothing is written, and the answer is 0 or no. Rows and requests are written out
+// word by word: that is the order of their columns in C.
 ghost use Rattle.std.specs.Prelude.{◌≡◌, false, ◌<◌, get_or};
 ghost use Rattle.rows.specs.Tables.{is_listed};
 ghost use Rattle.rows.specs.Layout.{layout_version, records_in};
