@@ -55,7 +55,7 @@ fn any_away(ps: &[u32]) -> bool
     requires { IsRecords ps.now }
     ensures { AwayIfAny ps.now result }
 {
-    // no .any(..): it would stop early, and most often every record is looked at
+    // no .any(..): what its no says of every record did not close
     let mut away = false;
     for k in 0..PROCESSES {
         let x = records::record_at(ps, k);

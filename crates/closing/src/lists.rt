@@ -1,5 +1,6 @@
 // What a closing does to lists and places: ends go back, and leave lists. What is marked is removed after it.
-// No item is 0, no Option: items are lent words. By request, items go back or leave: two functions, with other contracts.
+// No item is 0, no Option: items are lent words. Of a closed request items go back, of an open one they leave: two
+// functions with other contracts.
 ghost use Rattle.std.specs.Prelude.{[], ◌∷◌, ◌≤◌, ◌<◌};
 ghost use Rattle.rows.specs.vocabulary.Sizes.{ROWS, REQUESTS, ITEMS, IsTables};
 ghost use Rattle.changes.specs.vocabulary.Bits.{marks_in};

@@ -53,7 +53,7 @@ pub fn older(column: &[u32], k: usize) -> bool
     old
 }
 
-// Whether the slots from k on are 0 in each of so many columns of one size, which stand one after another from a position
+// Whether the slots from k on are 0 in each of so many columns of one size, which stand one after another from `start`
 // on. Ruled out: yes where a word of the last column is left; no for a word before slot k.
 fn columns_unused(t: &[u32], start: usize, size: usize, columns: usize, k: usize) -> bool
     requires { start + columns * size ≤ length t.now }

@@ -1,5 +1,5 @@
-// Questions about the tables. Where the words have another length or the slot is none, the answer is no, or 0 numbers: C
-// has no Result, and its words come with a length that each function must test (here and in the files beside).
+// Questions about the tables. Where the words have another length or the slot is none, the answer is no, or 0 numbers:
+// C has no Result, and its words come with a length that each function must test (here and in the files beside).
 ghost use Rattle.std.specs.Prelude.{◌≡◌, false, ◌<◌};
 ghost use Rattle.rows.specs.Layout.{sound_words, rows_in};
 ghost use Rattle.rows.specs.vocabulary.Sizes.{ROWS, IsTables};
