@@ -6,7 +6,10 @@ use mathlib.Core.Path.{◌≡◌, refl, ap, sym, subst, ◌∙◌}
 use native.Mathlib.Omega.{arith}
 use native.Mathlib.Numerals.{add-one}
 use borrow.Author.Tests.{lt-ltb, le-ltb, le-leb, lt-leb}
-use lib.ListN.{length}
+use lib.ListN.{length, get_or, drop, drop_of_length-le}
+use lib.Seq.{drop-cons}
+use Rattle.std.specs.List.{list_any}
+use Rattle.std.proofs.lemmas.List.Elements.{All-head, All-tail}
 use lib.Dec.{eqb}
 use Rattle.rows.specs.Lists.{any, filter, some, rises}
 use Rattle.rows.specs.Limits.{greatest_number, row_slots, request_slots}
@@ -15,22 +18,19 @@ use Rattle.rows.specs.Codes.{is_client, in_clist, may_transfer, within}
 use Rattle.rows.specs.Tables.{State, row_of, numbers}
 use Rattle.rows.specs.Layout.{row_slot}
 use Rattle.rows.specs.vocabulary.Represents.{Represents}
-use Rattle.rows.proofs.Bools.{clash, false_of, not_f, not_t, or_l, or_r, pos-some}
+use Rattle.rows.proofs.Bools.{clash, false_of, not_f, not_t, or_r, pos-some}
 use Rattle.rows.proofs.Keyed.{rises-range}
-use Rattle.rows.proofs.Lists.{filter-filter}
 use Rattle.rows.proofs.Slots.{row-none, row-found}
 use Rattle.tables.proofs.SoundFacts.{clist-there}
 use Rattle.calls.specs.declared.Item.{Item}
 use Rattle.calls.specs.declared.Items.{Items}
 use Rattle.calls.specs.declared.ItemRow.{ItemRow}
-use Rattle.calls.specs.declared.ItemRows.{ItemRows}
 use Rattle.std.specs.Prelude.{Option, Some, None}
 use Rattle.calls.specs.Rules.{Test, ◌when◌, lowest, not_held, has_open, too_deep, rows_full, requests_full, numbers_spent}
 use Rattle.calls.specs.Loans.{items_of, item_row, moves, copies, copy_depth}
 use Rattle.calls.specs.Calls.{lacks_right, is_busy, refusals_ask}
-use Rattle.calls.specs.vocabulary.Asks.{is_copy, item_row_of, is_missing, looked_up, ItemFits, LookedFits, ItemHeld, ItemsHeld, items_in, named_in, copies_in}
+use Rattle.calls.specs.vocabulary.Asks.{is_copy, item_row_of, is_missing, looked_up, ItemFits, LookedFits, ItemHeld, ItemsHeld, listed, named_in, copies_in}
 use Rattle.calls.proofs.LookedUp.{zero_word}
-use Rattle.calls.proofs.Joined.{any-filter, four-tests}
 
 -- ---- the look-up of an item
 module _ (st : State) (p : ℕ) (i : Item) where
@@ -160,65 +160,72 @@ module _ (st : State) (i : Item) where
   copy-free c h = rw h refl
 
 -- ---- all items
-module _ (is : Items) {a b c d : Bool} where
-  pub any-named : (f : Item → Bool) → a ≡ some is.first.row && f is.first → b ≡ some is.second.row && f is.second
-      → c ≡ some is.third.row && f is.third → d ≡ some is.fourth.row && f is.fourth
-      → a || b || c || d ≡ any f (items_of is)
-  unfolding items_of any
-  any-named f p q r s =
-      four-tests a b c d ∙ rw (p, q, r, s) refl ∙ sym (any-filter f (λ i. some i.row) (is.first ∷ is.second ∷ is.third ∷ is.fourth ∷ []))
-
--- 7 of an item
-missing-named : (st : State) (p : ℕ) (is : Items)
-    → any (λ i. not_held st p i.row) (items_of is) ≡ is_missing st p is.first || is_missing st p is.second || is_missing st p is.third || is_missing st p is.fourth
-missing-named st p is = sym (any-named is (λ i. not_held st p i.row) refl refl refl refl)
-
-pub none-missing : (st : State) (p : ℕ) (xs : ItemRows) → ItemsHeld st p xs → any (λ i. not_held st p i.row) (named_in xs) ≡ false
-none-missing st p xs (h1, h2, h3, h4) = missing-named st p (items_in xs) ∙ rw (h1.1, h2.1, h3.1, h4.1) refl
-
-copied-four : (st : State) (is : Items) → copies st (items_of is) ≡ filter (is_copy st) (is.first ∷ is.second ∷ is.third ∷ is.fourth ∷ [])
-unfolding items_of copies
-copied-four st is = filter-filter (λ i. not (moves st i)) (λ i. some i.row) (is_copy st) (λ i. refl) (is.first ∷ is.second ∷ is.third ∷ is.fourth ∷ [])
-
-pub any_copied : (st : State) (is : Items) {a b c d : Bool} (f : Item → Bool)
-    → a ≡ is_copy st is.first && f is.first → b ≡ is_copy st is.second && f is.second
-    → c ≡ is_copy st is.third && f is.third → d ≡ is_copy st is.fourth && f is.fourth
-    → a || b || c || d ≡ any f (copies st (items_of is))
-unfolding any
-any_copied st is {a} {b} {c} {d} f p q r s =
-    let four = is.first ∷ is.second ∷ is.third ∷ is.fourth ∷ [] in
-    four-tests a b c d ∙ rw (p, q, r, s) refl ∙ sym (ap (any f) (copied-four st is) ∙ any-filter f (is_copy st) four)
-
-count-first : (f : Item → Bool) (i : Item) (is : List Item) → length (filter f (i ∷ is)) ≡ cond (f i) 1 0 + length (filter f is)
-unfolding filter
-count-first f i is = pick (f i)
+pub any-named : (f : Item → Bool) (xs : List ItemRow) → list_any (λ x. some x.item.row && f x.item) xs ≡ any f (named_in xs)
+unfolding any filter
+any-named f [] = refl
+any-named f (x ∷ xs) = pick (any-named f xs) (some x.item.row)
   where
-    pick : (b : Bool) → length (cond b (i ∷ filter f is) (filter f is)) ≡ cond b 1 0 + length (filter f is)
-    pick true = omega arith
-    pick false = omega arith
+    pick : list_any (λ x. some x.item.row && f x.item) xs ≡ any f (named_in xs) → (b : Bool)
+        → (b && f x.item) || list_any (λ x. some x.item.row && f x.item) xs ≡ any f (cond b (x.item ∷ named_in xs) (named_in xs))
+    pick ih true = ap (λ (c : Bool). f x.item || c) ih
+    pick ih false = ih
 
-pub copies-counted : (st : State) (p : ℕ) (xs : ItemRows) → ItemsHeld st p xs → copies_in xs ≡ length (copies st (named_in xs))
-copies-counted st p xs (h1, h2, h3, h4) =
-    let f = is_copy st in
-    let i1 = xs.first.item in
-    let i2 = xs.second.item in
-    let i3 = xs.third.item in
-    let i4 = xs.fourth.item in
-    let none : length (filter f []) ≡ 0 = (unfold filter in refl) in
-    let all : copies_in xs ≡ length (filter f (i1 ∷ i2 ∷ i3 ∷ i4 ∷ [])) =
-    omega (
-      arith,
-      none,
-      count-first f i1 (i2 ∷ i3 ∷ i4 ∷ []),
-      count-first f i2 (i3 ∷ i4 ∷ []),
-      count-first f i3 (i4 ∷ []),
-      count-first f i4 [],
-      copies_of st p xs.first h1,
-      copies_of st p xs.second h2,
-      copies_of st p xs.third h3,
-      copies_of st p xs.fourth h4,
-    ) in
-    all ∙ sym (ap length (copied-four st _))
+pub any_copied : (st : State) (f : Item → Bool) (xs : List ItemRow) → list_any (λ x. is_copy st x.item && f x.item) xs ≡ any f (copies st (named_in xs))
+unfolding any filter copies
+any_copied st f [] = refl
+any_copied st f (x ∷ xs) = pick (any_copied st f xs) (some x.item.row) (moves st x.item) refl
+  where
+    pick : list_any (λ x. is_copy st x.item && f x.item) xs ≡ any f (copies st (named_in xs)) → (b m : Bool) → moves st x.item ≡ m
+        → ((b && not m) && f x.item) || list_any (λ x. is_copy st x.item && f x.item) xs ≡ any f (copies st (cond b (x.item ∷ named_in xs) (named_in xs)))
+    pick ih true true e = rw (e, ih) refl
+    pick ih true false e = rw (e, ih) refl
+    pick ih false m e = ih
+
+-- 7 of an item: none is missing; one is
+pub none-missing : (st : State) (p : ℕ) (xs : List ItemRow) → ItemsHeld st p xs → any (λ i. not_held st p i.row) (named_in xs) ≡ false
+unfolding any filter
+none-missing st p [] h = refl
+none-missing st p (x ∷ xs) h =
+    sym (any-named (λ i. not_held st p i.row) (x ∷ xs))
+    ∙ rw ((All-head (ItemHeld st p) x xs h).1, any-named (λ i. not_held st p i.row) xs ∙ none-missing st p xs (All-tail (ItemHeld st p) x xs h)) refl
+
+pub one-missing : (st : State) (p : ℕ) (is : List Item) (k : ℕ) (d : Item) → k < length is → is_missing st p (get_or is k d) ≡ true
+    → any (λ i. not_held st p i.row) (filter (λ i. some i.row) is) ≡ true
+unfolding any filter
+one-missing st p [] k d h m = absurd (omega arith)
+one-missing st p (i ∷ is) zero d h m = pick (some i.row) (not_held st p i.row) refl m
+  where
+    pick : (a b : Bool) → not_held st p i.row ≡ b → a && b ≡ true → any (λ i. not_held st p i.row) (cond a (i ∷ filter (λ i. some i.row) is) (filter (λ i. some i.row) is)) ≡ true
+    pick true b e q = rw (e, q) refl
+    pick false b e q = clash q refl
+one-missing st p (i ∷ is) (suc k) d h m = pick (some i.row) (one-missing st p is k d (omega arith) m)
+  where
+    pick : (a : Bool) → any (λ i. not_held st p i.row) (filter (λ i. some i.row) is) ≡ true
+        → any (λ i. not_held st p i.row) (cond a (i ∷ filter (λ i. some i.row) is) (filter (λ i. some i.row) is)) ≡ true
+    pick true e = or_r (not_held st p i.row) _ e
+    pick false e = e
+
+-- the items from a position on
+module _ (xs : List ItemRow) (k : ℕ) where
+  pub copies-from : (d : ItemRow) → k < length xs → copies_in (drop k xs) ≡ (get_or xs k d).copies + copies_in (drop (k + 1) xs)
+  unfolding copies_in
+  copies-from d h = ap copies_in (drop-cons xs k d h) ∙ ap (λ (m : ℕ). (get_or xs k d).copies + copies_in (drop m xs)) (sym (add-one k))
+
+  pub copies-end : length xs ≤ k → copies_in (drop k xs) ≡ 0
+  unfolding copies_in
+  copies-end h = ap copies_in (drop_of_length-le xs {i = k} h)
+
+pub copies-counted : (st : State) (p : ℕ) (xs : List ItemRow) → ItemsHeld st p xs → copies_in xs ≡ length (copies st (named_in xs))
+unfolding filter copies copies_in
+copies-counted st p [] h = refl
+copies-counted st p (x ∷ xs) h =
+    pick (copies-counted st p xs (All-tail (ItemHeld st p) x xs h)) (some x.item.row) (moves st x.item) refl (copies_of st p x (All-head (ItemHeld st p) x xs h))
+  where
+    pick : copies_in xs ≡ length (copies st (named_in xs)) → (b m : Bool) → moves st x.item ≡ m → x.copies ≡ cond (b && not m) 1 0
+        → x.copies + copies_in xs ≡ length (copies st (cond b (x.item ∷ named_in xs) (named_in xs)))
+    pick ih true true e q = rw e (omega (arith, ih, q))
+    pick ih true false e q = rw e (omega (arith, ih, q))
+    pick ih false m e q = omega (arith, ih, q)
 
 -- ---- the tests of ask
 abbrev pub space_tests : State → ℕ → List Test
@@ -229,33 +236,9 @@ unfolding refusals_ask lowest
 ask-seven st p c is h = rw h refl
 
 -- one item is missing
-module _ (st : State) (p c : ℕ) (is : Items) where
-  abbrev m1 : Bool
-  m1 = is_missing st p is.first
-
-  abbrev m2 : Bool
-  m2 = is_missing st p is.second
-
-  abbrev m3 : Bool
-  m3 = is_missing st p is.third
-
-  abbrev m4 : Bool
-  m4 = is_missing st p is.fourth
-
-  item-seven : m1 || m2 || m3 || m4 ≡ true → 7 ≡ lowest (refusals_ask st p c (items_of is))
-  item-seven h = ask-seven st p c (items_of is) (or_r (not_held st p c) _ (missing-named st p is ∙ h))
-
-  pub first-seven : m1 ≡ true → 7 ≡ lowest (refusals_ask st p c (items_of is))
-  first-seven h = item-seven (or_l (m1 || m2 || m3) m4 (or_l (m1 || m2) m3 (or_l m1 m2 h)))
-
-  pub second-seven : m2 ≡ true → 7 ≡ lowest (refusals_ask st p c (items_of is))
-  second-seven h = item-seven (or_l (m1 || m2 || m3) m4 (or_l (m1 || m2) m3 (or_r m1 m2 h)))
-
-  pub third-seven : m3 ≡ true → 7 ≡ lowest (refusals_ask st p c (items_of is))
-  third-seven h = item-seven (or_l (m1 || m2 || m3) m4 (or_r (m1 || m2) m3 h))
-
-  pub fourth-seven : m4 ≡ true → 7 ≡ lowest (refusals_ask st p c (items_of is))
-  fourth-seven h = item-seven (or_r (m1 || m2 || m3) m4 h)
+pub item-seven : (st : State) (p c : ℕ) (is : Items) (k : ℕ) (d : Item) → k < 4 → is_missing st p (get_or (listed is) k d) ≡ true → 7 ≡ lowest (refusals_ask st p c (items_of is))
+unfolding items_of
+item-seven st p c is k d few m = ask-seven st p c (items_of is) (or_r (not_held st p c) _ (one-missing st p (listed is) k d few m))
 
 pub ask-rest : (st : State) (p c : ℕ) (is : List Item) → not_held st p c ≡ false → any (λ i. not_held st p i.row) is ≡ false
     → lowest (refusals_ask st p c is)

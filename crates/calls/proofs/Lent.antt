@@ -1,5 +1,5 @@
 -- Items lent one after the other: the rows of the state keep their slots; an end lent, a copy lent, all items.
-use Prim.Native.Nat.{ℕ, suc, ◌+◌, ◌<◌}
+use Prim.Native.Nat.{ℕ, suc, ◌+◌, ◌<◌, ◌≤◌}
 use mathlib.Core.Bool.{Bool, true, false, cond}
 use mathlib.Core.List.{List, [], ◌∷◌, ◌++◌, map}
 use mathlib.Core.Path.{◌≡◌, refl, ap, sym, ◌∙◌}
@@ -7,7 +7,8 @@ use native.Mathlib.Omega.{arith}
 use native.Mathlib.Numerals.{add-one}
 use borrow.Author.Tests.{ne_eqb}
 use lib.Dec.{eqb}
-use lib.ListN.{length, set, length-map, length-append}
+use lib.ListN.{length, get_or, drop, set, length-map, length-append, drop_of_length-le}
+use lib.Seq.{drop-cons}
 use Rattle.rows.specs.declared.Row.{Row}
 use Rattle.rows.specs.declared.Request.{Request}
 use Rattle.rows.specs.Lists.{filter, some, first_with, slot_with, top_of, rises, pad}
@@ -24,15 +25,15 @@ use Rattle.tables.proofs.Sound.{sound-open}
 use Rattle.tables.proofs.SoundFacts.{rows-top}
 use Rattle.changes.proofs.Put.{set-pad-end}
 use Rattle.calls.specs.declared.Item.{Item}
-use Rattle.calls.specs.declared.Items.{Items}
+use Rattle.calls.specs.declared.ItemRow.{ItemRow}
 use Rattle.calls.specs.declared.Loan.{Loan}
 use Rattle.calls.specs.declared.NewCopy.{NewCopy}
 use Rattle.calls.specs.declared.NewRequest.{NewRequest}
 use Rattle.calls.specs.Rules.{copy_of}
-use Rattle.calls.specs.Loans.{items_of, item_row, moves, copy_depth, copy_lent, Lending, to_system, lend_end, lend_copy, lend_item, lend_items, lent, new_request, with_request}
+use Rattle.calls.specs.Loans.{item_row, moves, copy_depth, copy_lent, Lending, to_system, lend_end, lend_copy, lend_item, lend_items, lent, new_request, with_request}
 use Rattle.calls.specs.vocabulary.Lookups.{StandsAt}
 use Rattle.calls.specs.vocabulary.Effects.{copy_as}
-use Rattle.calls.specs.vocabulary.Asks.{lend_named, KeepsSlots, LentTo}
+use Rattle.calls.specs.vocabulary.Asks.{items_in, named_in, lend_named, KeepsSlots, LentTo}
 
 -- ---- a change of elements that leaves their keys
 module _ {A : Type 0} (key : A → ℕ) (g : A → A) (same : (x : A) → key (g x) ≡ key x) where
@@ -171,9 +172,9 @@ module _ (st : State) (c v : ℕ) (i : Item) (l : Lending) where
   unfolding lend_named lend_item
   named-copy h m = rw (h, m) refl
 
--- ---- the four items, one after the other
+-- ---- the items, one after the other
 module _ (st : State) (c v : ℕ) where
-  named-first : (i : Item) (is : List Item) (l : Lending)
+  pub named-first : (i : Item) (is : List Item) (l : Lending)
       → lend_items st c v (filter (λ i. some i.row) (i ∷ is)) l ≡ lend_items st c v (filter (λ i. some i.row) is) (lend_named st c v i l)
   unfolding filter lend_items lend_named
   named-first i is l = pick (some i.row)
@@ -183,18 +184,16 @@ module _ (st : State) (c v : ℕ) where
       pick true = refl
       pick false = refl
 
-  pub named-four : (is : Items) (l : Lending)
-      → lend_named st c v is.fourth (lend_named st c v is.third (lend_named st c v is.second (lend_named st c v is.first l))) ≡ lend_items st c v (items_of is) l
-  unfolding items_of
-  named-four is l =
-      let one = lend_named st c v is.first l in
-      let two = lend_named st c v is.second one in
-      let three = lend_named st c v is.third two in
-      sym (named-first is.first (is.second ∷ is.third ∷ is.fourth ∷ []) l
-      ∙ named-first is.second (is.third ∷ is.fourth ∷ []) one
-      ∙ named-first is.third (is.fourth ∷ []) two
-      ∙ named-first is.fourth [] three
-      ∙ (unfold filter lend_items in refl))
+  -- from a position on
+  pub lent-from : (xs : List ItemRow) (k : ℕ) (d : ItemRow) (l : Lending) → k < length xs
+      → lend_items st c v (named_in (drop k xs)) l ≡ lend_items st c v (named_in (drop (k + 1) xs)) (lend_named st c v (get_or xs k d).item l)
+  lent-from xs k d l h =
+      ap (λ (ys : List ItemRow). lend_items st c v (named_in ys) l) (drop-cons xs k d h) ∙ named-first (get_or xs k d).item (items_in (drop (suc k) xs)) l
+      ∙ ap (λ (m : ℕ). lend_items st c v (named_in (drop m xs)) (lend_named st c v (get_or xs k d).item l)) (sym (add-one k))
+
+  pub lent-end : (xs : List ItemRow) (k : ℕ) (l : Lending) → length xs ≤ k → lend_items st c v (named_in (drop k xs)) l ≡ l
+  unfolding filter lend_items
+  lent-end xs k l h = ap (λ (ys : List ItemRow). lend_items st c v (named_in ys) l) (drop_of_length-le xs {i = k} h)
 
 -- ---- the loan begun, and ended
 abbrev pub begun_from : State → Lending

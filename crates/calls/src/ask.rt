@@ -1,6 +1,6 @@
 // ask: the items' rows are looked up, the tests in order, then the effect (lend.rt).
-ghost use Rattle.std.specs.Prelude.{◌≤◌, ◌<◌};
-ghost use Rattle.rows.specs.vocabulary.Sizes.{ROWS, REQUESTS, IsTables};
+ghost use Rattle.std.specs.Prelude.{◌≡◌, ◌≤◌, ◌<◌};
+ghost use Rattle.rows.specs.vocabulary.Sizes.{ROWS, REQUESTS, ITEMS, IsTables};
 ghost use Rattle.calls.specs.declared.Call.{Call};
 ghost use Rattle.calls.specs.vocabulary.Performs.{PerformsApart, refusal_in, answer_in};
 ghost use Rattle.calls.specs.vocabulary.Effects.{IsProcess};
@@ -9,10 +9,17 @@ ghost use Rattle.calls.specs.vocabulary.Asks.{ItemBusy, AnyItemBusy, CopyDeep, A
 ghost use Rattle.calls.specs.vocabulary.Asks.{SpaceUnless, copies_in, AsksHeld, AsksItems};
 
 use crate::lend::add_request;
-use crate::{Answer, Item, ItemRow, ItemRows, Items, NewRequest, Refusal, lookups, tests};
+use crate::{Answer, Item, ItemRow, Items, NewRequest, Refusal, lookups, tests};
 use rows::codes::{A_CLIENT_END, GREATEST_DEPTH, is_end};
-use rows::layout::{KIND, OBJECT, RIGHTS};
+use rows::layout::{ITEMS, KIND, OBJECT, RIGHTS};
 use rows::{Rights, find, read};
+
+// no item, with no row
+const NO_ITEM: ItemRow = ItemRow {
+    item: Item { row: 0, rights: 0 },
+    word: 0,
+    copies: 0,
+};
 
 // The item with its row, where p holds it; no item has no row.
 fn item_row(t: &[u32], n: usize, p: u32, item: Item) -> Option<ItemRow>
@@ -60,15 +67,11 @@ fn lacks_right(t: &[u32], x: ItemRow) -> bool
     barred | !lent.within(rights)
 }
 
-fn any_lacks(t: &[u32], items: ItemRows) -> bool
+fn any_lacks(t: &[u32], items: [ItemRow; ITEMS]) -> bool
     requires { IsTables t.now × ItemsFit ROWS items }
     ensures { AnyLacks t.now items result }
 {
-    let first = lacks_right(t, items.first);
-    let second = lacks_right(t, items.second);
-    let third = lacks_right(t, items.third);
-    let fourth = lacks_right(t, items.fourth);
-    first | second | third | fourth
+    items.iter().any(|&x| lacks_right(t, x))
 }
 
 // Whether the item is an end of the port c, or of a port with an open request.
@@ -87,15 +90,11 @@ fn item_busy(t: &[u32], m: usize, c: u32, x: ItemRow) -> bool
     (port == c) | tests::has_open(t, m, port)
 }
 
-fn any_busy(t: &[u32], m: usize, c: u32, items: ItemRows) -> bool
+fn any_busy(t: &[u32], m: usize, c: u32, items: [ItemRow; ITEMS]) -> bool
     requires { IsTables t.now × (m ≤ REQUESTS) × ItemsFit ROWS items }
     ensures { AnyItemBusy t.now m c items result }
 {
-    let first = item_busy(t, m, c, items.first);
-    let second = item_busy(t, m, c, items.second);
-    let third = item_busy(t, m, c, items.third);
-    let fourth = item_busy(t, m, c, items.fourth);
-    first | second | third | fourth
+    items.iter().any(|&x| item_busy(t, m, c, x))
 }
 
 // Whether the item is copied and the copy, over the port whose client end is in slot i, too deep.
@@ -109,19 +108,34 @@ fn copy_deep(t: &[u32], i: usize, x: ItemRow) -> bool
     GREATEST_DEPTH < lookups::depth_over(t, x.word, (i + 1) as u32)
 }
 
-fn any_deep(t: &[u32], i: usize, items: ItemRows) -> bool
+fn any_deep(t: &[u32], i: usize, items: [ItemRow; ITEMS]) -> bool
     requires { IsTables t.now × (i < ROWS) × ItemsFit ROWS items }
     ensures { AnyDeep t.now i items result }
 {
-    let first = copy_deep(t, i, items.first);
-    let second = copy_deep(t, i, items.second);
-    let third = copy_deep(t, i, items.third);
-    let fourth = copy_deep(t, i, items.fourth);
-    first | second | third | fourth
+    items.iter().any(|&x| copy_deep(t, i, x))
+}
+
+// How many rows the items take.
+fn copies_of(items: [ItemRow; ITEMS]) -> u32
+    requires { ItemsFit ROWS items }
+    ensures few { result ≤ ITEMS }
+    ensures counted { result ≡ copies_in items }
+{
+    let mut copies = 0;
+    for x in items {
+        copies += x.copies;
+    }
+    copies
 }
 
 // What refuses the request w, whose port and items the asker holds: 8 and on.
-fn ask_refusal(t: &[u32], n: usize, m: usize, w: NewRequest, items: ItemRows) -> Result<(), Refusal>
+fn ask_refusal(
+    t: &[u32],
+    n: usize,
+    m: usize,
+    w: NewRequest,
+    items: [ItemRow; ITEMS],
+) -> Result<(), Refusal>
     requires { IsTables t.now × (n ≤ ROWS) × (m ≤ REQUESTS) × (w.slot < n) × ItemsFit n items }
     ensures lowest { RefusesAsk t.now n m w items (refusal_in result) }
     ensures space { SpaceUnless (refusal_in result) n m w.number (copies_in items) }
@@ -139,15 +153,16 @@ fn ask_refusal(t: &[u32], n: usize, m: usize, w: NewRequest, items: ItemRows) ->
     if any_deep(t, i, items) {
         return Err(Refusal::TooDeep);
     }
-    let copies = items.first.copies
-        + items.second.copies
-        + items.third.copies
-        + items.fourth.copies;
-    tests::request_refusal(n, m, w.number, copies)
+    tests::request_refusal(n, m, w.number, copies_of(items))
 }
 
 // ask of the request w, whose port and items the asker holds.
-fn ask_held(t: &mut [u32], n: usize, w: NewRequest, items: ItemRows) -> Result<Answer, Refusal>
+fn ask_held(
+    t: &mut [u32],
+    n: usize,
+    w: NewRequest,
+    items: [ItemRow; ITEMS],
+) -> Result<Answer, Refusal>
     requires { IsTables t.old × (n ≤ ROWS) × (w.slot < n) × ItemsFit n items }
     ensures answers { AsksHeld t.old n w items t.new (answer_in result) }
     ensures long { IsTables t.new }
@@ -164,24 +179,14 @@ fn ask_items(t: &mut [u32], n: usize, w: NewRequest, items: Items) -> Result<Ans
     ensures answers { AsksItems t.old n w items t.new (answer_in result) }
     ensures long { IsTables t.new }
 {
-    let Some(first) = item_row(t, n, w.asker, items.first) else {
-        return Err(Refusal::NotHeld);
-    };
-    let Some(second) = item_row(t, n, w.asker, items.second) else {
-        return Err(Refusal::NotHeld);
-    };
-    let Some(third) = item_row(t, n, w.asker, items.third) else {
-        return Err(Refusal::NotHeld);
-    };
-    let Some(fourth) = item_row(t, n, w.asker, items.fourth) else {
-        return Err(Refusal::NotHeld);
-    };
-    let rows = ItemRows {
-        first: first,
-        second: second,
-        third: third,
-        fourth: fourth,
-    };
+    let named = [items.first, items.second, items.third, items.fourth];
+    let mut rows = [NO_ITEM; ITEMS];
+    for k in 0..ITEMS {
+        let Some(x) = item_row(t, n, w.asker, named[k]) else {
+            return Err(Refusal::NotHeld);
+        };
+        rows[k] = x;
+    }
     ask_held(t, n, w, rows)
 }
 

@@ -5,7 +5,7 @@ ghost use Rattle.calls.specs.vocabulary.Asks.{ItemFits, ItemsFit, copies_in, Has
 ghost use Rattle.calls.specs.vocabulary.Asks.{LendsEnd, LendsCopy, LendsItem, LendsItems, RequestMade};
 
 use crate::new_rows::append_copy;
-use crate::{ItemRow, ItemRows, Loan, NewCopy, NewRequest, lookups};
+use crate::{ItemRow, Loan, NewCopy, NewRequest, lookups};
 use changes::change;
 use rows::Request;
 use rows::codes::THE_SYSTEM;
@@ -77,21 +77,22 @@ fn lend_item(t: &mut [u32], k: Loan, w: NewRequest, x: ItemRow) -> Loan
 }
 
 // The items in order.
-fn lend_items(t: &mut [u32], k: Loan, w: NewRequest, items: ItemRows) -> Loan
+fn lend_items(t: &mut [u32], k: Loan, w: NewRequest, items: [ItemRow; ITEMS]) -> Loan
     requires { IsTables t.old × HasPlaces k (copies_in items) × (k.count ≡ 0) × (w.slot < k.rows)
         × ItemsFit k.rows items }
     ensures lent { LendsItems t.old k w items t.new result }
     ensures long { IsTables t.new }
 {
-    let one = lend_item(t, k, w, items.first);
-    let two = lend_item(t, one, w, items.second);
-    let three = lend_item(t, two, w, items.third);
-    lend_item(t, three, w, items.fourth)
+    let mut lent = k;
+    for x in items {
+        lent = lend_item(t, lent, w, x);
+    }
+    lent
 }
 
 // The request takes its number, then the copies theirs in order; it is stored with its list.
 // Ruled out: copies numbered before the request; an end that stays with the asker.
-pub fn add_request(t: &mut [u32], n: usize, m: usize, w: NewRequest, items: ItemRows)
+pub fn add_request(t: &mut [u32], n: usize, m: usize, w: NewRequest, items: [ItemRow; ITEMS])
     requires { IsTables t.old × (w.slot < n) × ItemsFit n items × HasSpace n m w.number (copies_in items) }
     ensures made { RequestMade t.old n m w items t.new }
     ensures long { IsTables t.new }

@@ -126,20 +126,12 @@ pub struct NewPort {
 }
 
 // An item of an ask with its row looked up: the row's source word, 0 for no item; how many rows it takes, 1 for a copy.
+// Both are numbers: the word goes into the lent words as it is, and the copies are counted.
 #[derive(Clone, Copy)]
 pub struct ItemRow {
     pub item: Item,
     pub word: u32,
     pub copies: u32,
-}
-
-// The items of an ask with their rows.
-#[derive(Clone, Copy)]
-pub struct ItemRows {
-    pub first: ItemRow,
-    pub second: ItemRow,
-    pub third: ItemRow,
-    pub fourth: ItemRow,
 }
 
 // A new request: its number, its port's client end and the slot of that row, the process that asks.

@@ -1,6 +1,6 @@
 -- What the functions of ask answer: the items with their rows looked up, the tests of each item, the items lent one after the other.
-use Rattle.std.specs.Prelude.{Option, Some, None, ℕ, suc, ◌+◌, ◌<◌, ◌≤◌, Bool, true, false, not, ◌&&◌, List, [], ◌∷◌, ◌≡◌, length, if◌then◌else◌}
-use Rattle.rows.specs.Lists.{any, some, pad, top_of}
+use Rattle.std.specs.Prelude.{Option, Some, None, All, map, ℕ, suc, ◌+◌, ◌<◌, ◌≤◌, Bool, true, false, not, ◌&&◌, List, [], ◌∷◌, ◌≡◌, length, if◌then◌else◌}
+use Rattle.rows.specs.Lists.{any, filter, some, pad, top_of}
 use Rattle.rows.specs.Tables.{State, row_of}
 use Rattle.rows.specs.Setters.{with_rows, with_place}
 use Rattle.rows.specs.Sound.{sound}
@@ -10,7 +10,6 @@ use Rattle.rows.specs.vocabulary.Sizes.{ROWS, REQUESTS, PROCESSES, ITEMS, LAST-N
 use Rattle.calls.specs.declared.Item.{Item}
 use Rattle.calls.specs.declared.Items.{Items}
 use Rattle.calls.specs.declared.ItemRow.{ItemRow}
-use Rattle.calls.specs.declared.ItemRows.{ItemRows}
 use Rattle.calls.specs.declared.NewRequest.{NewRequest}
 use Rattle.calls.specs.declared.Loan.{Loan}
 use Rattle.calls.specs.declared.Answer.{Answer}
@@ -48,22 +47,30 @@ unfoldable pub LookedFits : ℕ → Option ItemRow → Type 0
 LookedFits n (Some x) = ItemFits n x
 LookedFits n None = Unit {0}
 
-abbrev pub ItemsFit : ℕ → ItemRows → Type 0
-ItemsFit n xs = ItemFits n xs.first × ItemFits n xs.second × ItemFits n xs.third × ItemFits n xs.fourth
+abbrev pub ItemsFit : ℕ → List ItemRow → Type 0
+ItemsFit n xs = All (ItemFits n) xs
 
 -- x is an item that p may name, with its row looked up
 abbrev pub ItemHeld : State → ℕ → ItemRow → Type 0
 ItemHeld st p x = (x ≡ item_row_of st x.item) × (is_missing st p x.item ≡ false)
 
-abbrev pub ItemsHeld : State → ℕ → ItemRows → Type 0
-ItemsHeld st p xs = ItemHeld st p xs.first × ItemHeld st p xs.second × ItemHeld st p xs.third × ItemHeld st p xs.fourth
+abbrev pub ItemsHeld : State → ℕ → List ItemRow → Type 0
+ItemsHeld st p xs = All (ItemHeld st p) xs
+
+-- no item, with no row
+abbrev pub no_item_row : ItemRow
+no_item_row = record { item = record { row = 0; rights = 0 }; word = 0; copies = 0 }
+
+-- the four items of an ask
+abbrev pub listed : Items → List Item
+listed is = is.first ∷ is.second ∷ is.third ∷ is.fourth ∷ []
 
 -- the items without their rows; those named, in order
-abbrev pub items_in : ItemRows → Items
-items_in xs = record { first = xs.first.item; second = xs.second.item; third = xs.third.item; fourth = xs.fourth.item }
+abbrev pub items_in : List ItemRow → List Item
+items_in xs = map (λ x. x.item) xs
 
-abbrev pub named_in : ItemRows → List Item
-named_in xs = items_of (items_in xs)
+abbrev pub named_in : List ItemRow → List Item
+named_in xs = filter (λ i. some i.row) (items_in xs)
 
 -- ---- tests
 abbrev pub TellsOpen : List ℕ → ℕ → ℕ → Bool → Type 0
@@ -74,7 +81,7 @@ abbrev pub LacksRight : List ℕ → ItemRow → Bool → Type 0
 LacksRight t x r =
     (st : State) (p : ℕ) → Represents t st → ItemHeld st p x → r ≡ some x.item.row && lacks_right st x.item
 
-abbrev pub AnyLacks : List ℕ → ItemRows → Bool → Type 0
+abbrev pub AnyLacks : List ℕ → List ItemRow → Bool → Type 0
 AnyLacks t xs r =
     (st : State) (p : ℕ) → Represents t st → ItemsHeld st p xs → r ≡ any (lacks_right st) (named_in xs)
 
@@ -82,7 +89,7 @@ abbrev pub ItemBusy : List ℕ → ℕ → ℕ → ItemRow → Bool → Type 0
 ItemBusy t m c x r =
     (st : State) (p : ℕ) → HasRequests t m st → ItemHeld st p x → r ≡ some x.item.row && is_busy st c x.item
 
-abbrev pub AnyItemBusy : List ℕ → ℕ → ℕ → ItemRows → Bool → Type 0
+abbrev pub AnyItemBusy : List ℕ → ℕ → ℕ → List ItemRow → Bool → Type 0
 AnyItemBusy t m c xs r =
     (st : State) (p : ℕ) → HasRequests t m st → ItemsHeld st p xs → r ≡ any (is_busy st c) (named_in xs)
 
@@ -92,14 +99,15 @@ CopyDeep t i x r =
     (st : State) (p c : ℕ) → sound st ≡ true → Represents t st → StandsAt st c i → ItemHeld st p x
     → r ≡ is_copy st x.item && too_deep (copy_depth st c x.item)
 
-abbrev pub AnyDeep : List ℕ → ℕ → ItemRows → Bool → Type 0
+abbrev pub AnyDeep : List ℕ → ℕ → List ItemRow → Bool → Type 0
 AnyDeep t i xs r =
     (st : State) (p c : ℕ) → sound st ≡ true → Represents t st → StandsAt st c i → ItemsHeld st p xs
     → r ≡ any (λ i. too_deep (copy_depth st c i)) (copies st (named_in xs))
 
 -- how many rows the items take
-abbrev pub copies_in : ItemRows → ℕ
-copies_in xs = xs.first.copies + xs.second.copies + xs.third.copies + xs.fourth.copies
+unfoldable pub copies_in : List ItemRow → ℕ
+copies_in [] = 0
+copies_in (x ∷ xs) = x.copies + copies_in xs
 
 -- k rows and a request: 16, 17, 18, 0 for nothing
 abbrev pub RefusesRequest : ℕ → ℕ → ℕ → ℕ → ℕ → Type 0
@@ -118,7 +126,7 @@ SpaceUnless r n m next k = r ≡ 0 → HasSpace n m next k
 abbrev pub AsksOver : State → NewRequest → Type 0
 AsksOver st w = HeldAt st w.asker w.port w.slot × (st.next ≡ w.number)
 
-abbrev pub RefusesAsk : List ℕ → ℕ → ℕ → NewRequest → ItemRows → ℕ → Type 0
+abbrev pub RefusesAsk : List ℕ → ℕ → ℕ → NewRequest → List ItemRow → ℕ → Type 0
 RefusesAsk t n m w xs r =
     (st : State) → sound st ≡ true → HasBoth t n m st → AsksOver st w → ItemsHeld st w.asker xs
     → r ≡ lowest (refusals_ask st w.asker w.port (named_in xs))
@@ -172,22 +180,23 @@ LendsItem t k w x after r =
     → ItemHeld st w.asker x
     → LentTo after r st (lend_named st w.port w.number x.item l)
 
-abbrev pub LendsItems : List ℕ → Loan → NewRequest → ItemRows → List ℕ → Loan → Type 0
+abbrev pub LendsItems : List ℕ → Loan → NewRequest → List ItemRow → List ℕ → Loan → Type 0
 LendsItems t k w xs after r =
     (st : State) (l : Lending) → sound st ≡ true → LentTo t k st l → StandsAt st w.port w.slot
     → ItemsHeld st w.asker xs
     → LentTo after r st (lend_items st w.port w.number (named_in xs) l)
 
 -- ---- the call
-abbrev pub RequestMade : List ℕ → ℕ → ℕ → NewRequest → ItemRows → List ℕ → Type 0
+abbrev pub RequestMade : List ℕ → ℕ → ℕ → NewRequest → List ItemRow → List ℕ → Type 0
 RequestMade t n m w xs after =
     (st : State) → sound st ≡ true → HasBoth t n m st → AsksOver st w → ItemsHeld st w.asker xs
     → Represents after (with_request st w.asker w.port (named_in xs))
 
-abbrev pub AsksHeld : List ℕ → ℕ → NewRequest → ItemRows → List ℕ → Answer → Type 0
+abbrev pub AsksHeld : List ℕ → ℕ → NewRequest → List ItemRow → List ℕ → Answer → Type 0
 AsksHeld t n w xs after r =
-    (st : State) → sound st ≡ true → HasRows t n st → AsksOver st w → ItemsHeld st w.asker xs
-    → Answers after r (perform st (Ask w.asker w.port (items_in xs)))
+    (st : State) (is : Items) → sound st ≡ true → HasRows t n st → AsksOver st w → ItemsHeld st w.asker xs
+    → named_in xs ≡ items_of is
+    → Answers after r (perform st (Ask w.asker w.port is))
 
 abbrev pub AsksItems : List ℕ → ℕ → NewRequest → Items → List ℕ → Answer → Type 0
 AsksItems t n w is after r =

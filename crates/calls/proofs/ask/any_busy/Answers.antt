@@ -1,12 +1,20 @@
--- `ask::any_busy`: the four items joined.
+-- `ask::any_busy`: the items joined.
+use borrow.Author.Rules.{rules}
+use mathlib.Core.Bool.{true, false, ◌&&◌}
+use mathlib.Core.Path.{◌≡◌, ◌∙◌}
+use Rattle.std.proofs.lemmas.Iterator.{YieldsList-from_slice, cases_from_any}
+use Rattle.rows.specs.Lists.{some}
 use Rattle.calls.specs.Calls.{is_busy}
-use Rattle.calls.specs.vocabulary.Asks.{items_in}
+use Rattle.calls.specs.vocabulary.Asks.{ItemHeld}
+use Rattle.calls.proofs.Joined.{any-cases}
 use Rattle.calls.proofs.Asked.{any-named}
 use Rattle.calls.proofs.ask.any_busy.Goals as goal
 
 pub returns : goal.returns
 returns c =
-    let a = c.args in
+    let xs = c.args.items in
     λ st p rep h.
-    any-named (items_in a.items) (is_busy st a.c) (c.item_busy-first.ensures st p rep h.0) (c.item_busy-second.ensures st p rep h.1)
-    (c.item_busy-third.ensures st p rep h.2) (c.item_busy-fourth.ensures st p rep h.3)
+    any-cases (ItemHeld st p) (λ x. some x.item.row && is_busy st c.args.c x.item) xs _ h
+    (cases_from_any _ _ _ (λ x. ItemHeld st p x → true ≡ (some x.item.row && is_busy st c.args.c x.item)) (λ x. ItemHeld st p x → false ≡ (some x.item.row && is_busy st c.args.c x.item)) c.any.ensures.ran (YieldsList-from_slice xs cc)
+    (λ x q k held. search (rules, rep, held)) (λ x q k. (search rules, λ held. search (rules, rep, held))))
+    ∙ any-named (is_busy st c.args.c) xs

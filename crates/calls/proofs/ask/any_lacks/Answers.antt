@@ -1,6 +1,12 @@
--- `ask::any_lacks`: the four items joined.
+-- `ask::any_lacks`: the items joined.
+use borrow.Author.Rules.{rules}
+use mathlib.Core.Bool.{true, false, ◌&&◌}
+use mathlib.Core.Path.{◌≡◌, ◌∙◌}
+use Rattle.std.proofs.lemmas.Iterator.{YieldsList-from_slice, cases_from_any}
+use Rattle.rows.specs.Lists.{some}
 use Rattle.calls.specs.Calls.{lacks_right}
-use Rattle.calls.specs.vocabulary.Asks.{items_in}
+use Rattle.calls.specs.vocabulary.Asks.{ItemHeld}
+use Rattle.calls.proofs.Joined.{any-cases}
 use Rattle.calls.proofs.Asked.{any-named}
 use Rattle.calls.proofs.ask.any_lacks.Goals as goal
 
@@ -8,5 +14,7 @@ pub returns : goal.returns
 returns c =
     let xs = c.args.items in
     λ st p rep h.
-    any-named (items_in xs) (lacks_right st) (c.lacks_right-first.ensures st p rep h.0) (c.lacks_right-second.ensures st p rep h.1)
-    (c.lacks_right-third.ensures st p rep h.2) (c.lacks_right-fourth.ensures st p rep h.3)
+    any-cases (ItemHeld st p) (λ x. some x.item.row && lacks_right st x.item) xs _ h
+    (cases_from_any _ _ _ (λ x. ItemHeld st p x → true ≡ (some x.item.row && lacks_right st x.item)) (λ x. ItemHeld st p x → false ≡ (some x.item.row && lacks_right st x.item)) c.any.ensures.ran (YieldsList-from_slice xs cc)
+    (λ x q k held. search (rules, rep, held)) (λ x q k. (search rules, λ held. search (rules, rep, held))))
+    ∙ any-named (lacks_right st) xs

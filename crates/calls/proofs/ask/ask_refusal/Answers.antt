@@ -85,20 +85,8 @@ returns-then-any_deep c =
       space = (λ z. absurd (omega arith));
     }
 
-pub overflow_add-copies-2 : goal.overflow_add-copies-2
-overflow_add-copies-2 c =
-    let fit = c.requires.4 in
-    record { fits = omega (arith, fit.0.1, fit.1.1, fit.2.1) }
-
-pub overflow_add-copies-3 : goal.overflow_add-copies-3
-overflow_add-copies-3 c =
-    let fit = c.requires.4 in
-    record { fits = omega (arith, fit.0.1, fit.1.1, fit.2.1, fit.3.1) }
-
 pub request_refusal-requires : goal.request_refusal-requires
-request_refusal-requires c =
-    let fit = c.requires.4 in
-    (c.requires.1, c.requires.2, omega (arith, fit.0.1, fit.1.1, fit.2.1, fit.3.1))
+request_refusal-requires c = (c.requires.1, c.requires.2, c.copies_of.ensures.few)
 
 pub returns : goal.returns
 returns c =
@@ -115,10 +103,10 @@ returns c =
           let items = c.any_busy.ensures st p (h.0, h.2) held in
           let busy = (λ j. sym asked j || sym items j) ∙ c.if-has_open-any_busy.false in
           let deep = sym (c.any_deep.ensures st p w.port sd h.0 over.0.0 held) ∙ c.if-any_deep.false in
-          let space = c.request_refusal.ensures.lowest st h.1 h.2 over.1 ∙ ap (λ (k : ℕ). lowest (space_tests st k)) (copies-counted st p xs held) in
+          let space = c.request_refusal.ensures.lowest st h.1 h.2 over.1 ∙ ap (λ (k : ℕ). lowest (space_tests st k)) (c.copies_of.ensures.counted ∙ copies-counted st p xs held) in
           test-fails (not (is_client kind)) 8 client
           (test-fails (any (lacks_right st) (named_in xs)) 9 lacks
           (test-fails (has_open st w.port || any (is_busy st w.port) (named_in xs)) 10 busy
           (test-fails (any (λ i. too_deep (copy_depth st w.port i)) (copies st (named_in xs))) 15 deep space))) ∙ sym rest);
-      space = c.request_refusal.ensures.room;
+      space = rw (← c.copies_of.ensures.counted) c.request_refusal.ensures.room;
     }
