@@ -23,13 +23,12 @@ use Rattle.rows.proofs.Keyed.{rises-range}
 use Rattle.rows.proofs.Slots.{row-none, row-found}
 use Rattle.tables.proofs.SoundFacts.{clist-there}
 use Rattle.calls.specs.declared.Item.{Item}
-use Rattle.calls.specs.declared.Items.{Items}
 use Rattle.calls.specs.declared.ItemRow.{ItemRow}
 use Rattle.std.specs.Prelude.{Option, Some, None}
 use Rattle.calls.specs.Rules.{Test, ◌when◌, lowest, not_held, has_open, too_deep, rows_full, requests_full, numbers_spent}
 use Rattle.calls.specs.Loans.{items_of, item_row, moves, copies, copy_depth}
 use Rattle.calls.specs.Calls.{lacks_right, is_busy, refusals_ask}
-use Rattle.calls.specs.vocabulary.Asks.{is_copy, item_row_of, is_missing, looked_up, ItemFits, LookedFits, ItemHeld, ItemsHeld, listed, named_in, copies_in}
+use Rattle.calls.specs.vocabulary.Asks.{is_copy, item_row_of, is_missing, looked_up, ItemFits, LookedFits, ItemHeld, ItemsHeld, named_in, copies_in}
 use Rattle.calls.proofs.LookedUp.{zero_word}
 
 -- ---- the look-up of an item
@@ -236,9 +235,9 @@ unfolding refusals_ask lowest
 ask-seven st p c is h = rw h refl
 
 -- one item is missing
-pub item-seven : (st : State) (p c : ℕ) (is : Items) (k : ℕ) (d : Item) → k < 4 → is_missing st p (get_or (listed is) k d) ≡ true → 7 ≡ lowest (refusals_ask st p c (items_of is))
+pub item-seven : (st : State) (p c : ℕ) (is : List Item) (k : ℕ) (d : Item) → k < length is → is_missing st p (get_or is k d) ≡ true → 7 ≡ lowest (refusals_ask st p c (items_of is))
 unfolding items_of
-item-seven st p c is k d few m = ask-seven st p c (items_of is) (or_r (not_held st p c) _ (one-missing st p (listed is) k d few m))
+item-seven st p c is k d few m = ask-seven st p c (items_of is) (or_r (not_held st p c) _ (one-missing st p is k d few m))
 
 pub ask-rest : (st : State) (p c : ℕ) (is : List Item) → not_held st p c ≡ false → any (λ i. not_held st p i.row) is ≡ false
     → lowest (refusals_ask st p c is)

@@ -16,7 +16,7 @@ use Rattle.rows.proofs.Slots.{row-found}
 use Rattle.tables.proofs.Sound.{sound-open}
 use Rattle.tables.proofs.SoundFacts.{row-object, manager-listed, listed-range}
 use Rattle.rows.specs.vocabulary.Represents.{laid_well, Represents}
-use Rattle.calls.specs.declared.Items.{Items}
+use Rattle.calls.specs.declared.Item.{Item}
 use Rattle.calls.specs.declared.Sixteen.{Sixteen}
 use Rattle.calls.specs.declared.Answer.{Answer}
 use Rattle.calls.specs.declared.Answer.TheVariants.{Done, Made, Fetched, Told, ToldAll}
@@ -58,11 +58,11 @@ module _ {after : List ℕ} (st : State) (p e : ℕ) where
   made-port n h rep = record { answer = ap Made h; words = rep }
 
 -- the request's number
-pub made-request : {after : List ℕ} (st : State) (p c : ℕ) (is : Items) (n : ℕ) → n ≡ st.next → Represents after (with_request st p c (items_of is)) → Answers after (Made n) (effect st (Ask p c is))
+pub made-request : {after : List ℕ} (st : State) (p c : ℕ) (is : List Item) (n : ℕ) → n ≡ st.next → Represents after (with_request st p c (items_of is)) → Answers after (Made n) (effect st (Ask p c is))
 unfolding effect made
 made-request st p c is n h rep = record { answer = ap Made h; words = rep }
 
-pub ask-records : (st : State) (p c : ℕ) (is : Items) → (effect st (Ask p c is)).after.processes ≡ st.processes
+pub ask-records : (st : State) (p c : ℕ) (is : List Item) → (effect st (Ask p c is)).after.processes ≡ st.processes
 unfolding effect made with_request
 ask-records st p c is = refl
 

@@ -8,12 +8,11 @@ use Rattle.rows.specs.Codes.{waiting_mark, fetched_mark, in_clist, with_system}
 use Rattle.rows.specs.Tables.{State, row_of, depth_over, lists, goes_back}
 use Rattle.rows.specs.Setters.{with_rows, with_requests, with_next, with_place, with_fetched}
 use Rattle.calls.specs.declared.Item.{Item}
-use Rattle.calls.specs.declared.Items.{Items}
 use Rattle.calls.specs.Rules.{copy_of}
 
 -- (rule F2) the items named, in order
-unfoldable pub items_of : Items → List Item
-items_of is = filter (λ i. some i.row) (is.first ∷ is.second ∷ is.third ∷ is.fourth ∷ [])
+unfoldable pub items_of : List Item → List Item
+items_of is = filter (λ i. some i.row) is
 
 unfoldable pub item_row : State → Item → Row
 item_row st i = row_of st.rows i.row

@@ -9,7 +9,7 @@ ghost use Rattle.calls.specs.vocabulary.Asks.{ItemBusy, AnyItemBusy, CopyDeep, A
 ghost use Rattle.calls.specs.vocabulary.Asks.{SpaceUnless, copies_in, AsksHeld, AsksItems};
 
 use crate::lend::add_request;
-use crate::{Answer, Item, ItemRow, Items, NewRequest, Refusal, lookups, tests};
+use crate::{Answer, Item, ItemRow, NewRequest, Refusal, lookups, tests};
 use rows::codes::{A_CLIENT_END, GREATEST_DEPTH, is_end};
 use rows::layout::{ITEMS, KIND, OBJECT, RIGHTS};
 use rows::{Rights, find, read};
@@ -174,15 +174,19 @@ fn ask_held(
 }
 
 // ask of the request w, whose port the asker holds: 7 for an item that it does not hold.
-fn ask_items(t: &mut [u32], n: usize, w: NewRequest, items: Items) -> Result<Answer, Refusal>
+fn ask_items(
+    t: &mut [u32],
+    n: usize,
+    w: NewRequest,
+    items: [Item; ITEMS],
+) -> Result<Answer, Refusal>
     requires { IsTables t.old × (n ≤ ROWS) × (w.slot < n) }
     ensures answers { AsksItems t.old n w items t.new (answer_in result) }
     ensures long { IsTables t.new }
 {
-    let named = [items.first, items.second, items.third, items.fourth];
     let mut rows = [NO_ITEM; ITEMS];
     for k in 0..ITEMS {
-        let Some(x) = item_row(t, n, w.asker, named[k]) else {
+        let Some(x) = item_row(t, n, w.asker, items[k]) else {
             return Err(Refusal::NotHeld);
         };
         rows[k] = x;
@@ -192,7 +196,7 @@ fn ask_items(t: &mut [u32], n: usize, w: NewRequest, items: Items) -> Result<Ans
 
 // ask: 7 for a row that the caller does not hold; then the items' refusals.
 // Ruled out: an item is lent where a later one is refused; copies that take their numbers before the request.
-pub fn ask(t: &mut [u32], p: u32, c: u32, items: Items) -> Answer
+pub fn ask(t: &mut [u32], p: u32, c: u32, items: [Item; ITEMS]) -> Answer
     requires { IsTables t.old × IsProcess p }
     ensures performs { PerformsApart t.old (Call.Ask p c items) t.new result }
     ensures long { IsTables t.new }

@@ -9,15 +9,6 @@ pub struct Item {
     pub rights: u32,
 }
 
-// The items of an ask, those named first, then no items.
-#[derive(Clone, Copy)]
-pub struct Items {
-    pub first: Item,
-    pub second: Item,
-    pub third: Item,
-    pub fourth: Item,
-}
-
 // Four numbers, 0 for none.
 #[derive(Clone, Copy)]
 pub struct Four {
@@ -37,7 +28,7 @@ pub struct Sixteen {
 }
 
 // A call: the caller's number, then the call's; comes, chain and comesall have no caller. Of an answer: whether the
-// request was served. Of a comesall: the rows of its pairs, 0 after the last, and their requests.
+// request was served. Of an ask: its items, those named first, then no items. Of a comesall: the rows of its pairs, 0 after the last, and their requests.
 #[derive(Clone, Copy)]
 pub enum Call {
     Go(u32, u32),
@@ -46,7 +37,7 @@ pub enum Call {
     Drop(u32, u32),
     Port(u32, u32),
     Close(u32, u32),
-    Ask(u32, u32, Items),
+    Ask(u32, u32, [Item; 4]),
     Fetch(u32, u32),
     Answer(u32, u32, bool),
     Revoke(u32, u32),

@@ -2,7 +2,6 @@
 use Rattle.std.specs.Prelude.{ℕ, zero, suc, ◌+◌, Bool, List, [], ◌∷◌, length, if◌then◌else◌}
 use Rattle.rows.specs.Lists.{filter, some}
 use Rattle.calls.specs.declared.Item.{Item}
-use Rattle.calls.specs.declared.Items.{Items}
 use Rattle.calls.specs.declared.Call.{Call}
 use Rattle.calls.specs.declared.Call.TheVariants.{Go, Hold, Register, Drop, Port, Close, Ask, Fetch, Revoke, Comes, Chain, ComesAll}
 use Rattle.text.specs.declared.Reading.{Reading}
@@ -48,8 +47,8 @@ unfoldable pub number_answered : List ℕ → ℕ
 number_answered reply = (form reply 0 "(ok #").c
 
 -- (rule H2) the items of an ask
-unfoldable pub items_named : Items → List Item
-items_named is = filter (λ i. some i.row) (is.first ∷ is.second ∷ is.third ∷ is.fourth ∷ [])
+unfoldable pub items_named : List Item → List Item
+items_named is = filter (λ i. some i.row) is
 
 -- (rules H1, H2) what an accepted call adds; refused lines, `fetch`, `comes`, `chain` and `comesall` add nothing
 unfoldable pub note_call : Call → ℕ → History → History

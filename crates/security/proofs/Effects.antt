@@ -22,7 +22,7 @@ use Rattle.rows.specs.Setters.{in_prime_node, went_through}
 use Rattle.tables.proofs.Sound.{Sound}
 use Rattle.closing.proofs.Lookups.{oldest-none}
 use Rattle.closing.specs.Closing.{listed_in, settled, closing, close_request, close_port, drop_row}
-use Rattle.calls.specs.declared.Items.{Items}
+use Rattle.calls.specs.declared.Item.{Item}
 use Rattle.calls.specs.declared.Sixteen.{Sixteen}
 use Rattle.calls.specs.declared.Call.{Call}
 use Rattle.calls.specs.declared.Call.TheVariants.{Go, Hold, Register, Drop, Port, Close, Ask, Fetch, Revoke, Comes, Chain, ComesAll}
@@ -85,7 +85,7 @@ pub data Effect (st : State) : Call → State → Type 0 where
   tells : (c : Call) → Question c → Effect st c st
   moves-to : (p e : ℕ) → GoAllowed st p e → Effect st (Go p e) (with_record p (went_to st p e) st)
   adds : (c : Call) (rs : List Row) (n : ℕ) → Adds st c rs → n ≡ st.next + length rs → Effect st c (with_new_rows (rs ++ st.rows) n st)
-  asks : (p c : ℕ) (is : Items) → AskAllowed st p c (items_of is) → Effect st (Ask p c is) (asked_state st p c (items_of is))
+  asks : (p c : ℕ) (is : List Item) → AskAllowed st p c (items_of is) → Effect st (Ask p c is) (asked_state st p c (items_of is))
   fetches : (p e : ℕ) → FetchAllowed st p e → Effect st (Fetch p e) (handed_over p (asked_of st e) st)
   shuts-off : (c : Call) (g : List ℕ) (f : Request → Bool) → Closes st c g f → Plain st c → Effect st c (settled g f st)
 

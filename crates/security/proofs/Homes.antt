@@ -19,7 +19,6 @@ use Rattle.tables.proofs.Picked.{first-here, first-other}
 use Rattle.tables.proofs.Sound.{Sound}
 use Rattle.tables.proofs.SoundFacts.{row_below, next-some}
 use Rattle.calls.specs.declared.Item.{Item}
-use Rattle.calls.specs.declared.Items.{Items}
 use Rattle.calls.specs.declared.Call.{Call}
 use Rattle.calls.specs.declared.Call.TheVariants.{Go, Hold, Register, Drop, Port, Close, Ask, Fetch, Revoke, Comes, Chain, ComesAll}
 use Rattle.calls.specs.Answers.{values_of}
@@ -302,7 +301,7 @@ module _ (fs : List Form) (h : History) (st : State) (i : Inv h st) (s : Sound s
       let at = home-first (suc st.next) st.next (in_clist (homed_of hs e).object) (with_home st.next st.next (in_clist p) hs) in
       (ap (λ x. x.object) at, ap (λ x. x.home) at ∙ ap in_clist (r.objects e a.row.there))
 
-  module _ (p c : ℕ) (is : Items) (a : AskAllowed st p c (items_of is)) where
+  module _ (p c : ℕ) (is : List Item) (a : AskAllowed st p c (items_of is)) where
     ask-homes : hs' (Ask p c is) ≡ copy_homes (suc st.next) (copies st (items_of is)) hs
     unfolding note_homes effect made values_of first_value items_of items_named
     ask-homes = ap (λ ks. copy_homes (suc st.next) ks hs) (copied-same h st i s p (items_of is) a.held)

@@ -25,7 +25,6 @@ use Rattle.tables.proofs.SoundFacts.{row_number, row-object, client-object, clis
 use Rattle.tables.proofs.Standing.{sourced-at}
 use Rattle.closing.proofs.Facts.{request-number}
 use Rattle.calls.specs.declared.Item.{Item}
-use Rattle.calls.specs.declared.Items.{Items}
 use Rattle.calls.specs.declared.Call.{Call}
 use Rattle.calls.specs.declared.Call.TheVariants.{Go, Hold, Register, Drop, Port, Close, Ask, Fetch, Revoke, Comes, Chain, ComesAll}
 use Rattle.calls.specs.declared.Answer.TheVariants.{Fetched}
@@ -376,7 +375,7 @@ module _ (st st' : State) (s : Sound st) (s' : Sound st') (p : ℕ) (same : view
         items : not_held st p c || any (λ i. not_held st p i.row) is ≡ false → all free is ≡ true
         items n = none-all (λ i. not_held st p i.row) is (or-fr (not_held st p c) _ n)
 
-  ask-alike : (c : ℕ) (is : Items) → Alikes (Ask p c is)
+  ask-alike : (c : ℕ) (is : List Item) → Alikes (Ask p c is)
   unfolding refusals effect
   ask-alike c is = asks-alike c (items_of is) _ (made_alike st st' _ _)
 

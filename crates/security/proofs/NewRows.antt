@@ -17,7 +17,6 @@ use Rattle.closing.proofs.Lookups.{left-keys}
 use Rattle.rows.proofs.Bools.{and_l, and_r, and_i, or_l, or_r, all-and, all_filter, eqb-self, member-cases}
 use Rattle.tables.proofs.Sound.{Sound}
 use Rattle.calls.specs.declared.Item.{Item}
-use Rattle.calls.specs.declared.Items.{Items}
 use Rattle.calls.specs.declared.Call.{Call}
 use Rattle.calls.specs.declared.Call.TheVariants.{Hold, Register, Port, Ask}
 use Rattle.calls.specs.Rules.{asked_of, with_new_rows, with_record, copy_of}
@@ -41,7 +40,7 @@ pub data Newly (st : State) : Call → ℕ → Row → Type 0 where
   registered : (p e : ℕ) → RegisterAllowed st p e → Newly st (Register p e) st.next (registered_row st p e)
   client : (p e : ℕ) → PortAllowed st p e → Newly st (Port p e) st.next (client_row st p e)
   server : (p e : ℕ) → PortAllowed st p e → Newly st (Port p e) (suc st.next) (server_row st e)
-  copied : (p c : ℕ) (is : Items) → AskAllowed st p c (items_of is) → (n : ℕ) (i : Item) → Names (items_of is) i → lendable st p c i ≡ true → st.next < n
+  copied : (p c : ℕ) (is : List Item) → AskAllowed st p c (items_of is) → (n : ℕ) (i : Item) → Names (items_of is) i → lendable st p c i ≡ true → st.next < n
       → Newly st (Ask p c is) n (copy_lent st c st.next n i)
 
 -- ---- new rows in front
@@ -124,7 +123,7 @@ pub lent-number : (st : State) (is : List Item) (n : ℕ) → member n (numbers 
 unfolding numbers
 lent-number st is n = ap (member n) (keys-map (λ r. r.number) (moved (is_item st is) with_system) (moved-number (is_item st is) with_system) st.rows)
 
-pub asks-new : (st : State) (s : Sound st) (p c : ℕ) (is : Items) (a : AskAllowed st p c (items_of is)) (n : ℕ) → member n (numbers (asked_rows st c (items_of is))) ≡ true → (IsRow st n → ⊥)
+pub asks-new : (st : State) (s : Sound st) (p c : ℕ) (is : List Item) (a : AskAllowed st p c (items_of is)) (n : ℕ) → member n (numbers (asked_rows st c (items_of is))) ≡ true → (IsRow st n → ⊥)
     → Newly st (Ask p c is) n (row_of (asked_rows st c (items_of is)) n)
 unfolding copies named
 asks-new st s p c is a n t u = pick (stacked-new st c st.next good (copies st (items_of is)) all-good (suc st.next) (lent_rows st (items_of is)) n t)

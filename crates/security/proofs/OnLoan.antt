@@ -20,7 +20,7 @@ use Rattle.tables.proofs.Sound.{Sound}
 use Rattle.tables.proofs.SoundFacts.{next-some}
 use Rattle.closing.proofs.TrimmedLists.{trim, member-trim, any-first}
 use Rattle.closing.proofs.Facts.{request-number}
-use Rattle.calls.specs.declared.Items.{Items}
+use Rattle.calls.specs.declared.Item.{Item}
 use Rattle.calls.specs.declared.Call.{Call}
 use Rattle.calls.specs.declared.Call.TheVariants.{Go, Hold, Register, Drop, Port, Close, Ask, Fetch, Revoke, Comes, Chain, ComesAll}
 use Rattle.calls.specs.Answers.{values_of}
@@ -301,7 +301,7 @@ module _ (h h' : History) (st st' : State) (c : Call) (i : Inv h st) (l : Lends 
 -- ---- a line
 data NotesRequest (h : History) (n : ℕ) : Call → Type 0 where
   no-request : (c : Call) → (note_call c n h).requests ≡ h.requests → NotesRequest h n c
-  new-request : (p c : ℕ) (is : Items) → NotesRequest h n (Ask p c is)
+  new-request : (p c : ℕ) (is : List Item) → NotesRequest h n (Ask p c is)
 
 notes-request : (h : History) (n : ℕ) (c : Call) → NotesRequest h n c
 unfolding note_call note_go note_hold note_register note_port add_row note_drop note_close note_end note_revoke
@@ -332,7 +332,7 @@ module _ (h : History) (st : State) (i : Inv h st) (l : Lends h st) (s : Sound s
       said-so h h' st o.after c i l s x.inv x.lends (call_kept st s line) k j
 
   -- the loans after an ask: those that it makes come first
-  ask-loans : (p c : ℕ) (is : Items) → Allowed st (Ask p c is) → o ≡ effect st (Ask p c is)
+  ask-loans : (p c : ℕ) (is : List Item) → Allowed st (Ask p c is) → o ≡ effect st (Ask p c is)
       → h'.loans ≡ block st.next (ends_named h.rows (items_named is)) ++ h.loans
   unfolding Allowed effect made note_ask items_of items_named
   ask-loans p c is a z =

@@ -21,7 +21,7 @@ use Rattle.tables.proofs.SoundFacts.{row_number, row_below, requests-between}
 use Rattle.closing.specs.Closing.{oldest_listing, returned, listed_in, remaining, settled}
 use Rattle.closing.proofs.Facts.{request-number}
 use Rattle.closing.proofs.Lookups.{row-after, returned-keeps, returned-same, returned-place, left-not-gone}
-use Rattle.calls.specs.declared.Items.{Items}
+use Rattle.calls.specs.declared.Item.{Item}
 use Rattle.calls.specs.declared.Call.{Call}
 use Rattle.calls.specs.declared.Call.TheVariants.{Ask, Fetch}
 use Rattle.calls.specs.Rules.{asked_of, with_new_rows, with_record}
@@ -59,7 +59,7 @@ module _ (st : State) (s : Sound st) (log : Log) (home n : ℕ) (t : IsRow st n)
       }
 
   -- ---- ask: an end among the items is lent to the system, by the caller, who had it
-  module _ (p c : ℕ) (is : Items) (a : AskAllowed st p c (items_of is)) where
+  module _ (p c : ℕ) (is : List Item) (a : AskAllowed st p c (items_of is)) where
     abbrev v : Request
     v = asked st p c (items_of is)
 

@@ -24,7 +24,7 @@ use Rattle.tables.proofs.Sound.{Sound}
 use Rattle.tables.proofs.SoundFacts.{row_below, clist-is, manager-listed, row-object}
 use Rattle.closing.proofs.Facts.{copy_at, copy-listed, lists-open}
 use Rattle.closing.proofs.Lookups.{left-stood}
-use Rattle.calls.specs.declared.Items.{Items}
+use Rattle.calls.specs.declared.Item.{Item}
 use Rattle.calls.specs.declared.Call.{Call}
 use Rattle.calls.specs.declared.Call.TheVariants.{Ask}
 use Rattle.calls.specs.Rules.{with_new_rows, with_record, copy_of}
@@ -72,11 +72,11 @@ module _ (st : State) (s : Sound st) where
   new_home c n r (copied p d is a n' i m g l) k =
       clash k (unfold lendable moves item_row in (let no_end : not (is_end (row_of st.rows i.row).kind) ≡ true = search and_l in not_t _ no_end))
 
-  copy-no-end : (p d : ℕ) (is : Items) (n : ℕ) (r : Row) → Newly st (Ask p d is) n r → is_end r.kind ≡ false
+  copy-no-end : (p d : ℕ) (is : List Item) (n : ℕ) (r : Row) → Newly st (Ask p d is) n r → is_end r.kind ≡ false
   unfolding copy_lent copy_of item_row lendable moves
   copy-no-end p d is n r (copied p' d' is' a n' i m g l) = let no_end : not (is_end (row_of st.rows i.row).kind) ≡ true = search and_l in not_t _ no_end
 
-  copy-with-system : (p d : ℕ) (is : Items) (n : ℕ) (r : Row) → Newly st (Ask p d is) n r → (r.place ≡ with_system) × (st.next < n)
+  copy-with-system : (p d : ℕ) (is : List Item) (n : ℕ) (r : Row) → Newly st (Ask p d is) n r → (r.place ≡ with_system) × (st.next < n)
   unfolding copy_lent copy_of
   copy-with-system p d is n r (copied p' d' is' a n' i m g l) = (refl, l)
 

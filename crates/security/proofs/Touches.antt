@@ -30,7 +30,6 @@ use Rattle.closing.proofs.Facts.{request-number}
 use Rattle.closing.proofs.Lookups.{remaining-keys, request-after, left-keys, row-after}
 use Rattle.closing.proofs.Processes.{homed-at}
 use Rattle.calls.specs.declared.Item.{Item}
-use Rattle.calls.specs.declared.Items.{Items}
 use Rattle.calls.specs.declared.Call.{Call}
 use Rattle.calls.specs.declared.Call.TheVariants.{Go, Ask, Fetch}
 use Rattle.calls.specs.Rules.{asked_of, with_new_rows, copy_of, with_record}
@@ -268,7 +267,7 @@ module _ (st : State) (s : Sound st) where
       let (lo, hi) = rises-range (λ v. v.number) st.requests s.numbers.requests-rise q t in
       let top = requests-top st s.numbers in omega arith
 
-  module _ (p c : ℕ) (is : Items) (a : AskAllowed st p c (items_of is)) where
+  module _ (p c : ℕ) (is : List Item) (a : AskAllowed st p c (items_of is)) where
     ask-quiet : Quiet st (Ask p c is)
     unfolding closed_by discards
     ask-quiet = record { closes-none = refl; discards-none = λ r. refl }

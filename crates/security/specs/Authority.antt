@@ -8,7 +8,6 @@ use Rattle.rows.specs.Codes.{is_operation, is_server, is_end, in_node, in_clist,
 use Rattle.rows.specs.Tables.{State, row_of, request_of, process_at, lists, is_lent}
 use Rattle.rows.specs.Setters.{with_place}
 use Rattle.calls.specs.declared.Item.{Item}
-use Rattle.calls.specs.declared.Items.{Items}
 use Rattle.calls.specs.declared.Call.{Call}
 use Rattle.calls.specs.declared.Call.TheVariants.{Hold, Register, Port, Ask, Fetch}
 use Rattle.calls.specs.Rules.{asked_of}
@@ -99,8 +98,8 @@ pub data Arrives (st : State) (n : ℕ) (r : Row) : Call → Type 0 where
   registered : (p e : ℕ) → ByRegister st p e n r → Arrives st n r (Register p e)
   client : (p e : ℕ) → n ≡ st.next → r.place ≡ in_clist p → ByPort st p e r → Arrives st n r (Port p e)
   server : (p e : ℕ) → n ≡ suc st.next → r.place ≡ in_clist (row_of st.rows e).object → ByPort st p e r → Arrives st n r (Port p e)
-  copied : (p c : ℕ) (is : Items) → ByLending st p c n (items_of is) r → Arrives st n r (Ask p c is)
-  lent : (p c : ℕ) (is : Items) → LentAway st p n (items_of is) r → Arrives st n r (Ask p c is)
+  copied : (p c : ℕ) (is : List Item) → ByLending st p c n (items_of is) r → Arrives st n r (Ask p c is)
+  lent : (p c : ℕ) (is : List Item) → LentAway st p n (items_of is) r → Arrives st n r (Ask p c is)
   fetched : (p v : ℕ) → ByFetch st p v n r → Arrives st n r (Fetch p v)
   returned : (c : Call) → ByClosing st c n r → Arrives st n r c
 

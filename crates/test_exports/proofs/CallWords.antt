@@ -9,7 +9,7 @@ use lib.Dec.{leb, eqb}
 use Rattle.rows.specs.Lists.{between}
 use Rattle.rows.proofs.Bools.{or_cases}
 use Rattle.rows.proofs.Places.{between-range}
-use Rattle.calls.specs.declared.Items.{Items}
+use Rattle.calls.specs.declared.Item.{Item}
 use Rattle.calls.specs.declared.Sixteen.{Sixteen}
 use Rattle.calls.specs.declared.Call.{Call}
 use Rattle.calls.specs.declared.Call.TheVariants.{Go, Hold, Register, Drop, Port, Close, Ask, Fetch, Revoke, Comes, Chain, ComesAll}
@@ -21,7 +21,7 @@ either-in-range : (b : Bool) (x y : Call) → CallerInRange x → CallerInRange 
 either-in-range true x y h k = h
 either-in-range false x y h k = k
 
-module _ (k p e : ℕ) (is : Items) (served : Bool) (es qs : Sixteen) where
+module _ (k p e : ℕ) (is : List Item) (served : Bool) (es qs : Sixteen) where
   abbrev uncalled : Call
   uncalled = cond (eqb k 10) (Comes p e) (cond (eqb k 11) (Chain p) (ComesAll es qs))
 

@@ -6,8 +6,8 @@ ghost use Rattle.rows.specs.vocabulary.Finds.{FindsRow, FindsRequest, FindsOpen}
 ghost use Rattle.rows.specs.vocabulary.Sizes.{IsTables};
 ghost use Rattle.test_exports.specs.vocabulary.Exports.{Unless};
 
-use rows::layout::TABLES;
 use rows::find;
+use rows::layout::TABLES;
 
 #[unsafe(no_mangle)]
 pub extern "C" fn kernel_rows_in(t: &[u32]) -> usize

@@ -7,7 +7,7 @@ ghost use Rattle.test_exports.specs.vocabulary.Calls.{items_of_words, call_of_wo
 ghost use Rattle.test_exports.specs.vocabulary.Calls.{PerformsWords, AllStay};
 
 use calls::perform::perform;
-use calls::{Answer, Call, Item, Items, Sixteen, numbers};
+use calls::{Answer, Call, Item, Sixteen, numbers};
 use rows::codes::LAST_PROCESS;
 use rows::layout::{RECORDS, TABLES};
 
@@ -26,31 +26,27 @@ const REQUESTS_AT: usize = 17;
 // the code of comes: from it on calls have no caller
 const COMES: u32 = 10;
 
-fn items_of(w: &[u32; CALL_WORDS]) -> Items
+fn items_of(w: &[u32; CALL_WORDS]) -> [Item; 4]
     ensures { result ≡ items_of_words w.now }
 {
-    let first = Item {
-        row: w[3],
-        rights: w[4],
-    };
-    let second = Item {
-        row: w[5],
-        rights: w[6],
-    };
-    let third = Item {
-        row: w[7],
-        rights: w[8],
-    };
-    let fourth = Item {
-        row: w[9],
-        rights: w[10],
-    };
-    Items {
-        first: first,
-        second: second,
-        third: third,
-        fourth: fourth,
-    }
+    [
+        Item {
+            row: w[3],
+            rights: w[4],
+        },
+        Item {
+            row: w[5],
+            rights: w[6],
+        },
+        Item {
+            row: w[7],
+            rights: w[8],
+        },
+        Item {
+            row: w[9],
+            rights: w[10],
+        },
+    ]
 }
 
 // Sixteen of the words, from a position on.

@@ -11,7 +11,6 @@ use Rattle.rows.specs.Lists.{bytes, between, all, some, distinct}
 use Rattle.rows.specs.Limits.{greatest_number, processes, most_bytes, most_items, all_rights}
 use Rattle.rows.proofs.Bools.{and_l, and_r, and_i, clash}
 use Rattle.calls.specs.declared.Item.{Item}
-use Rattle.calls.specs.declared.Items.{Items}
 use Rattle.calls.specs.declared.Call.{Call}
 use Rattle.calls.specs.declared.Call.TheVariants.{Go, Hold, Register, Drop, Port, Close, Ask, Fetch, Revoke, Comes, Chain, ComesAll}
 use Rattle.calls.specs.Loans.{items_of}
@@ -303,9 +302,9 @@ answered p e x h few =
     let he = and_r (is_process p) (is_number e) h in
     answer_back _ p e x (process-fits p hp) (number_fits e he) (omega arith) (at-start _) hp he (le-leb x 1 few)
 
-few-items : (is : Items) → length (items_of is) ≤ 4
-unfolding items_of
-few-items is = length-filter (λ i. some i.row) (is.first ∷ is.second ∷ is.third ∷ is.fourth ∷ [])
+few-items : (is : List Item) → packed (items_of is) ≡ is → length (items_of is) ≤ 4
+unfolding items_of packed
+few-items is first = omega (arith, length-filter (λ i. some i.row) is, ap length first)
 
 pub call-read : (c : Call) → InRange c → reading_of (call_text c) ≡ Asks c
 unfolding InRange call_text simple_text ask_text answer_text last_of comes_text chain_text comes_all_text simple ranged bytes word_of word_from spelt all is_letter between most_bytes
@@ -316,7 +315,7 @@ call-read (Register p e) h = named p e h 114 (101 ∷ 103 ∷ 105 ∷ 115 ∷ 11
 call-read (Drop p e) h = named p e h 100 (114 ∷ 111 ∷ 112 ∷ []) refl refl (omega arith) (Asks (Drop p e)) (rw h refl)
 call-read (Port p e) h = named p e h 112 (111 ∷ 114 ∷ 116 ∷ []) refl refl (omega arith) (Asks (Port p e)) (rw h refl)
 call-read (Close p e) h = named p e h 99 (108 ∷ 111 ∷ 115 ∷ 101 ∷ []) refl refl (omega arith) (Asks (Close p e)) (rw h refl)
-call-read (Ask p c is) h = ask-back _ p c (items_of is) h.caller h.port h.items h.apart (few-items is) (at-start _) ∙ ap (λ (x : Items). Asks (Ask p c x)) h.first
+call-read (Ask p c is) h = ask-back _ p c (items_of is) h.caller h.port h.items h.apart (few-items is h.first) (at-start _) ∙ ap (λ (x : List Item). Asks (Ask p c x)) h.first
 call-read (Fetch p e) h = named p e h 102 (101 ∷ 116 ∷ 99 ∷ 104 ∷ []) refl refl (omega arith) (Asks (Fetch p e)) (rw h refl)
 call-read (Call.Answer p e true) h = answered p e 1 h (omega arith)
 call-read (Call.Answer p e false) h = answered p e 0 h (omega arith)

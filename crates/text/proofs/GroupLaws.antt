@@ -126,23 +126,17 @@ items-rows (x ∷ xs) = ap (λ (l : List ℕ). x.first ∷ l) (items-rows xs)
 pub four-packed : (x : Gathered)
     → packed (map item_of x.groups)
     ≡ (let g = groups_from x in
-    record {
-      first = record { row = get_or g.firsts 0 0; rights = get_or g.seconds 0 0 };
-      second = record { row = get_or g.firsts 1 0; rights = get_or g.seconds 1 0 };
-      third = record { row = get_or g.firsts 2 0; rights = get_or g.seconds 2 0 };
-      fourth = record { row = get_or g.firsts 3 0; rights = get_or g.seconds 3 0 };
-    })
+    record { row = get_or g.firsts 0 0; rights = get_or g.seconds 0 0 } ∷ record { row = get_or g.firsts 1 0; rights = get_or g.seconds 1 0 }
+    ∷ record { row = get_or g.firsts 2 0; rights = get_or g.seconds 2 0 } ∷ record { row = get_or g.firsts 3 0; rights = get_or g.seconds 3 0 } ∷ [])
 unfolding packed groups_from no_item item_of pad
 four-packed x = by x.groups
   where
     by : (xs : List Group)
         → packed (map item_of xs)
-        ≡ record {
-          first = record { row = get_or (pad 0 GROUPS (map (λ y. y.first) xs)) 0 0; rights = get_or (pad 0 GROUPS (map (λ y. y.second) xs)) 0 0 };
-          second = record { row = get_or (pad 0 GROUPS (map (λ y. y.first) xs)) 1 0; rights = get_or (pad 0 GROUPS (map (λ y. y.second) xs)) 1 0 };
-          third = record { row = get_or (pad 0 GROUPS (map (λ y. y.first) xs)) 2 0; rights = get_or (pad 0 GROUPS (map (λ y. y.second) xs)) 2 0 };
-          fourth = record { row = get_or (pad 0 GROUPS (map (λ y. y.first) xs)) 3 0; rights = get_or (pad 0 GROUPS (map (λ y. y.second) xs)) 3 0 };
-        }
+        ≡ record { row = get_or (pad 0 GROUPS (map (λ y. y.first) xs)) 0 0; rights = get_or (pad 0 GROUPS (map (λ y. y.second) xs)) 0 0 }
+        ∷ record { row = get_or (pad 0 GROUPS (map (λ y. y.first) xs)) 1 0; rights = get_or (pad 0 GROUPS (map (λ y. y.second) xs)) 1 0 }
+        ∷ record { row = get_or (pad 0 GROUPS (map (λ y. y.first) xs)) 2 0; rights = get_or (pad 0 GROUPS (map (λ y. y.second) xs)) 2 0 }
+        ∷ record { row = get_or (pad 0 GROUPS (map (λ y. y.first) xs)) 3 0; rights = get_or (pad 0 GROUPS (map (λ y. y.second) xs)) 3 0 } ∷ []
     by [] = refl
     by (x ∷ []) = refl
     by (x ∷ y ∷ []) = refl

@@ -3,7 +3,6 @@ use Rattle.std.specs.Prelude.{ℕ, zero, suc, Bool, not, ◌&&◌, List, [], ◌
 use Rattle.rows.specs.Lists.{all, distinct, between}
 use Rattle.rows.specs.Limits.{processes, all_rights, greatest_number, most_items, most_pairs, most_bytes}
 use Rattle.calls.specs.declared.Item.{Item}
-use Rattle.calls.specs.declared.Items.{Items}
 use Rattle.calls.specs.declared.Call.{Call}
 use Rattle.calls.specs.declared.Call.TheVariants.{Go, Hold, Register, Drop, Port, Close, Ask, Fetch, Revoke, Comes, Chain, ComesAll}
 use Rattle.calls.specs.Calls.{sixteen_from}
@@ -120,8 +119,8 @@ item_ranged i = is_number i.row && leb i.rights all_rights
 unfoldable pub no_item : Item
 no_item = record { row = 0; rights = 0 }
 
-unfoldable pub packed : List Item → Items
-packed is = record { first = get_or is 0 no_item; second = get_or is 1 no_item; third = get_or is 2 no_item; fourth = get_or is 3 no_item }
+unfoldable pub packed : List Item → List Item
+packed is = get_or is 0 no_item ∷ get_or is 1 no_item ∷ get_or is 2 no_item ∷ get_or is 3 no_item ∷ []
 
 -- (rules F4, F5, F7, F8) 3, then 4, one row twice among the items, then 6, more than four items (before which comes 5, which needs the tables)
 unfoldable pub judged : ℕ → ℕ → List Item → Reading

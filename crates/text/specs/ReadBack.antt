@@ -4,7 +4,6 @@ use Prim.Native.String.{String}
 use Rattle.rows.specs.Lists.{all, distinct, some, bytes}
 use Rattle.rows.specs.Limits.{greatest_number, most_pairs, most_bytes}
 use Rattle.calls.specs.declared.Item.{Item}
-use Rattle.calls.specs.declared.Items.{Items}
 use Rattle.calls.specs.declared.Sixteen.{Sixteen}
 use Rattle.calls.specs.declared.Call.{Call}
 use Rattle.calls.specs.declared.Call.TheVariants.{Go, Hold, Register, Drop, Port, Close, Ask, Fetch, Revoke, Comes, Chain, ComesAll}
@@ -76,7 +75,7 @@ call_text (Chain e) = chain_text e
 call_text (ComesAll es qs) = comes_all_text (pairs_of es qs)
 
 -- (rules F4, F5, F7) the numbers of a call are in range; no row twice among its items, and no gap before one
-pub record AskInRange (p c : ℕ) (is : Items) : Type 0 where
+pub record AskInRange (p c : ℕ) (is : List Item) : Type 0 where
   pub caller : is_process p ≡ true
   pub port : is_number c ≡ true
   pub items : all item_ranged (items_of is) ≡ true

@@ -11,7 +11,7 @@ ghost use Rattle.text.specs.vocabulary.Groups.{head_of, JudgesGroups, groups_for
 use crate::patterns::{ends_at, is_whole, read_form};
 use crate::{Groups, Head, Read, Reader, Reading, Seen};
 use calls::numbers::sixteen_from;
-use calls::{Call, Item, Items};
+use calls::{Call, Item};
 use rows::codes::{ALL_RIGHTS, LAST_NUMBER, LAST_PROCESS};
 
 const MOST_ITEMS: usize = 4;
@@ -208,29 +208,29 @@ fn gather(line: &[u8], at: usize) -> Groups
 }
 
 // The first four groups as items, no items after the last.
-fn first_four(g: Groups) -> Items
+fn first_four(g: Groups) -> [Item; MOST_ITEMS]
     ensures { (x : Gathered) → g ≡ groups_from x → result ≡ packed (map item_of x.groups) }
 {
     let rows = g.firsts;
     let rights = g.seconds;
-    Items {
-        first: Item {
+    [
+        Item {
             row: rows[0],
             rights: rights[0],
         },
-        second: Item {
+        Item {
             row: rows[1],
             rights: rights[1],
         },
-        third: Item {
+        Item {
             row: rows[2],
             rights: rights[2],
         },
-        fourth: Item {
+        Item {
             row: rows[3],
             rights: rights[3],
         },
-    }
+    ]
 }
 
 // An ask of its caller, its client end and its items: 3, then 4, then too many items.

@@ -8,7 +8,6 @@ use Rattle.rows.specs.Layout.{row_slot}
 use Rattle.rows.specs.vocabulary.Represents.{Represents}
 use Rattle.rows.specs.vocabulary.Sizes.{ROWS, REQUESTS, PROCESSES, ITEMS, LAST-NEXT}
 use Rattle.calls.specs.declared.Item.{Item}
-use Rattle.calls.specs.declared.Items.{Items}
 use Rattle.calls.specs.declared.ItemRow.{ItemRow}
 use Rattle.calls.specs.declared.NewRequest.{NewRequest}
 use Rattle.calls.specs.declared.Loan.{Loan}
@@ -60,10 +59,6 @@ ItemsHeld st p xs = All (ItemHeld st p) xs
 -- no item, with no row
 abbrev pub no_item_row : ItemRow
 no_item_row = record { item = record { row = 0; rights = 0 }; word = 0; copies = 0 }
-
--- the four items of an ask
-abbrev pub listed : Items → List Item
-listed is = is.first ∷ is.second ∷ is.third ∷ is.fourth ∷ []
 
 -- the items without their rows; those named, in order
 abbrev pub items_in : List ItemRow → List Item
@@ -194,11 +189,11 @@ RequestMade t n m w xs after =
 
 abbrev pub AsksHeld : List ℕ → ℕ → NewRequest → List ItemRow → List ℕ → Answer → Type 0
 AsksHeld t n w xs after r =
-    (st : State) (is : Items) → sound st ≡ true → HasRows t n st → AsksOver st w → ItemsHeld st w.asker xs
+    (st : State) (is : List Item) → sound st ≡ true → HasRows t n st → AsksOver st w → ItemsHeld st w.asker xs
     → named_in xs ≡ items_of is
     → Answers after r (perform st (Ask w.asker w.port is))
 
-abbrev pub AsksItems : List ℕ → ℕ → NewRequest → Items → List ℕ → Answer → Type 0
+abbrev pub AsksItems : List ℕ → ℕ → NewRequest → List Item → List ℕ → Answer → Type 0
 AsksItems t n w is after r =
     (st : State) → sound st ≡ true → HasRows t n st → AsksOver st w → w.asker ≤ PROCESSES
     → Answers after r (perform st (Ask w.asker w.port is))

@@ -7,7 +7,6 @@ use Rattle.rows.specs.Layout.{records_in}
 use Rattle.rows.specs.vocabulary.Represents.{Represents}
 use Rattle.rows.specs.vocabulary.Sizes.{PROCESSES, IsTables, IsRecords}
 use Rattle.calls.specs.declared.Item.{Item}
-use Rattle.calls.specs.declared.Items.{Items}
 use Rattle.calls.specs.declared.Sixteen.{Sixteen}
 use Rattle.calls.specs.declared.Answer.{Answer}
 use Rattle.calls.specs.declared.Answer.TheVariants.{Done, Made, Fetched, Told, Chained, ToldAll, Refused}
@@ -26,8 +25,8 @@ CALL_WORDS = 33
 abbrev item_of_words : List ℕ → ℕ → Item
 item_of_words w k = record { row = get_or w k 0; rights = get_or w (suc k) 0 }
 
-abbrev pub items_of_words : List ℕ → Items
-items_of_words w = record { first = item_of_words w 3; second = item_of_words w 5; third = item_of_words w 7; fourth = item_of_words w 9 }
+abbrev pub items_of_words : List ℕ → List Item
+items_of_words w = item_of_words w 3 ∷ item_of_words w 5 ∷ item_of_words w 7 ∷ item_of_words w 9 ∷ []
 
 abbrev pub sixteen_at : List ℕ → ℕ → Sixteen
 sixteen_at w k =
@@ -39,7 +38,7 @@ sixteen_at w k =
     }
 
 -- the calls in the order of their type; any other code is that of comesall
-unfoldable pub call_of_code : ℕ → ℕ → ℕ → Items → Bool → Sixteen → Sixteen → Call
+unfoldable pub call_of_code : ℕ → ℕ → ℕ → List Item → Bool → Sixteen → Sixteen → Call
 call_of_code k p e is served es qs =
     if eqb k 0 then Go p e
     else if eqb k 1 then Hold p e

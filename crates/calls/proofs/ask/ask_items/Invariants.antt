@@ -14,5 +14,5 @@ invariant-loop-k l =
       long : length l.rows ≡ 4;
       fits : (j : ℕ) → j < l.k → ItemFits l.n (get_or l.rows j no_item_row);
       held : (st : State) → HasRows l.t l.n st → l.w.asker ≤ PROCESSES → (j : ℕ) → j < l.k
-          → ((get_or l.rows j no_item_row).item ≡ get_or l.named j no_item_row.item) × ItemHeld st l.w.asker (get_or l.rows j no_item_row);
+          → ((get_or l.rows j no_item_row).item ≡ get_or l.items j no_item_row.item) × ItemHeld st l.w.asker (get_or l.rows j no_item_row);
     }
