@@ -22,7 +22,8 @@ use Rattle.calls.specs.declared.Answer.{Answer}
 use Rattle.calls.specs.declared.Answer.TheVariants.{Refused}
 use Rattle.calls.specs.Answers.{refusal_of}
 use Rattle.text.specs.declared.Reply.{Reply}
-use Rattle.text.specs.declared.Verdict.{Verdict}
+use Rattle.text.specs.declared.Refused.{Refused}
+use Rattle.std.specs.Prelude.{Result, Ok, Err}
 use Rattle.text.specs.Answers.{printed}
 use Rattle.text.specs.CallLines.{reading_of}
 use Rattle.text.specs.Opening.{Form, Line, last_line, form_line, bad_line, FirstPass, read_to, stopped_by, form_refusal, line_of, first_pass, missing_at, second_pass, Opening, opens, refused_at, lines_of, opening_of}
@@ -156,10 +157,15 @@ opening-numbered : (ls : List (List ℕ)) → Numbered (opening_of ls)
 unfolding opening_of
 opening-numbered ls = second-numbered (first_pass [] 1 ls) (first-stopped ls [] 1)
 
+-- the text of a verdict
+verdict_text : Result Unit Refused → List ℕ
+verdict_text (Ok u) = opening_text 0 0
+verdict_text (Err r) = opening_text r.number r.line
+
 -- the reply and both runs of an opening that was read
 replied-by : (o : Opening) (u v : List ℕ) (r : Reply) → BothRepresent u v (state_after o)
-    → r ≡ in_reply (opening_text (verdict_of o).refusal (verdict_of o).line) → Numbered o → Replies (opened_by o) r u v
-unfolding opened_by reply_with state_after verdict_of opening_text Numbered
+    → r ≡ in_reply (verdict_text (verdict_of o)) → Numbered o → Replies (opened_by o) r u v
+unfolding opened_by reply_with state_after verdict_of verdict_text opening_text Numbered
 replied-by (opens fs rest) u v r rep is g = (is, rep.tables.words, rep.records)
 replied-by (refused_at k n) u v r rep is g = (rw g at is, rep.tables.words, rep.records)
 
@@ -179,10 +185,21 @@ pub replies-lengths : (t p text u v : List ℕ) (r : Reply) → Cleared t p u v 
 unfolding open_entry opening_text
 replies-lengths t p text u v r z e is = rw e (is, z.0, z.1)
 
-pub replies-opening : (t p text t' p' u v : List ℕ) (x : Verdict) (r : Reply) → Cleared t p t' p' → IsTables t' → IsRecords p'
-    → x ≡ verdict_of (opening_of (lines_of text)) → OpeningWritten text u v → r ≡ in_reply (opening_text x.refusal x.line)
+replies-opening : (t p text t' p' u v : List ℕ) (x : Result Unit Refused) (r : Reply) → Cleared t p t' p' → IsTables t' → IsRecords p'
+    → x ≡ verdict_of (opening_of (lines_of text)) → OpeningWritten text u v → r ≡ in_reply (verdict_text x)
     → Replies (open_entry t p text) r u v
 unfolding open_entry
 replies-opening t p text t' p' u v x r z a b verdict w is =
     rw (lengths-right t p t' p' z a b)
-    (replied-by (opening_of (lines_of text)) u v r w (is ∙ ap (λ (y : Verdict). in_reply (opening_text y.refusal y.line)) verdict) (opening-numbered (lines_of text)))
+    (replied-by (opening_of (lines_of text)) u v r w (is ∙ ap (λ (y : Result Unit Refused). in_reply (verdict_text y)) verdict) (opening-numbered (lines_of text)))
+
+-- it was accepted; it was refused
+pub replies-accepted : (t p text t' p' u v : List ℕ) (r : Reply) → Cleared t p t' p' → IsTables t' → IsRecords p'
+    → Ok tt ≡ verdict_of (opening_of (lines_of text)) → OpeningWritten text u v → r ≡ in_reply (opening_text 0 0) → Replies (open_entry t p text) r u v
+unfolding verdict_text
+replies-accepted t p text t' p' u v r z a b verdict w is = replies-opening t p text t' p' u v (Ok tt) r z a b verdict w is
+
+pub replies-refused : (t p text t' p' u v : List ℕ) (e : Refused) (r : Reply) → Cleared t p t' p' → IsTables t' → IsRecords p'
+    → Err e ≡ verdict_of (opening_of (lines_of text)) → OpeningWritten text u v → r ≡ in_reply (opening_text e.number e.line) → Replies (open_entry t p text) r u v
+unfolding verdict_text
+replies-refused t p text t' p' u v e r z a b verdict w is = replies-opening t p text t' p' u v (Err e) r z a b verdict w is

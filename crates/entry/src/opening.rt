@@ -36,6 +36,8 @@ pub fn open(tables: &mut [u32], processes: &mut [u32], text: &[u8]) -> Reply
     if processes.len() != RECORDS {
         return print_opening(1, 0);
     }
-    let read = read_opening(tables, processes, text);
-    print_opening(read.refusal, read.line)
+    match read_opening(tables, processes, text) {
+        Ok(()) => print_opening(0, 0),
+        Err(refused) => print_opening(refused.number, refused.line),
+    }
 }

@@ -11,7 +11,9 @@ use borrow.Author.Tests.{lt-ltb}
 use Rattle.rows.specs.Lists.{same_list, bytes}
 use Rattle.rows.specs.Layout.{right_lengths, cleared_tables, cleared_processes}
 use Rattle.rows.proofs.LayoutColumns.{list_same}
-use Rattle.text.specs.declared.Passed.{Passed}
+use Rattle.text.specs.declared.Given.{Given}
+use Rattle.text.specs.declared.Refused.{Refused}
+use Rattle.std.specs.Prelude.{Ok, Err}
 use Rattle.text.specs.Opening.{FirstPass, read_to, stopped_by, Opening, opens, refused_at, lines_of, opening_of, cut}
 use Rattle.calls.specs.Answers.{num}
 use Rattle.text.specs.Answers.{ok_text, no_text}
@@ -73,10 +75,15 @@ unfolding lines_of
 counting-ends text at n k h = let none = ap (λ l. length (lines_of l)) (drop_of_length-le text h) in omega arith
 
 -- ---- an opening waits, or is decided
-pub pass-waits : (x : FirstPass) (r : Passed) (n : ℕ) → Ends x r → ltb 0 r.refusal && ltb n r.line ≡ goes_on x n
+pub pass-ended : (x : FirstPass) (g : Given) (n : ℕ) → Ends x (Ok g) → false ≡ goes_on x n
 unfolding Ends goes_on
-pass-waits (read_to fs rest) r n e = rw e.0
-pass-waits (stopped_by k m) r n e = rw (lt-ltb 0 r.refusal (omega arith), e.1)
+pass-ended (read_to fs rest) g n e = refl
+pass-ended (stopped_by k m) g n e = absurd e
+
+pub pass-waits : (x : FirstPass) (r : Refused) (n : ℕ) → Ends x (Err r) → ltb n r.line ≡ goes_on x n
+unfolding Ends goes_on
+pass-waits (read_to fs rest) r n e = absurd e
+pass-waits (stopped_by k m) r n e = ap (ltb n) e.1
 
 -- ---- the stage after a reply, by its second byte
 unfoldable pub told_by : List ℕ → List ℕ → Type 0

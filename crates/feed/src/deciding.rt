@@ -12,9 +12,10 @@ use text::opening_text::first_pass;
 pub fn undecided(text: &[u8]) -> bool
     ensures { result ≡ undecided_text text.now }
 {
-    let passed = first_pass(text);
-    let lines = count_lines(text);
-    (0 < passed.refusal) & (lines < passed.line)
+    match first_pass(text) {
+        Ok(given) => false,
+        Err(refused) => count_lines(text) < refused.line,
+    }
 }
 
 // The stage after an opening: calls, if its reply is `(ok 0)`.

@@ -6,18 +6,21 @@ use mathlib.Core.List.{List, [], ◌∷◌, ◌++◌, map, append_assoc, append-
 use mathlib.Core.Path.{◌≡◌, refl, sym, ap, subst, ◌∙◌}
 use lib.Dec.{eqb}
 use lib.ListN.{length}
-use borrow.Author.Tests.{eqb-true, eqb-false, eq-eqb, ne_eqb}
+use borrow.Author.Tests.{eqb-true, eqb-false, ne_eqb}
 use Rattle.rows.specs.Lists.{filter, bytes}
-use Rattle.rows.specs.Limits.{nodes, processes}
+use Rattle.rows.specs.Limits.{nodes, processes, most_pairs}
 use Rattle.calls.specs.declared.Answer.TheVariants.{Refused}
 use Rattle.calls.specs.Answers.{refusal_of}
-use Rattle.text.specs.declared.Verdict.{Verdict}
-use Rattle.text.specs.Answers.{no_text, printed}
+use Rattle.std.specs.Prelude.{Result, Ok, Err}
+use Rattle.calls.specs.Answers.{num}
+use Rattle.text.specs.Answers.{ok_text, no_text, printed}
 use Rattle.text.specs.Opening.{Form, node_form, process_form}
 use Rattle.text.specs.vocabulary.Replies.{opening_text}
 use Rattle.text.specs.vocabulary.Sizes.{REPLY}
-use Rattle.text.proofs.ShortReplies.{no_short}
+use Rattle.text.proofs.ShortReplies.{ok-short, no_short, printed-short}
 use Rattle.joining.specs.declared.Joining.{Joining}
+use Rattle.joining.specs.declared.NotJoined.{NotJoined}
+use Rattle.joining.specs.declared.NotJoined.TheVariants.{OfText, OfBoth}
 use Rattle.joining.specs.declared.Written.{Written}
 use Rattle.joining.specs.Joins.{joins, refused_text, refused_both, node_in, process_in, entries_joined, prime_joined, numbers_from, nodes_joined, processes_joined, forms_joined, join_refusal, joined_by}
 use Rattle.joining.specs.Written.{form_text, text_of, join_text}
@@ -30,22 +33,34 @@ use Rattle.joining.proofs.ListedNames.{refuses-nothing}
 use Rattle.joining.proofs.SlotLines.{slot-node, slot-process, slot-last}
 
 -- ---- the text of a refusal
-module _ (v : Verdict) (some : v.refusal ≡ 0 → ⊥) where
-  pub refusal-both : v.line ≡ 0 → printed (Refused v.refusal) ≡ refusal_text v
-  unfolding printed refusal_of refusal_text
-  refusal-both none = rw (ne_eqb v.refusal 0 some, eq-eqb v.line 0 none) refl
+text-one : (k n : ℕ) → (k ≡ 0 → ⊥) → no_text (k ∷ n ∷ []) ≡ refusal_text (OfText k n)
+unfolding refusal_text opening_text
+text-one k n some = rw (ne_eqb k 0 some) refl
 
-  pub refusal-one : (v.line ≡ 0 → ⊥) → opening_text v.refusal v.line ≡ refusal_text v
-  unfolding opening_text refusal_text
-  refusal-one line = rw (ne_eqb v.refusal 0 some, ne_eqb v.line 0 line) refl
+text-both : (k : ℕ) → (k ≡ 0 → ⊥) → no_text (k ∷ []) ≡ refusal_text (OfBoth k)
+unfolding refusal_text printed refusal_of
+text-both k some = rw (ne_eqb k 0 some) refl
 
-pub refusal-short : (v : Verdict) → length (refusal_text v) ≤ REPLY
-unfolding refusal_text
-refusal-short v = pick (eqb v.line 0)
+pub refusal-short : (e : NotJoined) → length (refusal_text e) ≤ REPLY
+unfolding refusal_text opening_text most_pairs
+refusal-short (OfText k n) = pick (eqb k 0)
   where
-    pick : (b : Bool) → length (cond b (no_text (v.refusal ∷ [])) (no_text (v.refusal ∷ v.line ∷ []))) ≤ REPLY
-    pick true = no_short (v.refusal ∷ []) (omega arith)
-    pick false = no_short (v.refusal ∷ v.line ∷ []) (omega arith)
+    pick : (b : Bool) → length (cond b (ok_text (num 0 ∷ [])) (no_text (k ∷ n ∷ []))) ≤ REPLY
+    pick true = ok-short (num 0 ∷ []) (omega arith)
+    pick false = no_short (k ∷ n ∷ []) (omega arith)
+refusal-short (OfBoth k) = printed-short (Refused k)
+
+-- a verdict that is a refusal
+not-joined : NotJoined → Result Unit NotJoined → NotJoined
+not-joined d (Ok u) = d
+not-joined d (Err e) = e
+
+pub same-refusal : (f e : NotJoined) → ◌≡◌ {A = Result Unit NotJoined} (Err f) (Err e) → f ≡ e
+unfolding not-joined
+same-refusal f e is = ap (not-joined f) is
+
+pub no-refusal : {A : Type 0} (e : NotJoined) → ◌≡◌ {A = Result Unit NotJoined} (Ok tt) (Err e) → A
+no-refusal e is = absurd (let z : ◌≡◌ {A = ℕ} 0 1 = cc in omega arith)
 
 -- ---- slots one after the other, from the front
 joined_slots : (ℕ → List ℕ) → ℕ → ℕ → List ℕ
@@ -151,54 +166,54 @@ pub puts-as : (t u : List ℕ) → t ≡ u → (out after : List ℕ) (n : ℕ) 
 puts-as t u e out after n = subst (λ (l : List ℕ). Puts l out after n) e
 
 -- nothing of both texts is refused, so the joined text is printed
-nothing-refused : (fs gs : List Form) → (verdict_of (joined_by fs gs)).refusal ≡ 0 → (join_refusal fs gs ≡ 0) × (joined_by fs gs ≡ joins (forms_joined fs gs))
+nothing-refused : (fs gs : List Form) → Ok tt ≡ verdict_of (joined_by fs gs) → (join_refusal fs gs ≡ 0) × (joined_by fs gs ≡ joins (forms_joined fs gs))
 unfolding joined_by verdict_of
 nothing-refused fs gs none = pick (eqb (join_refusal fs gs) 0) refl none
   where
-    pick : (q : Bool) → eqb (join_refusal fs gs) 0 ≡ q → (verdict_of (cond q (joins (forms_joined fs gs)) (refused_both (join_refusal fs gs)))).refusal ≡ 0
+    pick : (q : Bool) → eqb (join_refusal fs gs) 0 ≡ q → Ok tt ≡ verdict_of (cond q (joins (forms_joined fs gs)) (refused_both (join_refusal fs gs)))
         → (join_refusal fs gs ≡ 0) × (cond q (joins (forms_joined fs gs)) (refused_both (join_refusal fs gs)) ≡ joins (forms_joined fs gs))
     pick true e n = (eqb-true (join_refusal fs gs) 0 e, refl)
-    pick false e n = absurd (eqb-false (join_refusal fs gs) 0 e n)
+    pick false e n = absurd (let z : ◌≡◌ {A = ℕ} 0 1 = cc in omega arith)
 
 -- a refusal is printed as its verdict says
 module _ (a b : List ℕ) (j : Joining) where
-  one-printed : (k n : ℕ) → 0 < n → join_text (refused_text k n) ≡ refusal_text (verdict_of (refused_text k n))
-  unfolding join_text verdict_of refusal_text
-  one-printed k n h = rw (ne_eqb n 0 (λ e. omega arith)) refl
+  one-printed : (k n : ℕ) → (k ≡ 0 → ⊥) → (e : NotJoined) → Err e ≡ verdict_of (refused_text k n) → join_text (refused_text k n) ≡ refusal_text e
+  unfolding join_text verdict_of not-joined
+  one-printed k n some e is = text-one k n some ∙ ap refusal_text (sym (ap (not-joined e) is))
 
-  both-printed : (fs gs : List Form) → ((verdict_of (joined_by fs gs)).refusal ≡ 0 → ⊥) → join_text (joined_by fs gs) ≡ refusal_text (verdict_of (joined_by fs gs))
-  unfolding joined_by join_text verdict_of refusal_text
-  both-printed fs gs some = pick (eqb (join_refusal fs gs) 0) some
+  both-printed : (fs gs : List Form) (e : NotJoined) → Err e ≡ verdict_of (joined_by fs gs) → join_text (joined_by fs gs) ≡ refusal_text e
+  unfolding joined_by join_text verdict_of not-joined
+  both-printed fs gs e is = pick (eqb (join_refusal fs gs) 0) refl is
     where
-      pick : (q : Bool) → ((verdict_of (cond q (joins (forms_joined fs gs)) (refused_both (join_refusal fs gs)))).refusal ≡ 0 → ⊥)
-          → join_text (cond q (joins (forms_joined fs gs)) (refused_both (join_refusal fs gs))) ≡ refusal_text (verdict_of (cond q (joins (forms_joined fs gs)) (refused_both (join_refusal fs gs))))
-      pick true some = absurd (some refl)
-      pick false some = refl
+      pick : (q : Bool) → eqb (join_refusal fs gs) 0 ≡ q → Err e ≡ verdict_of (cond q (joins (forms_joined fs gs)) (refused_both (join_refusal fs gs)))
+          → join_text (cond q (joins (forms_joined fs gs)) (refused_both (join_refusal fs gs))) ≡ refusal_text e
+      pick true z is = absurd (let z : ◌≡◌ {A = ℕ} 0 1 = cc in omega arith)
+      pick false z is = text-both (join_refusal fs gs) (eqb-false (join_refusal fs gs) 0 z) ∙ ap refusal_text (sym (ap (not-joined e) is))
 
-  pub refused-printed : (p : Progress) → Holds p j a b → ((verdict_of (joined_at p)).refusal ≡ 0 → ⊥) → join_text (joined_at p) ≡ refusal_text (verdict_of (joined_at p))
+  pub refused-printed : (p : Progress) → Holds p j a b → (e : NotJoined) → Err e ≡ verdict_of (joined_at p) → join_text (joined_at p) ≡ refusal_text e
   unfolding Holds joined_at
-  refused-printed (in_first fs) h some = one-printed 2 (suc (length fs)) (omega arith)
-  refused-printed (in_second fs gs) h some = one-printed 2 (suc (length gs)) (omega arith)
-  refused-printed (refused_in k n) h some = one-printed k n h.4
-  refused-printed (both_read fs gs) h some = both-printed fs gs some
+  refused-printed (in_first fs) h e is = one-printed 2 (suc (length fs)) (λ z. omega arith) e is
+  refused-printed (in_second fs gs) h e is = one-printed 2 (suc (length gs)) (λ z. omega arith) e is
+  refused-printed (refused_in k n) h e is = one-printed k n (λ z. let some = h.3 in omega arith) e is
+  refused-printed (both_read fs gs) h e is = both-printed fs gs e is
 
   -- the words hold what is written if nothing is refused
-  pub ended-accepted : (p : Progress) → Holds p j a b → (verdict_of (joined_at p)).refusal ≡ 0 → Accepted a b
+  pub ended-accepted : (p : Progress) → Holds p j a b → Ok tt ≡ verdict_of (joined_at p) → Accepted a b
   unfolding Holds joined_at verdict_of
-  ended-accepted (in_first fs) h none = absurd (omega arith)
-  ended-accepted (in_second fs gs) h none = absurd (omega arith)
-  ended-accepted (refused_in k n) h none = absurd (let z = h.3 in omega arith)
+  ended-accepted (in_first fs) h none = absurd (let z : ◌≡◌ {A = ℕ} 0 1 = cc in omega arith)
+  ended-accepted (in_second fs gs) h none = absurd (let z : ◌≡◌ {A = ℕ} 0 1 = cc in omega arith)
+  ended-accepted (refused_in k n) h none = absurd (let z : ◌≡◌ {A = ℕ} 0 1 = cc in omega arith)
   ended-accepted (both_read fs gs) h none =
       let k = refuses-nothing fs gs (nothing-refused fs gs none).0 in
       record { first = fs; second = gs; first-held = h.2; second-held = h.3; room = k.1 }
 
   -- where nothing is refused, all slots one after the other are printed
-  pub slots-printed : (Is : List ℕ → Type 0) (p : Progress) → Holds p j a b → (verdict_of (joined_at p)).refusal ≡ 0
+  pub slots-printed : (Is : List ℕ → Type 0) (p : Progress) → Holds p j a b → Ok tt ≡ verdict_of (joined_at p)
       → ((fs gs : List Form) → Held a fs → Held b gs → Is (slots_text fs gs 0 SLOTS)) → Is (join_text (joined_at p))
   unfolding Holds joined_at join_text verdict_of
-  slots-printed Is (in_first fs) h none is = absurd (omega arith)
-  slots-printed Is (in_second fs gs) h none is = absurd (omega arith)
-  slots-printed Is (refused_in k n) h none is = absurd (let z = h.3 in omega arith)
+  slots-printed Is (in_first fs) h none is = absurd (let z : ◌≡◌ {A = ℕ} 0 1 = cc in omega arith)
+  slots-printed Is (in_second fs gs) h none is = absurd (let z : ◌≡◌ {A = ℕ} 0 1 = cc in omega arith)
+  slots-printed Is (refused_in k n) h none is = absurd (let z : ◌≡◌ {A = ℕ} 0 1 = cc in omega arith)
   slots-printed Is (both_read fs gs) h none is =
       let text : slots_text fs gs 0 SLOTS ≡ join_text (joined_by fs gs) = slots-all fs gs ∙ sym (ap join_text (nothing-refused fs gs none).1) in
       subst Is text (is fs gs h.2 h.3)
@@ -210,17 +225,8 @@ module _ (a b : List ℕ) (j : Joining) where
         let all : r.next - 0 ≡ SLOTS = let e = w.all (omega arith) (omega arith) in omega arith in
         puts-as _ _ (ap (slots_text fs gs 0) all) out after r.printed (w.slots fs gs ha hb)
 
-    pub answer-put : (p : Progress) → Holds p j a b → (v : Verdict) → v ≡ verdict_of (joined_at p) → WritesAnswer a b v 0 out r after → Puts (join_text (joined_at p)) out after r.printed
-    answer-put p h v is w = pick (eqb v.refusal 0) refl
-      where
-        refusal_is : v.refusal ≡ (verdict_of (joined_at p)).refusal
-        refusal_is = ap (λ (x : Verdict). x.refusal) is
-
-        pick : (q : Bool) → eqb v.refusal 0 ≡ q → Puts (join_text (joined_at p)) out after r.printed
-        pick true e =
-            let none = eqb-true v.refusal 0 e in
-            slots-printed (λ (l : List ℕ). Puts l out after r.printed) p h (sym refusal_is ∙ none) (λ fs gs ha hb. slots-put fs gs ha hb (w.joined none))
-        pick false e =
-            let some = eqb-false v.refusal 0 e in
-            let text : refusal_text v ≡ join_text (joined_at p) = ap refusal_text is ∙ sym (refused-printed p h (λ z. some (refusal_is ∙ z))) in
-            puts-as _ _ text out after r.printed (w.refused some).1
+    pub answer-put : (p : Progress) → Holds p j a b → (v : Result Unit NotJoined) → v ≡ verdict_of (joined_at p) → WritesAnswer a b v 0 out r after → Puts (join_text (joined_at p)) out after r.printed
+    answer-put p h (Ok u) is w =
+        slots-printed (λ (l : List ℕ). Puts l out after r.printed) p h is (λ fs gs ha hb. slots-put fs gs ha hb (w.joined refl))
+    answer-put p h (Err e) is w =
+        puts-as _ _ (sym (refused-printed p h e is)) out after r.printed (w.refused e refl).1

@@ -12,19 +12,23 @@ use borrow.Author.Tests.{eqb-true, eqb-false, eq-eqb, ne_eqb}
 use Rattle.rows.specs.Limits.{nodes, processes}
 use Rattle.rows.proofs.Bools.{clash}
 use Rattle.text.specs.declared.Given.{Given}
-use Rattle.text.specs.declared.Step.{Step}
+use Rattle.text.specs.declared.Refusal.{Refusal}
+use Rattle.text.specs.vocabulary.Refusals.{number_of, refusal_in}
+use Rattle.text.proofs.PassLaws.{some_number, going-on, ending, refusing}
+use Rattle.std.specs.Prelude.{Option, Some, None, Ok, Err}
 use Rattle.text.specs.Opening.{Form, Line, last_line, form_line, bad_line, cut, line_of, form_refusal}
-use Rattle.text.specs.vocabulary.Openings.{FormSteps, Gives, Steps}
+use Rattle.text.specs.vocabulary.Openings.{Step, RefusedWith, FormSteps, Gives, Steps}
 use Rattle.text.specs.vocabulary.Sizes.{KEPT-LINE}
 use Rattle.text.proofs.OpeningCount.{forms-few}
 use Rattle.joining.specs.declared.Stage.{Stage}
 use Rattle.joining.specs.declared.Stage.TheVariants.{First, Second, Over}
 use Rattle.joining.specs.declared.Joining.{Joining}
-use Rattle.joining.specs.Joins.{joins, refused_both, join_refusal, joined_by, forms_joined}
+use Rattle.joining.specs.declared.NotJoined.TheVariants.{OfText, OfBoth}
+use Rattle.joining.specs.Joins.{join_refusal, joined_by}
 use Rattle.joining.specs.Feeding.{Progress, in_first, in_second, both_read, refused_in, after_line, line_fed, joined_at, Texts, byte_fed, fed}
-use Rattle.joining.specs.vocabulary.Directories.{Held, IsHeld, OfBoth}
+use Rattle.joining.specs.vocabulary.Directories.{Held, IsHeld, OfBoth as BothOf}
 use Rattle.joining.specs.vocabulary.Lines.{SLOTS}
-use Rattle.joining.specs.vocabulary.Reading.{LineHeld, is_going, SecondBegins, BothRead, AfterLine, Holds, HeldGiven, HoldsTexts, verdict_of}
+use Rattle.joining.specs.vocabulary.Reading.{goes_on, LineHeld, is_going, SecondBegins, BothRead, AfterLine, Holds, HeldGiven, HoldsTexts, verdict_of}
 
 -- ---- the stage tells how far reading has come
 going-first : (j : Joining) → j.stage ≡ First → is_going j.stage ≡ true
@@ -41,43 +45,87 @@ not_going j e = ap is_going e
 
 -- ---- the end of the input
 module _ (j : Joining) (a b : List ℕ) where
-  pub verdict-going : (p : Progress) → Holds p j a b → is_going j.stage ≡ true → record { refusal = 2; line = j.number } ≡ verdict_of (joined_at p)
+  pub verdict-going : (p : Progress) → Holds p j a b → is_going j.stage ≡ true → Err (OfText 2 j.number) ≡ verdict_of (joined_at p)
   unfolding Holds verdict_of joined_at
-  verdict-going (in_first fs) h going = λ i. record { refusal = 2; line = h.1 i }
-  verdict-going (in_second fs gs) h going = λ i. record { refusal = 2; line = h.1 i }
+  verdict-going (in_first fs) h going = λ i. Err (OfText 2 (h.1 i))
+  verdict-going (in_second fs gs) h going = λ i. Err (OfText 2 (h.1 i))
   verdict-going (both_read fs gs) h going = clash going (not_going j h.0)
   verdict-going (refused_in k n) h going = clash going (not_going j h.0)
 
-  pub verdict-refused : (p : Progress) → Holds p j a b → is_going j.stage ≡ false → 0 < j.refusal
-      → record { refusal = j.refusal; line = j.number } ≡ verdict_of (joined_at p)
+  pub verdict-refused : (p : Progress) → Holds p j a b → is_going j.stage ≡ false → (m : ℕ) → j.refusal ≡ Some m
+      → Err (OfText m j.number) ≡ verdict_of (joined_at p)
   unfolding Holds verdict_of joined_at
-  verdict-refused (in_first fs) h over some = clash (going-first j h.0) over
-  verdict-refused (in_second fs gs) h over some = clash (going-second j h.0) over
-  verdict-refused (both_read fs gs) h over some = absurd (let z = h.1 in omega arith)
-  verdict-refused (refused_in k n) h over some = λ i. record { refusal = h.1 i; line = h.2 i }
+  verdict-refused (in_first fs) h over m some = clash (going-first j h.0) over
+  verdict-refused (in_second fs gs) h over m some = clash (going-second j h.0) over
+  verdict-refused (both_read fs gs) h over m some = absurd (let q : ◌≡◌ {A = Option ℕ} None (Some m) = sym h.1 ∙ some in let z : ◌≡◌ {A = ℕ} 0 1 = cc in omega arith)
+  verdict-refused (refused_in k n) h over m some =
+      let q : ◌≡◌ {A = Option ℕ} (Some m) (Some k) = sym some ∙ h.1 in
+      let same : m ≡ k = cc in
+      λ i. Err (OfText (same i) (h.2 i))
 
-  pub both-held : (p : Progress) → Holds p j a b → is_going j.stage ≡ false → (0 < j.refusal → ⊥) → IsHeld a × IsHeld b
+  pub both-held : (p : Progress) → Holds p j a b → is_going j.stage ≡ false → j.refusal ≡ None → IsHeld a × IsHeld b
   unfolding Holds
   both-held (in_first fs) h over none = clash (going-first j h.0) over
   both-held (in_second fs gs) h over none = clash (going-second j h.0) over
   both-held (both_read fs gs) h over none = (record { forms = fs; held = h.2 }, record { forms = gs; held = h.3 })
-  both-held (refused_in k n) h over none = absurd (none (let e = h.1 in let z = h.3 in omega arith))
+  both-held (refused_in k n) h over none = absurd (let q : ◌≡◌ {A = Option ℕ} None (Some k) = sym none ∙ h.1 in let z : ◌≡◌ {A = ℕ} 0 1 = cc in omega arith)
 
-  joined-verdict : (fs gs : List Form) → record { refusal = join_refusal fs gs; line = 0 } ≡ verdict_of (joined_by fs gs)
-  unfolding verdict_of joined_by
-  joined-verdict fs gs = pick (eqb (join_refusal fs gs) 0) refl
-    where
-      pick : (q : Bool) → eqb (join_refusal fs gs) 0 ≡ q → record { refusal = join_refusal fs gs; line = 0 } ≡ verdict_of (cond q (joins (forms_joined fs gs)) (refused_both (join_refusal fs gs)))
-      pick true e = let z = eqb-true (join_refusal fs gs) 0 e in λ i. record { refusal = z i; line = 0 }
-      pick false e = refl
+  -- both texts were read
+  read-both : (p : Progress) → Holds p j a b → is_going j.stage ≡ false → j.refusal ≡ None → (Is : Progress → Type 0)
+      → ((fs gs : List Form) → Held a fs → Held b gs → Is (both_read fs gs)) → Is p
+  unfolding Holds
+  read-both (in_first fs) h over none Is both = clash (going-first j h.0) over
+  read-both (in_second fs gs) h over none Is both = clash (going-second j h.0) over
+  read-both (both_read fs gs) h over none Is both = both fs gs h.2 h.3
+  read-both (refused_in k n) h over none Is both = absurd (let q : ◌≡◌ {A = Option ℕ} None (Some k) = sym none ∙ h.1 in let z : ◌≡◌ {A = ℕ} 0 1 = cc in omega arith)
 
-  pub verdict-both : (p : Progress) → Holds p j a b → is_going j.stage ≡ false → (0 < j.refusal → ⊥) → (k : ℕ) → OfBoth a b (λ fs gs. k ≡ join_refusal fs gs)
-      → record { refusal = k; line = 0 } ≡ verdict_of (joined_at p)
-  unfolding Holds joined_at
-  verdict-both (in_first fs) h over none k is = clash (going-first j h.0) over
-  verdict-both (in_second fs gs) h over none k is = clash (going-second j h.0) over
-  verdict-both (both_read fs gs) h over none k is = (λ i. record { refusal = is fs gs h.2 h.3 i; line = 0 }) ∙ joined-verdict fs gs
-  verdict-both (refused_in m n) h over none k is = absurd (none (let e = h.1 in let z = h.3 in omega arith))
+  pub verdict-joined : (p : Progress) → Holds p j a b → is_going j.stage ≡ false → j.refusal ≡ None → BothOf a b (λ fs gs. 0 ≡ join_refusal fs gs)
+      → Ok tt ≡ verdict_of (joined_at p)
+  unfolding verdict_of joined_at joined_by
+  verdict-joined p h over none is =
+      read-both p h over none (λ q. Ok tt ≡ verdict_of (joined_at q))
+      (λ fs gs ha hb. let z = is fs gs ha hb in rw (eq-eqb (join_refusal fs gs) 0 (sym z)) refl)
+
+  pub verdict-both : (p : Progress) → Holds p j a b → is_going j.stage ≡ false → j.refusal ≡ None → (k : ℕ) → (k ≡ 0 → ⊥) → BothOf a b (λ fs gs. k ≡ join_refusal fs gs)
+      → Err (OfBoth k) ≡ verdict_of (joined_at p)
+  unfolding verdict_of joined_at joined_by
+  verdict-both p h over none k some is =
+      read-both p h over none (λ q. Err (OfBoth k) ≡ verdict_of (joined_at q))
+      (λ fs gs ha hb. let z = is fs gs ha hb in rw (← z, ne_eqb k 0 some) refl)
+
+-- ---- after a line of a text
+given_or : Given → Step → Given
+given_or d (Ok (Some g)) = g
+given_or d (Ok None) = d
+given_or d (Err e) = d
+
+module _ (g : Stage) (number : ℕ) (x : Step) (ended : Joining) where
+  pub after-taken : (given : Given) → x ≡ Ok (Some given) → AfterLine g number x ended (record { stage = g; refusal = None; number = number + 1; given = given })
+  unfolding goes_on given_or
+  after-taken given is =
+      record {
+        taken = λ h e. (refl, refl, ap (given_or given) (sym is ∙ e));
+        last = λ e. clash (ap goes_on is) (ap goes_on e);
+        refused = λ r e. clash (ap goes_on is) (ap goes_on e);
+      }
+
+  pub after-last : x ≡ Ok None → AfterLine g number x ended ended
+  unfolding goes_on
+  after-last is =
+      record {
+        taken = λ h e. clash (ap goes_on e) (ap goes_on is);
+        last = λ e. refl;
+        refused = λ r e. absurd (let q : ◌≡◌ {A = Step} (Ok None) (Err r) = sym is ∙ e in let z : ◌≡◌ {A = ℕ} 0 1 = cc in omega arith);
+      }
+
+  pub after-refused : (r : Refusal) (given : Given) → x ≡ Err r → AfterLine g number x ended (record { stage = Over; refusal = Some (number_of r); number = number; given = given })
+  unfolding goes_on
+  after-refused r given is =
+      record {
+        taken = λ h e. clash (ap goes_on e) (ap goes_on is);
+        last = λ e. absurd (let q : ◌≡◌ {A = Step} (Ok None) (Err r) = sym e ∙ is in let z : ◌≡◌ {A = ℕ} 0 1 = cc in omega arith);
+        refused = λ k e. (refl, ap (λ (y : Step). Some (refusal_in y)) (sym is ∙ e), refl);
+      }
 
 -- ---- a line has ended
 -- a line's number: one more than the forms before it
@@ -90,27 +138,29 @@ module _ (H : Progress → Type 0) (go : List Form → Progress) (end : Progress
     (counted : number ≡ suc (length fs)) (after : AfterLine g number x ended r)
     (on-taken : (f : Form) → r.stage ≡ g → r.number ≡ suc (length (f ∷ fs)) → Gives r.given (f ∷ fs) → Held u (f ∷ fs) → H (go (f ∷ fs)))
     (on-last : r ≡ ended → Held u fs → H end)
-    (on-refused : (k : ℕ) → r.stage ≡ Over → r.refusal ≡ k → r.number ≡ suc (length fs) → 0 < k → Held u fs → H (refused_in k (suc (length fs)))) where
-  refused-line : (k : ℕ) → 0 < k → x.going ≡ false → x.refusal ≡ k → Held u fs → H (refused_in k (suc (length fs)))
-  refused-line k some stops is held =
-      let o = after.refused stops (λ z. omega arith) in
-      on-refused k o.0 (o.1 ∙ is) (o.2 ∙ counted) some held
+    (on-refused : (k : ℕ) → r.stage ≡ Over → r.refusal ≡ Some k → r.number ≡ suc (length fs) → 0 < k → Held u fs → H (refused_in k (suc (length fs)))) where
+  refused-line : (k : ℕ) → RefusedWith k x → Held u fs → H (refused_in k (suc (length fs)))
+  refused-line k stops held =
+      let e = refusing k x stops in
+      let o = after.refused e.refusal e.is in
+      let z : k ≡ 0 → ⊥ = λ q. some_number e.refusal (e.number ∙ q) in
+      on-refused k o.0 (o.1 ∙ ap (λ (m : ℕ). Some m) e.number) (o.2 ∙ counted) (omega arith) held
 
-  form-read : (f : Form) → FormSteps fs f x → (x.going ≡ true → Held u (f ∷ fs)) × (x.going ≡ false → Held u fs) → (b : Bool) → eqb (form_refusal fs f) 0 ≡ b
+  form-read : (f : Form) → FormSteps fs f x → (goes_on x ≡ true → Held u (f ∷ fs)) × (goes_on x ≡ false → Held u fs) → (b : Bool) → eqb (form_refusal fs f) 0 ≡ b
       → H (cond b (go (f ∷ fs)) (refused_in (form_refusal fs f) (suc (length fs))))
+  unfolding goes_on
   form-read f s held true e =
-      let t = s.taken (eqb-true (form_refusal fs f) 0 e) in
-      let o = after.taken t.0 in
-      on-taken f o.0 (o.1 ∙ rw add-one (ap suc counted)) (subst (λ (k : Given). Gives k (f ∷ fs)) (sym o.2) t.1) (held.0 t.0)
+      let t = going-on (f ∷ fs) x (s.taken (eqb-true (form_refusal fs f) 0 e)) in
+      let o = after.taken t.given t.is in
+      on-taken f o.0 (o.1 ∙ rw add-one (ap suc counted)) (subst (λ (k : Given). Gives k (f ∷ fs)) (sym o.2) t.gives) (held.0 (ap goes_on t.is))
   form-read f s held false e =
-      let some = eqb-false (form_refusal fs f) 0 e in
-      let t = s.refused some in
-      refused-line (form_refusal fs f) (omega arith) t.0 t.1 (held.1 t.0)
+      let t = s.refused (eqb-false (form_refusal fs f) 0 e) in
+      refused-line (form_refusal fs f) t (held.1 (ap goes_on (refusing (form_refusal fs f) x t).is))
 
   line-read : (l : Line) → Steps fs l x → LineHeld fs l x u → H (after_line go end fs l)
   unfolding Steps LineHeld after_line
-  line-read last_line s held = on-last (after.last s.0 s.1) held
-  line-read bad_line s held = refused-line 2 (omega arith) s.0 s.1 held
+  line-read last_line s held = on-last (after.last (ending x s)) held
+  line-read bad_line s held = refused-line 2 s held
   line-read (form_line f) s held = form-read f s held (eqb (form_refusal fs f) 0) refl
 
 module _ (j : Joining) (a b : List ℕ) where

@@ -4,11 +4,12 @@ use native.Mathlib.Omega.{arith}
 use mathlib.Core.Bool.{Bool, true, false}
 use mathlib.Core.List.{List, [], ◌∷◌, ◌++◌, map, append-nil}
 use mathlib.Core.Path.{◌≡◌, refl, sym, ap, subst, ◌∙◌}
-use lib.Dec.{eqb, ltb}
+use lib.Dec.{ltb}
 use lib.ListN.{length, take, drop}
 use lib.Seq.{take_all, take_at}
-use borrow.Author.Tests.{eqb-true, eqb-false, ltb-true, ltb-false}
-use Rattle.text.specs.declared.Verdict.{Verdict}
+use borrow.Author.Tests.{ltb-true, ltb-false}
+use Rattle.std.specs.Prelude.{Result, Ok, Err}
+use Rattle.joining.specs.declared.NotJoined.{NotJoined}
 use Rattle.text.specs.Opening.{Form}
 use Rattle.text.specs.vocabulary.Sizes.{KEPT-LINE}
 use Rattle.history.specs.Kept.{joined}
@@ -59,21 +60,21 @@ feeds-read (f ∷ fs) k t run h long =
 front : (text out after : List ℕ) (n : ℕ) → Puts text out after n → take n after ≡ text
 front text out after n puts = ap (take n) puts.1 ∙ take_at text (drop (length text) out) n (sym puts.0)
 
-module _ (k : Kept) (v : Verdict) (ended : Ended k.first k.second v) where
+module _ (k : Kept) (v : Result Unit NotJoined) (ended : Ended k.first k.second v) where
   -- a refusal is written at once
-  refusal-written : (v.refusal ≡ 0 → ⊥) → (ws : List Write) → Writes k v 0 ws → joined (map bytes_printed ws) ≡ refusal_text v
+  refusal-written : (e : NotJoined) → v ≡ Err e → (ws : List Write) → Writes k v 0 ws → joined (map bytes_printed ws) ≡ refusal_text e
   unfolding Writes joined
-  refusal-written some [] run = absurd (omega arith)
-  refusal-written some (w ∷ []) run =
-      let m = (run.1.1 ended).refused some in
-      append-nil (bytes_printed w) ∙ front (refusal_text v) w.out w.after w.result.printed m.1
-  refusal-written some (w ∷ x ∷ ws) run =
-      let m = ((run.1.1 ended).refused some).0 in
+  refusal-written e some [] run = absurd (omega arith)
+  refusal-written e some (w ∷ []) run =
+      let m = (run.1.1 ended).refused e some in
+      append-nil (bytes_printed w) ∙ front (refusal_text e) w.out w.after w.result.printed m.1
+  refusal-written e some (w ∷ x ∷ ws) run =
+      let m = ((run.1.1 ended).refused e some).0 in
       let more = run.2.0 in
       absurd (omega arith)
 
   -- the joined text is written slot after slot
-  slots-written : v.refusal ≡ 0 → (fs gs : List Form) → Held k.first fs → Held k.second gs
+  slots-written : v ≡ Ok tt → (fs gs : List Form) → Held k.first fs → Held k.second gs
       → (ws : List Write) (from : ℕ) → from ≤ SLOTS → Writes k v from ws → joined (map bytes_printed ws) ≡ slots_text fs gs from (SLOTS - from)
   unfolding Writes joined slots_text
   slots-written none fs gs ha hb [] from h run =
@@ -91,24 +92,13 @@ module _ (k : Kept) (v : Verdict) (ended : Ended k.first k.second v) where
       (λ i. here i ++ rest i) ∙ ap (λ (j : ℕ). slots_text fs gs from (next - from) ++ slots_text fs gs j (SLOTS - next)) there
       ∙ sym (slots-join fs gs from (next - from) (SLOTS - next)) ∙ ap (slots_text fs gs from) all
 
-answer-written : (k : Kept) (p : Progress) → Holds p k.joining k.first k.second → (v : Verdict) → v ≡ verdict_of (joined_at p)
+answer-written : (k : Kept) (p : Progress) → Holds p k.joining k.first k.second → (v : Result Unit NotJoined) → v ≡ verdict_of (joined_at p)
     → (ws : List Write) → Writes k v 0 ws → joined (map bytes_printed ws) ≡ join_text (joined_at p)
-answer-written k p h v is ws run = pick (eqb v.refusal 0) refl
-  where
-    refusal_is : v.refusal ≡ (verdict_of (joined_at p)).refusal
-    refusal_is = ap (λ (x : Verdict). x.refusal) is
-
-    ended : Ended k.first k.second v
-    ended none = ended-accepted k.first k.second k.joining p h (sym refusal_is ∙ none)
-
-    pick : (q : Bool) → eqb v.refusal 0 ≡ q → joined (map bytes_printed ws) ≡ join_text (joined_at p)
-    pick true e =
-        let none = eqb-true v.refusal 0 e in
-        slots-printed k.first k.second k.joining (λ (l : List ℕ). joined (map bytes_printed ws) ≡ l) p h (sym refusal_is ∙ none)
-        (λ fs gs ha hb. slots-written k v ended none fs gs ha hb ws 0 (omega arith) run)
-    pick false e =
-        let some = eqb-false v.refusal 0 e in
-        refusal-written k v ended some ws run ∙ ap refusal_text is ∙ sym (refused-printed k.first k.second k.joining p h (λ z. some (refusal_is ∙ z)))
+answer-written k p h (Ok u) is ws run =
+    slots-printed k.first k.second k.joining (λ (l : List ℕ). joined (map bytes_printed ws) ≡ l) p h is
+    (λ fs gs ha hb. slots-written k (Ok u) (λ none. ended-accepted k.first k.second k.joining p h is) refl fs gs ha hb ws 0 (omega arith) run)
+answer-written k p h (Err e) is ws run =
+    refusal-written k (Err e) (λ none. ended-accepted k.first k.second k.joining p h (sym none ∙ is)) e refl ws run ∙ sym (refused-printed k.first k.second k.joining p h e is)
 
 -- ---- the run
 pub every-joining : EveryJoining

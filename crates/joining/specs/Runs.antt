@@ -1,9 +1,9 @@
 -- What holds of the functions begin, feed, finish and write_answer along any run: from their contracts alone, with nothing between code and claim.
-use Rattle.std.specs.Prelude.{ℕ, ◌≤◌, ◌<◌, List, [], ◌∷◌, map, ◌≡◌, length, take}
-use Rattle.text.specs.declared.Verdict.{Verdict}
+use Rattle.std.specs.Prelude.{ℕ, ◌≤◌, ◌<◌, List, [], ◌∷◌, map, ◌≡◌, Result, length, take}
 use Rattle.text.specs.vocabulary.Sizes.{REPLY, KEPT-LINE}
 use Rattle.history.specs.Kept.{joined}
 use Rattle.joining.specs.declared.Joining.{Joining}
+use Rattle.joining.specs.declared.NotJoined.{NotJoined}
 use Rattle.joining.specs.declared.Fed.{Fed}
 use Rattle.joining.specs.declared.Written.{Written}
 use Rattle.joining.specs.Written.{join}
@@ -64,7 +64,7 @@ kept_after k [] = k
 kept_after k (f ∷ fs) = kept_after (kept_by f) fs
 
 -- (rule J10) v meets the contract of the function finish
-abbrev pub MeetsFinish : Kept → Verdict → Type 0
+abbrev pub MeetsFinish : Kept → Result Unit NotJoined → Type 0
 MeetsFinish k v = Ready k.joining k.first k.second → Finishes k.joining k.first k.second v
 
 -- ---- a run: the answer is written
@@ -75,13 +75,13 @@ pub record Write : Type 0 where
   pub after : List ℕ
 
 -- (rule P40) from a slot on it meets the contract of the function write_answer, and the output has room for a reply
-abbrev pub MeetsWrite : Kept → Verdict → ℕ → Write → Type 0
+abbrev pub MeetsWrite : Kept → Result Unit NotJoined → ℕ → Write → Type 0
 MeetsWrite k v from w =
     (REPLY ≤ length w.out)
     × (Ended k.first k.second v → WritesAnswer k.first k.second v from w.out w.result w.after)
 
 -- (rule P40) each does, from the slot that the last one gave, until no slot is left
-unfoldable pub Writes : Kept → Verdict → ℕ → List Write → Type 0
+unfoldable pub Writes : Kept → Result Unit NotJoined → ℕ → List Write → Type 0
 Writes k v from [] = SLOTS ≤ from
 Writes k v from (w ∷ ws) = (from < SLOTS) × MeetsWrite k v from w × Writes k v w.result.next ws
 
@@ -96,5 +96,5 @@ bytes_printed w = take w.result.printed w.after
 -- (rule P40) from begin on, any feeds, then finish, then writes until no slot is left: what is printed is the join of what was lent
 unfoldable pub EveryJoining : Type 0
 EveryJoining =
-    (k : Kept) → Begins k → (fs : List Feed) → Feeds k fs → (v : Verdict) → MeetsFinish (kept_after k fs) v
+    (k : Kept) → Begins k → (fs : List Feed) → Feeds k fs → (v : Result Unit NotJoined) → MeetsFinish (kept_after k fs) v
     → (ws : List Write) → Writes (kept_after k fs) v 0 ws → joined (map bytes_printed ws) ≡ join (joined (map bytes_lent fs))

@@ -7,20 +7,20 @@ ghost use Rattle.joining.specs.vocabulary.Answers.{JOINED, RefusalOf, Ended, Wri
 
 use crate::feeding::{begin, feed, finish};
 use crate::lines::write_slots;
-use crate::{DIRECTORY, SLOTS, Written};
+use crate::{DIRECTORY, NotJoined, SLOTS, Written};
 use calls::Answer;
+use text::Reply;
 use text::kept_lines::KEPT_LINE;
 use text::replies::{hand_out, print, print_opening};
-use text::{Reply, Verdict};
 
 // The text of a refusal: with its line of one text, without of both.
-fn refusal_text(v: Verdict) -> Reply
-    ensures { RefusalOf v result }
+fn refusal_text(refusal: NotJoined) -> Reply
+    ensures { RefusalOf refusal result }
 {
-    if v.line == 0 {
-        return print(Answer::Refused(v.refusal));
+    match refusal {
+        NotJoined::OfText(number, line) => print_opening(number, line),
+        NotJoined::OfBoth(number) => print(Answer::Refused(number)),
     }
-    print_opening(v.refusal, v.line)
 }
 
 // The answer: a refusal, which ends it; or the joined text from a slot on, as many whole lines as `out` has room for.
@@ -28,20 +28,22 @@ fn refusal_text(v: Verdict) -> Reply
 pub fn write_answer(
     first: &[u32],
     second: &[u32],
-    v: Verdict,
+    v: Result<(), NotJoined>,
     from: usize,
     out: &mut [u8],
 ) -> Written
     requires { Ended first.now second.now v × (REPLY ≤ length out.old) }
     ensures { WritesAnswer first.now second.now v from out.old result out.new }
 {
-    if v.refusal == 0 {
-        return write_slots(first, second, from, out);
-    }
-    let printed = hand_out(refusal_text(v), out);
-    Written {
-        printed,
-        next: SLOTS,
+    match v {
+        Ok(()) => write_slots(first, second, from, out),
+        Err(refusal) => {
+            let printed = hand_out(refusal_text(refusal), out);
+            Written {
+                printed,
+                next: SLOTS,
+            }
+        }
     }
 }
 

@@ -8,11 +8,11 @@ ghost use Rattle.joining.specs.vocabulary.Reading.{is_going, SecondBegins, BothR
 
 use crate::reading::read_text_line;
 use crate::refusals::refusal_of;
-use crate::{Fed, Joining, Stage};
+use crate::{Fed, Joining, NotJoined, Stage};
 use text::kept_lines::keep_byte;
 use text::opening_text::none_given;
 use text::opening_words::clear;
-use text::{Given, Step, Verdict};
+use text::{Given, Refusal};
 
 // ---- the beginning
 // Nothing is read yet, and the directories hold nothing, whatever stood in them.
@@ -25,7 +25,7 @@ pub fn begin(first: &mut [u32], second: &mut [u32]) -> Joining
     clear(second);
     Joining {
         stage: Stage::First,
-        refusal: 0,
+        refusal: None,
         number: 1,
         given: none_given(),
     }
@@ -50,7 +50,7 @@ fn second_begins() -> Joining
 {
     Joining {
         stage: Stage::Second,
-        refusal: 0,
+        refusal: None,
         number: 1,
         given: none_given(),
     }
@@ -62,34 +62,36 @@ fn both_read(given: Given) -> Joining
 {
     Joining {
         stage: Stage::Over,
-        refusal: 0,
+        refusal: None,
         number: 0,
         given,
     }
 }
 
 // After a line of a text: it is taken, refused, or ends the text.
-fn after_line(stage: Stage, number: usize, step: Step, ended: Joining) -> Joining
+fn after_line(
+    stage: Stage,
+    number: usize,
+    step: Result<Option<Given>, Refusal>,
+    ended: Joining,
+) -> Joining
     requires { number ≤ SLOTS }
     ensures { AfterLine stage number step ended result }
 {
-    let given = step.given;
-    if step.going {
-        return Joining {
+    match step {
+        Ok(Some(given)) => Joining {
             stage,
-            refusal: 0,
+            refusal: None,
             number: number + 1,
             given,
-        };
-    }
-    if step.refusal == 0 {
-        return ended;
-    }
-    Joining {
-        stage: Stage::Over,
-        refusal: step.refusal,
-        number,
-        given,
+        },
+        Ok(None) => ended,
+        Err(refusal) => Joining {
+            stage: Stage::Over,
+            refusal: Some(refusal.into()),
+            number,
+            given: ended.given,
+        },
     }
 }
 
@@ -154,26 +156,19 @@ pub fn feed(
 }
 
 // ---- the end
-// The input has ended, or reading is over: the refusal of a text with its line, of both without, or 0.
+// The input has ended, or reading is over: the refusal of a text with its line, or of both without.
 // Ruled out: 5 for a text that lacks its `(open)`; a line for a refusal of both texts.
-pub fn finish(first: &[u32], second: &[u32], j: Joining) -> Verdict
+pub fn finish(first: &[u32], second: &[u32], j: Joining) -> Result<(), NotJoined>
     requires { Ready j first.now second.now }
     ensures { Finishes j first.now second.now result }
 {
     if is_going(j) {
-        return Verdict {
-            refusal: 2,
-            line: j.number,
-        };
+        let number = Refusal::BadForm.into();
+        return Err(NotJoined::OfText(number, j.number));
     }
-    if 0 < j.refusal {
-        return Verdict {
-            refusal: j.refusal,
-            line: j.number,
-        };
+    if let Some(number) = j.refusal {
+        return Err(NotJoined::OfText(number, j.number));
     }
-    Verdict {
-        refusal: refusal_of(first, second),
-        line: 0,
-    }
+    refusal_of(first, second)?;
+    Ok(())
 }

@@ -2,7 +2,11 @@
 
 #![tactic(auto)]
 
-use text::Given;
+ghost use Rattle.std.specs.Prelude.{◌≡◌};
+ghost use Rattle.text.specs.vocabulary.Refusals.{number_of};
+ghost use Rattle.joining.specs.declared.NotJoined.TheVariants.{OfBoth};
+
+use text::{Given, Refusal};
 
 // What is read now: the first text or the second; or reading is over, since both are read or one is refused.
 #[derive(Clone, Copy)]
@@ -12,14 +16,30 @@ pub enum Stage {
     Over,
 }
 
-// How far reading has come: the stage, the refusal of a text that is refused (0 for none), the number of the line begun
-// (of a refused text, of the line refused), and what the forms of the text begun have given.
+// How far reading has come: the stage, the refusal of a text that is refused, the number of the line begun (of a refused
+// text, of the line refused), and what the forms of the text begun have given.
 #[derive(Clone, Copy)]
 pub struct Joining {
     pub stage: Stage,
-    pub refusal: u32,
+    pub refusal: Option<u32>,
     pub number: usize,
     pub given: Given,
+}
+
+// Why two texts are not joined: one of them is refused, with a number at a line of it, or both together are.
+#[derive(Clone, Copy)]
+pub enum NotJoined {
+    OfText(u32, usize),
+    OfBoth(u32),
+}
+
+// What both together are refused for has no line.
+impl From<Refusal> for NotJoined {
+    ghost from_gives = { λ r n. n ≡ OfBoth (number_of r) };
+
+    fn from(r: Refusal) -> NotJoined {
+        NotJoined::OfBoth(r.into())
+    }
 }
 
 // The same after bytes of a part, with how many bytes are kept of the line begun, and the position up to which the part

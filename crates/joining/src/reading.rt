@@ -11,7 +11,7 @@ use crate::{CODES_AT, NODE_WORDS, PRIMES};
 use text::opening_lines::entry_at;
 use text::opening_text::{MOST_ENTRIES, pass_line};
 use text::patterns::read_form;
-use text::{Given, Step};
+use text::{Given, Refusal};
 
 // Stores the codes of the entries from a position of a line on; how many they are.
 fn store_entries(words: &mut [u32], at: usize, line: &[u8], from: usize) -> usize
@@ -64,13 +64,17 @@ fn store_line(words: &mut [u32], line: &[u8])
 
 // What a line does after the forms that are held: it is taken and held too, ends the text, or is refused.
 // Ruled out: a line that is refused changes what is held; a node's second form takes the place of the first.
-pub fn read_text_line(words: &mut [u32], line: &[u8], given: Given) -> Step
+pub fn read_text_line(
+    words: &mut [u32],
+    line: &[u8],
+    given: Given,
+) -> Result<Option<Given>, Refusal>
     requires { HeldGiven words.old given }
     ensures { ReadsLine words.old line.now given result words.new }
 {
-    let step = pass_line(line, given);
-    if step.going {
+    let step = pass_line(line, given)?;
+    if step.is_some() {
         store_line(words, line);
     }
-    step
+    Ok(step)
 }

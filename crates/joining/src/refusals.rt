@@ -1,6 +1,7 @@
 // What is refused of two directories: 5, 6 and 20 (specs/Joins.antt).
 ghost use Rattle.std.specs.Prelude.{◌≡◌, ◌≤◌};
 ghost use Rattle.text.specs.vocabulary.Sizes.{NODES};
+ghost use Rattle.text.specs.vocabulary.Refusals.{refusal_in};
 ghost use Rattle.joining.specs.Joins.{name_missing, node_crowded, primes_differ, join_refusal};
 ghost use Rattle.joining.specs.vocabulary.Directories.{IsHeld, OfBoth};
 ghost use Rattle.joining.specs.vocabulary.Listed.{ListsEntry, ListsCodes, ListsNodes, ListsPrimes, ListsText};
@@ -9,8 +10,8 @@ use crate::directories::{codes_end, entry_of, has_node, prime_of};
 use crate::merging::merge_node;
 use crate::{CODES_AT, NODE_WORDS};
 use rows::codes::{AN_OPERATION, LAST_NODE, LAST_PROCESS};
-use text::Entry;
 use text::opening_text::MOST_ENTRIES;
+use text::{Entry, Refusal};
 
 // ---- 5: a name that neither text gives
 // Whether the process or node that an entry names is given by either text.
@@ -114,20 +115,20 @@ fn primes_differ(first: &[u32], second: &[u32]) -> bool
 }
 
 // ---- the lowest
-// The refusal of two texts that were read, 0 for none. Ruled out: 20 before 6; 5 for a name that the other text gives.
-pub fn refusal_of(first: &[u32], second: &[u32]) -> u32
+// The refusal of two texts that were read. Ruled out: 20 before 6; 5 for a name that the other text gives.
+pub fn refusal_of(first: &[u32], second: &[u32]) -> Result<(), Refusal>
     requires { IsHeld first.now × IsHeld second.now }
-    ensures { OfBoth first.now second.now (λ fs gs. result ≡ join_refusal fs gs) }
+    ensures { OfBoth first.now second.now (λ fs gs. refusal_in result ≡ join_refusal fs gs) }
 {
     let listed = text_listed(first, second, first) & text_listed(first, second, second);
     if !listed {
-        return 5;
+        return Err(Refusal::NotListed);
     }
     if is_crowded(first, second) {
-        return 6;
+        return Err(Refusal::TooMany);
     }
     if primes_differ(first, second) {
-        return 20;
+        return Err(Refusal::PrimesDiffer);
     }
-    0
+    Ok(())
 }

@@ -28,6 +28,34 @@ some_number NotListed e = omega arith
 some_number TooMany e = omega arith
 some_number PrimesDiffer e = omega arith
 
+-- ---- what a step is that goes on, ends or is refused
+pub record Going (fs : List Form) (x : Step) : Type 0 where
+  pub given : Given
+  pub is : x ≡ Ok (Some given)
+  pub gives : Gives given fs
+
+pub going-on : (fs : List Form) (x : Step) → GoesOn fs x → Going fs x
+unfolding GoesOn
+going-on fs (Ok (Some g)) k = record { given = g; is = refl; gives = k }
+going-on fs (Ok None) k = absurd k
+going-on fs (Err e) k = absurd k
+
+pub ending : (x : Step) → EndsText x → x ≡ Ok None
+unfolding EndsText
+ending (Ok (Some g)) k = absurd k
+ending (Ok None) k = refl
+ending (Err e) k = absurd k
+
+pub record Refusing (k : ℕ) (x : Step) : Type 0 where
+  pub refusal : Refusal
+  pub is : x ≡ Err refusal
+  pub number : number_of refusal ≡ k
+
+pub refusing : (k : ℕ) (x : Step) → RefusedWith k x → Refusing k x
+unfolding RefusedWith
+refusing k (Ok y) r = absurd r
+refusing k (Err e) r = record { refusal = e; is = refl; number = r }
+
 -- ---- one line of the first pass, by what it is
 unfoldable pub by_line : List Form → ℕ → List (List ℕ) → Line → FirstPass
 by_line fs n ls x =

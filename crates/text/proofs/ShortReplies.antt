@@ -44,7 +44,7 @@ unfolding most_pairs
 framed-short w e vs hw he h =
     omega (arith, hw, he, h, spaced-short vs, length-append w (spaced vs ++ e), length-append (spaced vs) e)
 
-ok-short : (vs : List Value) → length vs ≤ most_pairs → length (ok_text vs) ≤ REPLY
+pub ok-short : (vs : List Value) → length vs ≤ most_pairs → length (ok_text vs) ≤ REPLY
 unfolding ok_text bytes
 ok-short vs h = framed-short (bytes "(ok") (bytes ")\n") vs refl refl h
 
@@ -53,7 +53,7 @@ unfolding no_text bytes most_pairs
 no_short ns h = framed-short (bytes "(no") (bytes ")\n") (map num ns) refl refl (omega (arith, length-map ns num))
 
 -- ---- answers
-printed-short : (a : Answer) → length (printed a) ≤ REPLY
+pub printed-short : (a : Answer) → length (printed a) ≤ REPLY
 unfolding printed
 printed-short a = pick (eqb (refusal_of a) 0)
   where

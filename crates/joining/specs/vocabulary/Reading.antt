@@ -1,15 +1,17 @@
 -- Two texts as code reads them: a line into a directory, how far reading has come, the bytes of a part.
-use Rattle.std.specs.Prelude.{ℕ, suc, ◌+◌, ◌≤◌, ◌<◌, Bool, true, false, List, [], ◌∷◌, ◌++◌, map, ◌≡◌, length, take, drop}
+use Rattle.std.specs.Prelude.{ℕ, suc, ◌+◌, ◌≤◌, ◌<◌, Bool, true, false, List, [], ◌∷◌, ◌++◌, map, ◌≡◌, Some, None, Result, Ok, Err, length, take, drop}
 use Rattle.rows.specs.Lists.{all}
 use Rattle.text.specs.declared.Given.{Given}
-use Rattle.text.specs.declared.Step.{Step}
-use Rattle.text.specs.declared.Verdict.{Verdict}
+use Rattle.text.specs.declared.Refusal.{Refusal}
+use Rattle.text.specs.vocabulary.Refusals.{number_of}
 use Rattle.text.specs.Opening.{Form, Line, last_line, form_line, bad_line, line_of, form_refusal, entry_ranged}
-use Rattle.text.specs.vocabulary.Openings.{Gives, Steps, entries_here}
+use Rattle.text.specs.vocabulary.Openings.{Gives, Step, Steps, entries_here}
 use Rattle.text.specs.vocabulary.Sizes.{KEPT-LINE}
 use Rattle.joining.specs.declared.Stage.{Stage}
 use Rattle.joining.specs.declared.Stage.TheVariants.{First, Second, Over}
 use Rattle.joining.specs.declared.Joining.{Joining}
+use Rattle.joining.specs.declared.NotJoined.{NotJoined}
+use Rattle.joining.specs.declared.NotJoined.TheVariants.{OfText, OfBoth}
 use Rattle.joining.specs.declared.Fed.{Fed}
 use Rattle.joining.specs.Joins.{Joined, joins, refused_text, refused_both}
 use Rattle.joining.specs.Feeding.{Progress, in_first, in_second, both_read, refused_in, joined_at, Texts, fed}
@@ -50,11 +52,17 @@ pub record HeldGiven (w : List ℕ) (g : Given) : Type 0 where
   pub held : Held w forms
   pub gives : Gives g forms
 
+-- whether the first pass goes on
+unfoldable pub goes_on : Step → Bool
+goes_on (Ok (Some g)) = true
+goes_on (Ok None) = false
+goes_on (Err e) = false
+
 -- what a line does after the forms fs, which are held; w is what is held then
 unfoldable pub LineHeld : List Form → Line → Step → List ℕ → Type 0
 LineHeld fs last_line r w = Held w fs
 LineHeld fs bad_line r w = Held w fs
-LineHeld fs (form_line f) r w = (r.going ≡ true → Held w (f ∷ fs)) × (r.going ≡ false → Held w fs)
+LineHeld fs (form_line f) r w = (goes_on r ≡ true → Held w (f ∷ fs)) × (goes_on r ≡ false → Held w fs)
 
 abbrev pub ReadsLine : List ℕ → List ℕ → Given → Step → List ℕ → Type 0
 ReadsLine w s g r u = (fs : List Form) → Held w fs → Gives g fs → Steps fs (line_of s) r × LineHeld fs (line_of s) r u
@@ -70,21 +78,21 @@ abbrev pub SecondBegins : Joining → Type 0
 SecondBegins r = (r.stage ≡ Second) × (r.number ≡ 1) × Gives r.given []
 
 abbrev pub BothRead : Joining → Type 0
-BothRead r = (r.stage ≡ Over) × (r.refusal ≡ 0)
+BothRead r = (r.stage ≡ Over) × (r.refusal ≡ None)
 
 -- r comes after a line of this number, at the stage g, that does what x says; `ended` if it ends its text
 pub record AfterLine (g : Stage) (number : ℕ) (x : Step) (ended r : Joining) : Type 0 where
-  pub taken : x.going ≡ true → (r.stage ≡ g) × (r.number ≡ number + 1) × (r.given ≡ x.given)
-  pub last : x.going ≡ false → x.refusal ≡ 0 → r ≡ ended
-  pub refused : x.going ≡ false → (x.refusal ≡ 0 → ⊥) → (r.stage ≡ Over) × (r.refusal ≡ x.refusal) × (r.number ≡ number)
+  pub taken : (given : Given) → x ≡ Ok (Some given) → (r.stage ≡ g) × (r.number ≡ number + 1) × (r.given ≡ given)
+  pub last : x ≡ Ok None → r ≡ ended
+  pub refused : (e : Refusal) → x ≡ Err e → (r.stage ≡ Over) × (r.refusal ≡ Some (number_of e)) × (r.number ≡ number)
 
 -- ---- how far reading has come
 -- j, with the directories a and b, has come so far
 unfoldable pub Holds : Progress → Joining → List ℕ → List ℕ → Type 0
 Holds (in_first fs) j a b = (j.stage ≡ First) × (j.number ≡ suc (length fs)) × Gives j.given fs × Held a fs × Held b []
 Holds (in_second fs gs) j a b = (j.stage ≡ Second) × (j.number ≡ suc (length gs)) × Gives j.given gs × Held a fs × Held b gs
-Holds (both_read fs gs) j a b = (j.stage ≡ Over) × (j.refusal ≡ 0) × Held a fs × Held b gs
-Holds (refused_in k n) j a b = (j.stage ≡ Over) × (j.refusal ≡ k) × (j.number ≡ n) × (0 < k) × (0 < n)
+Holds (both_read fs gs) j a b = (j.stage ≡ Over) × (j.refusal ≡ None) × Held a fs × Held b gs
+Holds (refused_in k n) j a b = (j.stage ≡ Over) × (j.refusal ≡ Some k) × (j.number ≡ n) × (0 < k) × (0 < n)
     × (length a ≡ DIRECTORY) × (length b ≡ DIRECTORY)
 
 -- somewhere
@@ -119,10 +127,10 @@ pub record ReadsOn (part : List ℕ) (r : Fed) : Type 0 where
   pub stops : r.next < length part → r.joining.stage ≡ Over
 
 -- ---- the end
-unfoldable pub verdict_of : Joined → Verdict
-verdict_of (joins fs) = record { refusal = 0; line = 0 }
-verdict_of (refused_text k n) = record { refusal = k; line = n }
-verdict_of (refused_both k) = record { refusal = k; line = 0 }
+unfoldable pub verdict_of : Joined → Result Unit NotJoined
+verdict_of (joins fs) = Ok tt
+verdict_of (refused_text k n) = Err (OfText k n)
+verdict_of (refused_both k) = Err (OfBoth k)
 
-abbrev pub Finishes : Joining → List ℕ → List ℕ → Verdict → Type 0
+abbrev pub Finishes : Joining → List ℕ → List ℕ → Result Unit NotJoined → Type 0
 Finishes j a b v = (p : Progress) → Holds p j a b → v ≡ verdict_of (joined_at p)

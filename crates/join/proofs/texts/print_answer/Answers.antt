@@ -1,6 +1,5 @@
 -- `texts::print_answer`: where nothing is refused, both directories hold accepted texts.
-use Rattle.std.proofs.Common.{arith, sym, ap, ◌∙◌}
-use Rattle.text.specs.declared.Verdict.{Verdict}
+use Rattle.std.proofs.Common.{arith, sym, ◌∙◌}
 use Rattle.joining.proofs.PrintedTexts.{ended-accepted}
 use Rattle.join.proofs.texts.print_answer.Goals as goal
 
@@ -10,4 +9,4 @@ write_answer-written-requires g c =
     let is = c.finish-v.ensures k.progress k.holds in
     let same = c.loop-from.invariant in
     let room = c.requires.1 in
-    (λ none. ended-accepted _ _ _ k.progress k.holds (sym (ap (λ (v : Verdict). v.refusal) is) ∙ none), omega (arith, same, room))
+    (λ none. ended-accepted _ _ _ k.progress k.holds (sym none ∙ is), omega (arith, same, room))

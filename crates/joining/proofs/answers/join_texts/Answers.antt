@@ -1,7 +1,6 @@
 -- `answers::join_texts` meets its contract: both texts are read to their end, and what is printed has room.
 use native.Mathlib.Omega.{arith}
-use mathlib.Core.Path.{refl, sym, ap, ◌∙◌}
-use Rattle.text.specs.declared.Verdict.{Verdict}
+use mathlib.Core.Path.{refl, sym, ◌∙◌}
 use Rattle.joining.specs.Feeding.{begun}
 use Rattle.joining.proofs.FedTexts.{begun-held, text-joined}
 use Rattle.joining.proofs.PrintedTexts.{ended-accepted, puts-as, answer-put}
@@ -19,7 +18,7 @@ write_answer-written-requires c =
     let p = k.texts.progress in
     let is = c.finish-v.ensures p k.holds.progress in
     let room = c.requires in
-    (λ none. ended-accepted _ _ _ p k.holds.progress (sym (ap (λ (v : Verdict). v.refusal) is) ∙ none), omega arith)
+    (λ none. ended-accepted _ _ _ p k.holds.progress (sym none ∙ is), omega arith)
 
 pub returns : goal.returns
 returns c =

@@ -1,15 +1,13 @@
 -- `answers::refusal_text` meets its contract.
-use mathlib.Core.Path.{ap, ◌∙◌}
+use mathlib.Core.Path.{sym, ap, ◌∙◌}
 use Rattle.text.specs.vocabulary.Replies.{in_reply}
-use Rattle.joining.proofs.PrintedTexts.{refusal-both, refusal-one}
+use Rattle.joining.specs.vocabulary.Answers.{refusal_text}
 use Rattle.joining.proofs.answers.refusal_text.Goals as goal
 
-pub returns-then-v-eq0 : goal.returns-then-v-eq0
-returns-then-v-eq0 c =
-    let v = c.args.v in
-    λ some. c.print.ensures ∙ ap in_reply (refusal-both v some c.if-v-eq0.true)
+pub returns-in-OfText : goal.returns-in-OfText
+unfolding refusal_text
+returns-in-OfText c = c.print_opening.ensures ∙ sym (ap (λ e. in_reply (refusal_text e)) c.in-OfText.is)
 
-pub returns : goal.returns
-returns c =
-    let v = c.args.v in
-    λ some. c.print_opening.ensures ∙ ap in_reply (refusal-one v some c.if-v-eq0.false)
+pub returns-in-OfBoth : goal.returns-in-OfBoth
+unfolding refusal_text
+returns-in-OfBoth c = c.print.ensures ∙ sym (ap (λ e. in_reply (refusal_text e)) c.in-OfBoth.is)

@@ -1,13 +1,14 @@
 -- `feeding::after_line` meets its contract: by what the line does.
-use mathlib.Core.Path.{refl}
-use Rattle.rows.proofs.Bools.{clash}
+use mathlib.Core.Path.{ap, ◌∙◌}
+use Rattle.std.specs.Prelude.{Ok}
+use Rattle.joining.proofs.ReadOn.{after-taken, after-last, after-refused}
 use Rattle.joining.proofs.feeding.after_line.Goals as goal
 
-pub returns-then-step : goal.returns-then-step
-returns-then-step c = record { taken = λ e. (refl, refl, refl); last = λ e z. clash c.if-step.true e; refused = λ e z. clash c.if-step.true e }
+pub returns-in-Ok-Some : goal.returns-in-Ok-Some
+returns-in-Ok-Some c = let a = c.args in let h = c.in-Ok-Some in after-taken a.stage a.number a.step a.ended h.given (h.is ∙ ap Ok (rw h.is at h.field-0-is))
 
-pub returns-then-step-eq0 : goal.returns-then-step-eq0
-returns-then-step-eq0 c = record { taken = λ e. clash e c.if-step.false; last = λ e z. refl; refused = λ e z. absurd (z c.if-step-eq0.true) }
+pub returns-in-Ok-None : goal.returns-in-Ok-None
+returns-in-Ok-None c = let a = c.args in let h = c.in-Ok-None in after-last a.stage a.number a.step a.ended (h.is ∙ ap Ok (rw h.is at h.field-0-is))
 
-pub returns : goal.returns
-returns c = record { taken = λ e. clash e c.if-step.false; last = λ e z. absurd (c.if-step-eq0.false z); refused = λ e z. (refl, refl, refl) }
+pub returns-in-Err : goal.returns-in-Err
+returns-in-Err c = let a = c.args in rw c.into.ensures (after-refused a.stage a.number a.step a.ended c.in-Err.refusal a.ended.given c.in-Err.is)
