@@ -17,7 +17,7 @@ use Rattle.rows.specs.vocabulary.Represents.{Represents}
 use Rattle.rows.specs.vocabulary.Slots.{found_slot}
 use Rattle.rows.proofs.Slots.{found_nothing, row-absent}
 use Rattle.calls.specs.declared.Refusal.{Refusal}
-use Rattle.calls.specs.declared.Refusal.TheVariants.{NotHeld, WrongKind, NoRight, Busy, NoRequest, Lent, InUse, Away, TooDeep, RowsFull, RequestsFull, NumbersSpent}
+use Rattle.calls.specs.declared.Refusal.TheVariants.{Unsound, BadForm, OutOfRange, GivenTwice, NotListed, TooMany, NotHeld, WrongKind, NoRight, Busy, NoRequest, Lent, InUse, Away, TooDeep, RowsFull, RequestsFull, NumbersSpent, PrimesDiffer}
 use Rattle.calls.specs.Answers.{refusal_number}
 use Rattle.calls.specs.declared.Answer.{Answer}
 use Rattle.calls.specs.declared.Answer.TheVariants.{Refused}
@@ -29,6 +29,12 @@ use Rattle.calls.specs.vocabulary.Performs.{answer_in, Answers, Agrees}
 
 -- ---- a step that may be refused
 pub refusal-some : (r : Refusal) → refusal_number r ≡ 0 → ⊥
+refusal-some Unsound e = omega arith
+refusal-some BadForm e = omega arith
+refusal-some OutOfRange e = omega arith
+refusal-some GivenTwice e = omega arith
+refusal-some NotListed e = omega arith
+refusal-some TooMany e = omega arith
 refusal-some NotHeld e = omega arith
 refusal-some WrongKind e = omega arith
 refusal-some NoRight e = omega arith
@@ -41,6 +47,7 @@ refusal-some TooDeep e = omega arith
 refusal-some RowsFull e = omega arith
 refusal-some RequestsFull e = omega arith
 refusal-some NumbersSpent e = omega arith
+refusal-some PrimesDiffer e = omega arith
 
 pub by-number : {k : ℕ} {r : Answer} {after : List ℕ} {left : List Process} {o : Out} → r ≡ Refused k → Agrees after left (Refused k) o → Agrees after left r o
 by-number e a = rw e a

@@ -4,7 +4,7 @@ use Rattle.rows.specs.Lists.{nonzero}
 use Rattle.calls.specs.declared.Four.{Four}
 use Rattle.calls.specs.declared.Sixteen.{Sixteen}
 use Rattle.calls.specs.declared.Refusal.{Refusal}
-use Rattle.calls.specs.declared.Refusal.TheVariants.{NotHeld, WrongKind, NoRight, Busy, NoRequest, Lent, InUse, Away, TooDeep, RowsFull, RequestsFull, NumbersSpent}
+use Rattle.calls.specs.declared.Refusal.TheVariants.{Unsound, BadForm, OutOfRange, GivenTwice, NotListed, TooMany, NotHeld, WrongKind, NoRight, Busy, NoRequest, Lent, InUse, Away, TooDeep, RowsFull, RequestsFull, NumbersSpent, PrimesDiffer}
 use Rattle.calls.specs.declared.Answer.{Answer}
 use Rattle.calls.specs.declared.Answer.TheVariants.{Done, Made, Fetched, Told, Chained, ToldAll, Refused}
 
@@ -18,8 +18,14 @@ refusal_of (Chained a b c) = 0
 refusal_of (ToldAll s) = 0
 refusal_of (Refused k) = k
 
--- (rules K5, F8) the number of each refusal for the state
+-- (rule K5) the number of each refusal
 abbrev pub refusal_number : Refusal → ℕ
+refusal_number Unsound = 1
+refusal_number BadForm = 2
+refusal_number OutOfRange = 3
+refusal_number GivenTwice = 4
+refusal_number NotListed = 5
+refusal_number TooMany = 6
 refusal_number NotHeld = 7
 refusal_number WrongKind = 8
 refusal_number NoRight = 9
@@ -32,6 +38,7 @@ refusal_number TooDeep = 15
 refusal_number RowsFull = 16
 refusal_number RequestsFull = 17
 refusal_number NumbersSpent = 18
+refusal_number PrimesDiffer = 20
 
 unfoldable pub numbers_of : Four → List ℕ
 numbers_of a = a.first ∷ a.second ∷ a.third ∷ a.fourth ∷ []

@@ -46,10 +46,21 @@ pub enum Call {
     ComesAll(Sixteen, Sixteen),
 }
 
-// Why the state refuses a call: each by the number that its answer has.
-// The numbers are those of lines and states, 2 to 18; 2 to 6 are for the text of a line, which has its own crate.
-#[derive(Clone, Copy)]
+// Why a line, a call, an opening text or a joining is refused, each with the number that is printed.
+#[derive(Clone, Copy, Debug, PartialEq, Eq)]
 pub enum Refusal {
+    // the lent words are not sound tables
+    Unsound = 1,
+    // the line has none of the forms
+    BadForm = 2,
+    // a number is out of its range
+    OutOfRange = 3,
+    // two forms for one node or process
+    GivenTwice = 4,
+    // the process or node is not listed
+    NotListed = 5,
+    // too many entries or items
+    TooMany = 6,
     // what is named is not the caller's, or not there
     NotHeld = 7,
     // it is of another kind
@@ -74,10 +85,12 @@ pub enum Refusal {
     RequestsFull = 17,
     // too few numbers are left
     NumbersSpent = 18,
+    // a process of two joined texts has two prime nodes
+    PrimesDiffer = 20,
 }
 
 // What a call answers. The numbers and values of each case: specs/Answers.antt.
-// A refusal is its number here: that of a line's text is no `Refusal`, and definitions and cases have the number.
+// A refusal is its number here, not a `Refusal`: definitions and their tables of cases have the number.
 #[derive(Clone, Copy)]
 pub enum Answer {
     Done,

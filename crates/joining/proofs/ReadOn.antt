@@ -12,8 +12,8 @@ use borrow.Author.Tests.{eqb-true, eqb-false, eq-eqb, ne_eqb}
 use Rattle.rows.specs.Limits.{nodes, processes}
 use Rattle.rows.proofs.Bools.{clash}
 use Rattle.text.specs.declared.Given.{Given}
-use Rattle.text.specs.declared.Refusal.{Refusal}
-use Rattle.text.specs.vocabulary.Refusals.{number_of, refusal_in}
+use Rattle.calls.specs.declared.Refusal.{Refusal}
+use Rattle.text.specs.vocabulary.Refusals.{refusal_number, refusal_in}
 use Rattle.text.proofs.PassLaws.{some_number, going-on, ending, refusing}
 use Rattle.std.specs.Prelude.{Option, Some, None, Ok, Err}
 use Rattle.text.specs.Opening.{Form, Line, last_line, form_line, bad_line, cut, line_of, form_refusal}
@@ -118,7 +118,7 @@ module _ (g : Stage) (number : ℕ) (x : Step) (ended : Joining) where
         refused = λ r e. absurd (let q : ◌≡◌ {A = Step} (Ok None) (Err r) = sym is ∙ e in let z : ◌≡◌ {A = ℕ} 0 1 = cc in omega arith);
       }
 
-  pub after-refused : (r : Refusal) (given : Given) → x ≡ Err r → AfterLine g number x ended (record { stage = Over; refusal = Some (number_of r); number = number; given = given })
+  pub after-refused : (r : Refusal) (given : Given) → x ≡ Err r → AfterLine g number x ended (record { stage = Over; refusal = Some (refusal_number r); number = number; given = given })
   unfolding goes_on
   after-refused r given is =
       record {

@@ -12,7 +12,8 @@ use crate::{Fed, Joining, NotJoined, Stage};
 use text::kept_lines::keep_byte;
 use text::opening_text::none_given;
 use text::opening_words::clear;
-use text::{Given, Refusal};
+use calls::Refusal;
+use text::Given;
 
 // ---- the beginning
 // Nothing is read yet, and the directories hold nothing, whatever stood in them.

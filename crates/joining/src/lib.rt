@@ -3,10 +3,11 @@
 #![tactic(auto)]
 
 ghost use Rattle.std.specs.Prelude.{◌≡◌};
-ghost use Rattle.text.specs.vocabulary.Refusals.{number_of};
+ghost use Rattle.calls.specs.Answers.{refusal_number};
 ghost use Rattle.joining.specs.declared.NotJoined.TheVariants.{OfBoth};
 
-use text::{Given, Refusal};
+use calls::Refusal;
+use text::Given;
 
 // What is read now: the first text or the second; or reading is over, since both are read or one is refused.
 #[derive(Clone, Copy)]
@@ -35,7 +36,7 @@ pub enum NotJoined {
 
 // What both together are refused for has no line.
 impl From<Refusal> for NotJoined {
-    ghost from_gives = { λ r n. n ≡ OfBoth (number_of r) };
+    ghost from_gives = { λ r n. n ≡ OfBoth (refusal_number r) };
 
     fn from(r: Refusal) -> NotJoined {
         NotJoined::OfBoth(r.into())

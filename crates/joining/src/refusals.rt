@@ -1,7 +1,7 @@
 // What is refused of two directories: 5, 6 and 20 (specs/Joins.antt).
 ghost use Rattle.std.specs.Prelude.{◌≡◌, ◌≤◌};
 ghost use Rattle.text.specs.vocabulary.Sizes.{NODES};
-ghost use Rattle.text.specs.vocabulary.Refusals.{refusal_in};
+ghost use Rattle.calls.specs.vocabulary.Performs.{refusal_in};
 ghost use Rattle.joining.specs.Joins.{name_missing, node_crowded, primes_differ, join_refusal};
 ghost use Rattle.joining.specs.vocabulary.Directories.{IsHeld, OfBoth};
 ghost use Rattle.joining.specs.vocabulary.Listed.{ListsEntry, ListsCodes, ListsNodes, ListsPrimes, ListsText};
@@ -11,7 +11,8 @@ use crate::merging::merge_node;
 use crate::{CODES_AT, NODE_WORDS};
 use rows::codes::{AN_OPERATION, LAST_NODE, LAST_PROCESS};
 use text::opening_text::MOST_ENTRIES;
-use text::{Entry, Refusal};
+use calls::Refusal;
+use text::Entry;
 
 // ---- 5: a name that neither text gives
 // Whether the process or node that an entry names is given by either text.

@@ -10,23 +10,14 @@ use lib.ListN.{drop, length, take, drop_of_length-le}
 use borrow.Author.Tests.{eq-eqb, ne_eqb, eqb-true, eqb-false}
 use Rattle.text.specs.Opening.{Form, Line, FirstPass, last_line, read_to, form_line, form_refusal, first_pass, stopped_by, bad_line, line_of, node_form, process_form, lines_of}
 use Rattle.text.specs.vocabulary.Openings.{line_read, NodeTold, Step, GoesOn, EndsText, RefusedWith, FormSteps, Steps, Gives, first_line, Ends}
-use Rattle.text.specs.vocabulary.Refusals.{number_of}
+use Rattle.calls.specs.Answers.{refusal_number}
 use Rattle.std.specs.Prelude.{Some, None, Ok, Err}
 use Rattle.text.specs.declared.Entry.{Entry}
 use Rattle.text.specs.declared.Given.{Given}
 use Rattle.text.specs.declared.LineRead.TheVariants.{Node, Process, Last, Bad}
-use Rattle.text.specs.declared.Refusal.{Refusal}
-use Rattle.text.specs.declared.Refusal.TheVariants.{BadForm, OutOfRange, GivenTwice, NotListed, TooMany, PrimesDiffer}
+use Rattle.calls.specs.declared.Refusal.{Refusal}
+use Rattle.calls.proofs.Judging.{refusal-some}
 use Rattle.text.proofs.OpeningLaws.{line-split}
-
--- a refusal's number
-pub some_number : (r : Refusal) → number_of r ≡ 0 → ⊥
-some_number BadForm e = omega arith
-some_number OutOfRange e = omega arith
-some_number GivenTwice e = omega arith
-some_number NotListed e = omega arith
-some_number TooMany e = omega arith
-some_number PrimesDiffer e = omega arith
 
 -- ---- what a step is that goes on, ends or is refused
 pub record Going (fs : List Form) (x : Step) : Type 0 where
@@ -49,7 +40,7 @@ ending (Err e) k = absurd k
 pub record Refusing (k : ℕ) (x : Step) : Type 0 where
   pub refusal : Refusal
   pub is : x ≡ Err refusal
-  pub number : number_of refusal ≡ k
+  pub number : refusal_number refusal ≡ k
 
 pub refusing : (k : ℕ) (x : Step) → RefusedWith k x → Refusing k x
 unfolding RefusedWith
@@ -133,9 +124,9 @@ pub form-goes : (fs : List Form) (f : Form) (g : Given) → form_refusal fs f �
 unfolding GoesOn
 form-goes fs f g e k = record { taken = λ q. k; refused = λ q. absurd (q e) }
 
-pub form-stops : (fs : List Form) (f : Form) (e : Refusal) → number_of e ≡ form_refusal fs f → FormSteps fs f (Err e)
+pub form-stops : (fs : List Form) (f : Form) (e : Refusal) → refusal_number e ≡ form_refusal fs f → FormSteps fs f (Err e)
 unfolding RefusedWith
-form-stops fs f e k = record { taken = λ q. absurd (some_number e (k ∙ q)); refused = λ q. k }
+form-stops fs f e k = record { taken = λ q. absurd (refusal-some e (k ∙ q)); refused = λ q. k }
 
 -- ---- the first pass: the forms read, then the lines left
 pub record Passing (t : List ℕ) (at n : ℕ) (g : Given) : Type 0 where
@@ -194,18 +185,18 @@ module _ (t : List ℕ) (at n : ℕ) (g : Given) (k : Passing t at n g) (e : ℕ
       pick bad_line w s = absurd s
       pick (form_line f) w s = absurd (no-form f s (eqb (form_refusal k.read f) 0) refl)
 
-  pub passing-stops : (r : Refusal) → Steps k.read here (Err r) → Ends (first_pass [] 1 (lines_of t)) (Err (record { number = number_of r; line = n }))
+  pub passing-stops : (r : Refusal) → Steps k.read here (Err r) → Ends (first_pass [] 1 (lines_of t)) (Err (record { number = refusal_number r; line = n }))
   unfolding Steps GoesOn EndsText RefusedWith Ends by_line
   passing-stops r st = pick here whole-here st
     where
       stopped-at : (f : Form) → first_pass [] 1 (lines_of t) ≡ after (form_line f) → FormSteps k.read f (Err r)
-          → (b : Bool) → eqb (form_refusal k.read f) 0 ≡ b → Ends (first_pass [] 1 (lines_of t)) (Err (record { number = number_of r; line = n }))
+          → (b : Bool) → eqb (form_refusal k.read f) 0 ≡ b → Ends (first_pass [] 1 (lines_of t)) (Err (record { number = refusal_number r; line = n }))
       stopped-at f w s true q = absurd (s.taken (eqb-true (form_refusal k.read f) 0 q))
       stopped-at f w s false q =
           let z = eqb-false (form_refusal k.read f) 0 q in
           rw (w ∙ form-refused k.read n (lines_of (drop e t)) f z) (s.refused z, refl, omega arith)
 
-      pick : (x : Line) → first_pass [] 1 (lines_of t) ≡ after x → Steps k.read x (Err r) → Ends (first_pass [] 1 (lines_of t)) (Err (record { number = number_of r; line = n }))
+      pick : (x : Line) → first_pass [] 1 (lines_of t) ≡ after x → Steps k.read x (Err r) → Ends (first_pass [] 1 (lines_of t)) (Err (record { number = refusal_number r; line = n }))
       pick last_line w s = absurd s
       pick bad_line w s = rw w (s, refl, omega arith)
       pick (form_line f) w s = stopped-at f w s (eqb (form_refusal k.read f) 0) refl

@@ -1,6 +1,5 @@
 -- The vocabulary of contracts over the text. A reader of the definitions need not read it.
 pub mod Sizes
-pub mod Refusals
 pub mod Groups
 pub mod Replies
 pub mod Openings

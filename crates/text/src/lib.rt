@@ -2,9 +2,6 @@
 
 #![tactic(auto)]
 
-ghost use Rattle.std.specs.Prelude.{◌≡◌};
-ghost use Rattle.text.specs.vocabulary.Refusals.{number_of};
-
 use calls::Call;
 
 // What a run of digits or of letters is worth, and the place after it.
@@ -120,26 +117,6 @@ pub const PROCESS_PLACES: usize = 65;
 pub struct Given {
     pub nodes: [bool; NODE_PLACES],
     pub processes: [bool; PROCESS_PLACES],
-}
-
-// Why a line of an opening text, or what a text names, is refused; two texts that are joined also as they differ.
-#[derive(Clone, Copy, Debug, PartialEq, Eq)]
-pub enum Refusal {
-    BadForm = 2,
-    OutOfRange = 3,
-    GivenTwice = 4,
-    NotListed = 5,
-    TooMany = 6,
-    PrimesDiffer = 20,
-}
-
-// The number that an answer prints.
-impl From<Refusal> for u32 {
-    ghost from_gives = { λ r n. n ≡ number_of r };
-
-    fn from(r: Refusal) -> u32 {
-        r as u32
-    }
 }
 
 // An opening text is refused: with a number, at a line.

@@ -1,6 +1,6 @@
 // The first pass over an opening text of any bytes: 2, 3, 4 and 6 (specs/Opening.antt).
 ghost use Rattle.std.specs.Prelude.{◌≡◌, false, List, [], ◌∷◌, ◌≤◌, get_or};
-ghost use Rattle.text.specs.vocabulary.Refusals.{refusal_in};
+ghost use Rattle.calls.specs.vocabulary.Performs.{refusal_in};
 ghost use Rattle.text.specs.declared.Entry.{Entry};
 ghost use Rattle.text.specs.Opening.{lines_of, Form, node_form, process_form, line_of, form_refusal, first_pass};
 ghost use Rattle.text.specs.vocabulary.Sizes.{NODES};
@@ -9,7 +9,8 @@ ghost use Rattle.text.specs.vocabulary.Openings.{Gives, RefusesNode, StepsNode, 
 
 use crate::call_line::is_process;
 use crate::opening_lines::{line_end, read_line};
-use crate::{Given, LineRead, NODE_PLACES, PROCESS_PLACES, Refusal, Refused};
+use crate::{Given, LineRead, NODE_PLACES, PROCESS_PLACES, Refused};
+use calls::Refusal;
 use rows::codes::is_node;
 
 // (rule O15)

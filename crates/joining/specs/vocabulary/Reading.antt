@@ -2,8 +2,8 @@
 use Rattle.std.specs.Prelude.{ℕ, suc, ◌+◌, ◌≤◌, ◌<◌, Bool, true, false, List, [], ◌∷◌, ◌++◌, map, ◌≡◌, Some, None, Result, Ok, Err, length, take, drop}
 use Rattle.rows.specs.Lists.{all}
 use Rattle.text.specs.declared.Given.{Given}
-use Rattle.text.specs.declared.Refusal.{Refusal}
-use Rattle.text.specs.vocabulary.Refusals.{number_of}
+use Rattle.calls.specs.declared.Refusal.{Refusal}
+use Rattle.calls.specs.Answers.{refusal_number}
 use Rattle.text.specs.Opening.{Form, Line, last_line, form_line, bad_line, line_of, form_refusal, entry_ranged}
 use Rattle.text.specs.vocabulary.Openings.{Gives, Step, Steps, entries_here}
 use Rattle.text.specs.vocabulary.Sizes.{KEPT-LINE}
@@ -84,7 +84,7 @@ BothRead r = (r.stage ≡ Over) × (r.refusal ≡ None)
 pub record AfterLine (g : Stage) (number : ℕ) (x : Step) (ended r : Joining) : Type 0 where
   pub taken : (given : Given) → x ≡ Ok (Some given) → (r.stage ≡ g) × (r.number ≡ number + 1) × (r.given ≡ given)
   pub last : x ≡ Ok None → r ≡ ended
-  pub refused : (e : Refusal) → x ≡ Err e → (r.stage ≡ Over) × (r.refusal ≡ Some (number_of e)) × (r.number ≡ number)
+  pub refused : (e : Refusal) → x ≡ Err e → (r.stage ≡ Over) × (r.refusal ≡ Some (refusal_number e)) × (r.number ≡ number)
 
 -- ---- how far reading has come
 -- j, with the directories a and b, has come so far

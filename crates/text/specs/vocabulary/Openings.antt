@@ -7,14 +7,14 @@ use Rattle.text.specs.declared.EntriesRead.{EntriesRead}
 use Rattle.text.specs.declared.LineRead.{LineRead}
 use Rattle.text.specs.declared.LineRead.TheVariants.{Node, Process, Last, Bad}
 use Rattle.text.specs.declared.Given.{Given}
-use Rattle.text.specs.declared.Refusal.{Refusal}
+use Rattle.calls.specs.declared.Refusal.{Refusal}
 use Rattle.text.specs.declared.Refused.{Refused}
 use Rattle.text.specs.declared.Naming.{Naming}
 use Rattle.text.specs.declared.Naming.TheVariants.{Listed, Missing, Ended}
 use Rattle.text.specs.Patterns.{form}
 use Rattle.text.specs.Opening.{operation_entry, subdirectory_entry, Entries, entry_ranged, Form, node_form, process_form, Line, last_line, form_line, bad_line, lines_of, process_line, open_line, entries_from, entries_in, gives_node, gives_process, form_refusal, entry_listed, form_listed, missing_at, first_pass, FirstPass, read_to, stopped_by, Opening, opens, refused_at}
 use Rattle.text.specs.vocabulary.Sizes.{GROUPS, NODES}
-use Rattle.text.specs.vocabulary.Refusals.{number_of}
+use Rattle.calls.specs.Answers.{refusal_number}
 use Rattle.rows.specs.vocabulary.Sizes.{PROCESSES}
 
 -- ---- lines
@@ -87,7 +87,7 @@ EndsText (Err e) = ⊥
 -- it is refused with the number k
 unfoldable pub RefusedWith : ℕ → Step → Type 0
 RefusedWith k (Ok x) = ⊥
-RefusedWith k (Err e) = number_of e ≡ k
+RefusedWith k (Err e) = refusal_number e ≡ k
 
 -- what a form does after the forms fs: it is taken, or refused
 pub record FormSteps (fs : List Form) (f : Form) (r : Step) : Type 0 where

@@ -2,7 +2,7 @@
 use Rattle.joining.proofs.ReadOn.{verdict-going, verdict-refused, both-held, verdict-joined, verdict-both}
 use mathlib.Core.Path.{sym, ◌∙◌}
 use Rattle.std.proofs.lemmas.Result.{err_from_is_err_and}
-use Rattle.text.proofs.PassLaws.{some_number}
+use Rattle.calls.proofs.Judging.{refusal-some}
 use Rattle.joining.proofs.feeding.finish.Goals as goal
 
 pub returns-then-is_going : goal.returns-then-is_going
@@ -19,7 +19,7 @@ returns-in_err-refusal_of c =
     let a = c.args in
     let p = err_from_is_err_and c.from_residual.result c.from_residual.ensures.1 in
     let r = c.in_err-refusal_of in
-    λ q h. rw (p.1, p.2) (verdict-both a.j a.first.now a.second.now q h (sym c.is_going.ensures ∙ c.if-is_going.false) c.in_default.is _ (some_number _) r.ensures)
+    λ q h. rw (p.1, p.2) (verdict-both a.j a.first.now a.second.now q h (sym c.is_going.ensures ∙ c.if-is_going.false) c.in_default.is _ (refusal-some _) r.ensures)
 
 pub returns : goal.returns
 returns c =
