@@ -27,38 +27,7 @@ requests-read {st} {t} rep =
     rw (represented-requests rep)
     (requests-back t st.requests (represented-well rep).requests-fit (represented-request rep) (represented-well rep).items-few)
 
--- ---- the four items of a slot
--- where the items start
-abbrev Q-ITEMS : ℕ
-Q-ITEMS = Q-NUMBER + 4 * REQUESTS
-
-at-column : (t : List ℕ) (c j n : ℕ) → Q-NUMBER + (c * REQUESTS + j) ≡ n → request_field t c j ≡ get_or t n 0
-unfolding request_field requests_at row_columns row_slots request_slots
-at-column t c j n e = ap (λ (k : ℕ). get_or t k 0) e
-
-four-tests : (a b c d : Bool) → a || b || c || d ≡ a || (b || (c || (d || false)))
-four-tests true b c d = refl
-four-tests false true c d = refl
-four-tests false false true d = refl
-four-tests false false false true = refl
-four-tests false false false false = refl
-
--- the k-th of them, from 0 on
-abbrev item : List ℕ → ℕ → ℕ → ℕ
-item t j k = get_or t (Q-ITEMS + k * REQUESTS + j) 0
-
-pub items-tested : (t : List ℕ) (j e : ℕ)
-    → eqb e (item t j 0) || eqb e (item t j 1) || eqb e (item t j 2) || eqb e (item t j 3) ≡ member e (request_at t j).items
-unfolding member request_at
-items-tested t j e =
-    rw (
-      at-column t 4 j (Q-ITEMS + 0 * REQUESTS + j) (omega arith),
-      at-column t 5 j (Q-ITEMS + 1 * REQUESTS + j) (omega arith),
-      at-column t 6 j (Q-ITEMS + 2 * REQUESTS + j) (omega arith),
-      at-column t 7 j (Q-ITEMS + 3 * REQUESTS + j) (omega arith),
-    )
-    (four-tests (eqb e (item t j 0)) (eqb e (item t j 1)) (eqb e (item t j 2)) (eqb e (item t j 3)))
-
+-- ---- whether an open request lists an end
 module _ (t : List ℕ) (e : ℕ) where
   abbrev listed : Request → Bool
   listed v = member e v.items

@@ -10,7 +10,8 @@ ghost use Rattle.questions.specs.vocabulary.Questions.{ViaReaches, PortReaches};
 
 use rows::codes::{GREATEST_DEPTH, is_end};
 use rows::find::requests_in;
-use rows::layout::{KIND, NUMBER, Q_ITEMS, REQUEST, REQUESTS, ROWS, SOURCE, VIA};
+use rows::layout::{KIND, NUMBER, REQUEST, ROWS, SOURCE, VIA};
+use rows::read::request_at;
 
 // the greatest source word: the last slot plus 1
 pub const LAST_WORD: u32 = ROWS as u32;
@@ -20,10 +21,7 @@ fn lists_item(t: &[u32], j: usize, e: u32) -> bool
     requires { IsTables t.now × (j < REQUESTS) }
     ensures { result ≡ member e (request_at t.now j).items }
 {
-    (e == t[Q_ITEMS + j])
-        | (e == t[Q_ITEMS + REQUESTS + j])
-        | (e == t[Q_ITEMS + 2 * REQUESTS + j])
-        | (e == t[Q_ITEMS + 3 * REQUESTS + j])
+    request_at(t, j).items.contains(&e)
 }
 
 // Whether an open request lists e.

@@ -1,5 +1,6 @@
 -- Laws of Bool tests, member, filter, any and all.
 use Rattle.std.proofs.Common.{◌≡◌, ℕ, ◌<◌, Bool, true, false, cond, not, ◌&&◌, ◌||◌, eqb, ◌⊎◌, List, [], ◌∷◌, ◌++◌, sym, refl, ap, ◌∙◌, inl, inr, true≢false, arith, ltb-false, ltb-true, lt-ltb, eq-eqb, ne_eqb, eqb-true}
+use Rattle.std.specs.List.{list_any}
 use mathlib.Core.Bool.{false≢true}
 use borrow.Author.Tests.{eqb-false}
 use Rattle.rows.specs.Lists.{filter, any, all, member, some}
@@ -192,6 +193,12 @@ module _ {A : Type 0} where
 pub member-here : (n : ℕ) (ms : List ℕ) → member n (n ∷ ms) ≡ true
 unfolding member
 member-here n ms = rw (eq-eqb n n refl) refl
+
+-- std's `contains` of numbers
+pub any-member : (n : ℕ) (ms : List ℕ) → list_any (λ m. eqb m n) ms ≡ member n ms
+unfolding member
+any-member n [] = refl
+any-member n (m ∷ ms) = rw (eqb-sym m n, any-member n ms) refl
 
 pub member-there : (n m : ℕ) (ms : List ℕ) → member n ms ≡ true → member n (m ∷ ms) ≡ true
 unfolding member

@@ -1,6 +1,7 @@
--- `question::lists_item` meets its contract: it compares with the four items.
-use Rattle.questions.proofs.Listed.{items-tested}
+-- `question::lists_item` meets its contract: what std's `contains` says of the four items.
+use Rattle.std.proofs.Common.{◌∙◌}
+use Rattle.rows.proofs.Bools.{any-member}
 use Rattle.questions.proofs.question.lists_item.Goals as goal
 
 pub returns : goal.returns
-returns c = let a = c.args in items-tested a.t.now a.j a.e
+returns c = c.contains.ensures.value ∙ rw c.request_at.ensures (any-member c.args.e _)
