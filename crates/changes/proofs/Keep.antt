@@ -6,11 +6,11 @@ use mathlib.Core.Path.{◌≡◌, refl, ap, sym, subst, ◌∙◌}
 use native.Mathlib.Nat.{zero-add, suc-add, not-suc-le-zero, le_of_suc-le-suc, le_refl, le_step}
 use native.Mathlib.Numerals.{add-one}
 use native.Mathlib.Omega.{arith}
-use lib.ListN.{length, get_or, take, drop, set, length-append, length-take, length-drop, take-append-drop}
-use lib.Seq.{take-suc, take_at, drop_at, drop-cons, set_at, get_or-take, get_or-drop, ext_get_or, length-take-le}
+use lib.ListN.{length, get_or, take, drop, set, replicate, length-append, length-take, length-drop, take-append-drop}
+use lib.Seq.{drop-drop, take-suc, take_at, drop_at, drop-cons, set_at, get_or-take, get_or-drop, ext_get_or, length-take-le}
 use Rattle.rows.specs.Lists.{filter, pad, laid}
 use Rattle.changes.specs.vocabulary.Bits.{SameMarks}
-use Rattle.changes.specs.vocabulary.Marks.{tested, keep, compacted}
+use Rattle.changes.specs.vocabulary.Marks.{tested, keep, cleared, compacted}
 
 -- ---- pad
 module _ {A : Type 0} (d : A) where
@@ -39,6 +39,27 @@ module _ {A : Type 0} (d : A) where
   pad-on zero m (x ∷ l) h = absurd (not-suc-le-zero h)
   pad-on (suc n) m [] h = rw suc-add (ap (λ (t : List A). d ∷ t) (pad-on n m [] zero-le))
   pad-on (suc n) m (x ∷ l) h = rw suc-add (ap (λ (t : List A). x ∷ t) (pad-on n m l (le_of_suc-le-suc h)))
+
+  -- what stands is followed by so many more
+  pub pad-replicate : (n : ℕ) → pad d n [] ≡ replicate n d
+  unfolding pad
+  pad-replicate zero = refl
+  pad-replicate (suc n) = ap (λ (t : List A). d ∷ t) (pad-replicate n)
+
+  pub pad-behind : (n m : ℕ) (l : List A) → length l ≡ n → pad d (n + m) l ≡ l ++ replicate m d
+  pad-behind n m l e = subst (λ (k : ℕ). pad d (k + m) l ≡ l ++ replicate m d) e (pad-on (length l) m l (le_refl (length l)) ∙ rw (pad-self l, pad-replicate m) refl)
+
+-- words that are filled with 0, from one position up to another
+pub cleared-filled : (from to : ℕ) (l ys : List ℕ) → from ≤ to → to ≤ length l → ys ≡ replicate (to - from) 0 → take from l ++ (ys ++ drop (to - from) (drop from l)) ≡ cleared from to l
+unfolding cleared
+cleared-filled from to l ys h room zeros =
+    let w : ℕ = to - from in
+    let on : from + w ≡ to = omega arith in
+    ap (λ (z : List ℕ). take from l ++ (z ++ drop w (drop from l))) zeros
+    ∙ sym (append_assoc (take from l) (replicate w 0) (drop w (drop from l)))
+    ∙ ap (λ (z : List ℕ). z ++ drop w (drop from l)) (sym (pad-behind 0 from w (take from l) (length-take-le from l (omega arith))))
+    ∙ ap (λ (z : List ℕ). pad 0 (from + w) (take from l) ++ z) (drop-drop w from l)
+    ∙ ap (λ (n : ℕ). pad 0 n (take from l) ++ drop n l) on
 
 -- ---- keep
 module _ {A : Type 0} where

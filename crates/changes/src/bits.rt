@@ -6,7 +6,7 @@ ghost use Rattle.changes.specs.vocabulary.Bits.{BITS, WORDS, EndsWord, marks_in,
 
 use rows::layout::ROWS;
 
-// the bits of a word; the words that have one for each slot, 128 bytes
+// the bits of a word; the words that have one for each slot, 128 bytes: fixed words, since the kernel has no heap
 pub const BITS: usize = 64;
 
 pub const WORDS: usize = ROWS / BITS;

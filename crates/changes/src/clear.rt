@@ -20,9 +20,7 @@ impl OnColumn for Clear {
     ghost does = { λ x. cleared x.from x.to };
 
     fn on(&self, column: &mut [u32]) {
-        for i in self.from..self.to {
-            column[i] = 0;
-        }
+        column[self.from..self.to].fill(0);
     }
 }
 

@@ -14,9 +14,11 @@ fn list_left(slots: &mut [u16], marks: &SlotBits, from: usize, end: usize) -> us
     requires { (BITS ≤ length slots.old) × (end ≤ ROWS) × EndsWord from end end }
     ensures { Lists (marks_in marks.now) from end slots.new result }
 {
+    // not one loop with ranks_each of renumbering: that has a word for each slot, and counts from elsewhere
     let w = marks[from / BITS];
     let mut n = 0;
     for i in from..end {
+        // as, here and for ranks: a slot fits 16 bits, and try_from would have a branch that nothing takes
         slots[n] = i as u16;
         if (w >> (i % BITS)) % 2 == 0 {
             n += 1;
@@ -39,7 +41,7 @@ impl OnColumn for Gather<'_> {
 
     fn on(&self, column: &mut [u32]) {
         for (k, &slot) in self.slots.iter().enumerate() {
-            column[self.to + k] = column[slot as usize];
+            column[self.to + k] = column[usize::from(slot)];
         }
     }
 }
@@ -88,6 +90,7 @@ pub fn move_by_words(
 {
     let mut j = first;
     let mut i = first;
+    // a while: i goes on by the slots of a word of marks
     while j < kept {
         let end = word_end(i, count);
         j += gather_word(part, size, columns, marks, i, end, j);

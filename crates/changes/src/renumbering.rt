@@ -66,6 +66,7 @@ fn ranks(to: &mut [u16], marks: &SlotBits, first: usize, count: usize)
     ranks_run(to, 0, first, 1);
     let mut i = first;
     let mut next = first + 1;
+    // a while: i goes on by the slots of a word of marks
     while i < count {
         let end = word_end(i, count);
         next = ranks_word(to, marks, i, end, next);
@@ -78,7 +79,7 @@ fn rank_at(to: &[u16], s: u32) -> u32
     requires { ROWS < length to.now }
     ensures { result ≡ rank_at to.now s }
 {
-    to[(s as usize).min(ROWS)] as u32
+    u32::from(to[(s as usize).min(ROWS)])
 }
 
 // Looks the words of a column from one position up to another up in a table.

@@ -108,6 +108,7 @@ pub fn move_by_runs(
     let mut j = first;
     let mut a = first;
     let mut e = first;
+    // a while: the run found is moved once the next one is, and both go on by runs
     while j < kept {
         let b = next_left(marks, e, count);
         let f = next_marked(marks, b, count);

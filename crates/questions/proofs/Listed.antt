@@ -1,19 +1,15 @@
 -- What the requests list, in their words: the items of a slot, and whether an open request lists an end.
-use Prim.Native.Nat.{ℕ, ◌+◌, ◌*◌}
-use mathlib.Core.Bool.{Bool, true, false, ◌||◌}
+use Prim.Native.Nat.{ℕ, ◌+◌}
+use mathlib.Core.Bool.{Bool, false, ◌||◌}
 use mathlib.Core.List.{List}
-use mathlib.Core.Path.{◌≡◌, refl, ap, ◌∙◌}
+use mathlib.Core.Path.{◌≡◌, refl, ◌∙◌}
 use native.Mathlib.Numerals.{add-one}
-use native.Mathlib.Omega.{arith}
-use lib.Dec.{eqb}
-use lib.ListN.{get_or}
 use Rattle.rows.specs.declared.Request.{Request}
 use Rattle.rows.specs.Lists.{any, member}
 use Rattle.rows.specs.Limits.{row_slots, request_slots}
 use Rattle.rows.specs.Tables.{State, lists, on_loan}
 use Rattle.rows.specs.Sound.{items_few}
-use Rattle.rows.specs.Layout.{row_columns, request_columns, requests_at, request_field, request_at, requests_to, requests_in}
-use Rattle.rows.specs.vocabulary.Sizes.{REQUESTS, Q-NUMBER}
+use Rattle.rows.specs.Layout.{row_columns, request_columns, requests_at, request_at, requests_to, requests_in}
 use Rattle.rows.specs.vocabulary.Represents.{Represents}
 use Rattle.rows.proofs.Bools.{any-eq}
 use Rattle.rows.proofs.LayoutRequests.{requests-back}

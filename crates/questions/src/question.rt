@@ -34,13 +34,14 @@ pub fn on_loan(t: &[u32], e: u32) -> bool
     let count = requests_in(t);
     let mut found = false;
     for j in 0..count {
+        // not any: it stops early, and looks at one request at a time
         found = lists_item(t, j, e) | found;
     }
     found
 }
 
 // What a question asks of the row in slot i itself:
-// for a request q whether it bears q, for 0 whether it is lent itself.
+// for a request q whether it bears q, for 0 whether it is lent itself: a number, not an enum, as Reaches has it.
 fn touched(t: &[u32], i: usize, q: u32) -> bool
     requires { IsTables t.now × (i < ROWS) }
     ensures { Touched t.now i q result }

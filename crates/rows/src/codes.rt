@@ -3,6 +3,8 @@ ghost use Rattle.std.specs.Prelude.{◌≡◌, ◌≤◌};
 ghost use Rattle.rows.specs.Codes.{is_end, is_copied, in_clist, is_node, is_clist};
 ghost use Rattle.rows.specs.vocabulary.Sizes.{PROCESSES};
 
+// Kinds and places are numbers, not enums: the lent words may hold any number, and soundness has to see one that is none.
+
 pub const AN_OPERATION: u32 = 1;
 
 pub const A_SUBDIRECTORY: u32 = 2;
@@ -34,6 +36,8 @@ pub const GREATEST_DEPTH: u32 = 12;
 pub const LAST_NUMBER: u32 = 4294967294;
 
 pub const LAST_NEXT: u32 = LAST_NUMBER + 1;
+
+// `&` and `|` in these tests, not a range's `contains` or matches!: loops over many rows ask them, without a branch.
 
 // ---- kinds
 // Whether a kind is that of an end of a port.
@@ -70,7 +74,7 @@ pub fn is_clist(place: u32) -> bool
     (FIRST_CLIST <= place) & (place <= LAST_CLIST)
 }
 
-// The place of a process's c-list; 0 for what is no process.
+// The place of a process's c-list; 0 for what is no process, since 0 is no place and the words have it for none.
 // Ruled out: the process's own number; the c-list of the next one.
 #[tactic(auto, unfolding(crate::specs::Codes::in_clist))]
 pub fn clist(p: u32) -> u32

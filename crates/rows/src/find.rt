@@ -38,6 +38,7 @@ pub fn search_back(column: &[u32], count: usize, n: u32) -> Option<usize>
 }
 
 // ---- how many slots are in use
+// Of rows and of requests there is one function each, a line long: each names the column that it counts.
 // How many elements stand before the first x among whole eights, of which none has it: each eight is looked at at once.
 fn skip_eights<T: PartialEq>(xs: &[T], x: &T) -> usize
     ensures within { result ≤ length xs.now }
@@ -158,6 +159,7 @@ fn last_up_to(column: &[u32], n: u32) -> usize
 {
     let mut at = 0;
     let mut width = column.len();
+    // a while: partition_point takes twice the instructions, 138 for 65 at 1,024 rows
     while 1 < width {
         let half = width / 2;
         at = step(column, n, at, half);

@@ -1,4 +1,6 @@
-// Where the columns of the lent runs of words start, and how long the runs are: specs/Layout.antt.
+// Where the columns of the lent runs of words start, and how long the runs are: specs/Layout.antt. The runs are slices, as C
+// lends them: public functions take them so, with the clause IsTables or IsRecords for the length, and no narrower type.
+// Columns, not an array of records: the C interface lays the words out so.
 
 // (rule W11) the version of this layout; the words do not hold it
 pub const LAYOUT_VERSION: u32 = 1;
@@ -31,7 +33,7 @@ pub const OPERATION: usize = 3 * ROWS;
 pub const RIGHTS: usize = 4 * ROWS;
 
 pub const PLACE: usize = 5 * ROWS;
-// the slots of the two sources, plus 1; 0 for none
+// the slots of the two sources, plus 1; 0 for none, in words that may hold any number
 pub const SOURCE: usize = 6 * ROWS;
 
 pub const VIA: usize = 7 * ROWS;

@@ -2,6 +2,9 @@
 
 #![tactic(auto)]
 
+// The fields are the words of the lent runs, which may hold any number: so no enum for kinds and places, and 0, not an
+// Option, for none.
+
 // A row is one privilege. Codes and their tests: specs/Codes.antt. A field that a kind does not use is 0.
 #[derive(Clone, Copy)]
 pub struct Row {

@@ -47,6 +47,7 @@ pub fn load(p: &[u32]) -> Records
         through: 0,
     };
     let mut ps = [none; PROCESSES];
+    // not array::from_fn: its contract gives no record by its index
     for i in 0..PROCESSES {
         ps[i] = record_at(p, i);
     }
@@ -70,6 +71,7 @@ pub fn listed(p: &[u32], n: u32) -> bool
     ensures { result ≡ is_listed (records_in p.now) n }
 {
     let i = n.wrapping_sub(1);
+    // as: no From makes a usize of a u32, here and elsewhere
     let at = (i % LAST_PROCESS) as usize;
     let prime = p[RECORD_WORDS * at];
     (i < LAST_PROCESS) & (0 < prime)

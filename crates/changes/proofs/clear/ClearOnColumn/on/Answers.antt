@@ -1,18 +1,12 @@
-use Rattle.std.proofs.Common.{◌≡◌, arith}
-use Rattle.changes.specs.vocabulary.Marks.{cleared}
-use Rattle.changes.proofs.Keep.{clear-start, clear-turn}
+-- What std's `fill` says of the part, and the words around it stay.
+use Rattle.std.proofs.Common.{◌≡◌, ℕ, ◌-◌, length, take, drop, arith, length-drop, length-take-le}
+use Rattle.changes.proofs.Keep.{cleared-filled}
 use Rattle.changes.proofs.clear.ClearOnColumn.on.Goals as goal
 
-pub loop-i-init : goal.loop-i-init
-loop-i-init c = clear-start 0 _ _ (omega arith)
-
-pub loop-i-preserved : goal.loop-i-preserved
-loop-i-preserved c =
-    let l = c.loop-i in
-    clear-turn 0 c.args.column.now c.args.self.now.from (omega arith) l.column l.i l.auto.i (omega arith) l.invariant
-
 pub returns : goal.returns
-unfolding cleared
 returns c =
-    let e : c.loop-i.i ≡ c.args.self.now.to = omega arith in
-    rw e at c.loop-i.invariant
+    let r = c.args.self.now in
+    let l = c.args.column.now in
+    let w : ℕ = r.to - r.from in
+    let long : length (take w (drop r.from l)) ≡ w = length-take-le w (drop r.from l) (omega (arith, length-drop r.from l)) in
+    cleared-filled r.from r.to l c.fill.new.self c.requires.0 c.requires.1 (rw long at (c.fill.ensures.after (λ y e. e)))

@@ -11,4 +11,4 @@ loop-k-preserved c =
     let to : ℕ = c.args.self.now.to in
     let slots = c.args.self.now.slots.now in
     let ahead = c.requires.1 k c.loop-k-test.true in
-    ap (λ (t : List ℕ). set t (to + k) (get_or t (get_or slots k 0) 0)) c.loop-k.invariant ∙ gathered-turn c.args.column.now to slots k ahead.0 ahead.1
+    rw c.from.ensures (ap (λ (t : List ℕ). set t (to + k) (get_or t (get_or slots k 0) 0)) c.loop-k.invariant) ∙ gathered-turn c.args.column.now to slots k ahead.0 ahead.1
