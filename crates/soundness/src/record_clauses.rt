@@ -17,7 +17,7 @@ use rows::read::row_at;
 use rows::records::record_at;
 
 // ---- the next number
-// The last of the first k words of a column. 0 for none, no Option: `before` has it so, and it is below any next number.
+// The last of the first k words of a column. 0 for none, no Option: `before` has it so, and 0 is below any next number.
 // Ruled out: the word after it; the first word.
 pub fn last_of(column: &[u32], k: usize) -> u32
     requires { k ≤ length column.now }

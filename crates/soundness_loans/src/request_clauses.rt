@@ -1,7 +1,7 @@
 // The clauses of soundness of requests, each named as in rows/specs/Sound.antt: of one request, and the loops over all
-// requests. Slots of rows are given plus 1, 0 for none, no Option: `row_slot` and `word_at` count so, and so do sources.
-// t, n and the fact that sources are older travel together; a struct of them would be named in each clause, and made anew
-// in each public function: no plainer.
+// requests. Slots of rows are given plus 1, 0 for none, no Option: `row_slot` and `word_at` count so, and sources do.
+// t, n and the fact that sources are older travel together; a struct of them would be named in each clause, and made
+// anew in each public function: no plainer.
 ghost use Rattle.std.specs.Prelude.{◌≡◌, true, not, ◌||◌, [], ◌∷◌, suc, ◌<◌, ◌≤◌, leb, ltb};
 ghost use Rattle.rows.specs.Lists.{all, member, distinct, some, nonzero};
 ghost use Rattle.rows.specs.Tables.{is_listed};
