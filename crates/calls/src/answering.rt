@@ -59,6 +59,7 @@ fn newer_lists(t: &[u32], k: usize, q: u32, e: u32) -> bool
 }
 
 // Whether a request newer than q lists e.
+// Every request is looked at, with no way out early, so that the loop has no branch.
 fn listed_newer(t: &[u32], m: usize, q: u32, e: u32) -> bool
     requires { IsTables t.now × (m ≤ REQUESTS) }
     ensures { ListedNewer t.now m q e result }
@@ -112,6 +113,7 @@ fn answer_refusal(
     if any_busy(t, n, m, v) {
         return Err(Refusal::Busy);
     }
+    // 1 and 0, as the words have it
     if v.fetched != 1 {
         return Err(Refusal::NoRequest);
     }

@@ -13,6 +13,7 @@ use rows::find;
 use rows::layout::ROWS;
 
 // what is told of a pair: no, or yes, one more; or nothing, since comes is 7
+// Numbers, not an enum: the answer has a column of them with 0 after the last, and definitions and cases give them.
 pub const NO: u32 = 1;
 
 pub const YES: u32 = NO + 1;
@@ -53,6 +54,7 @@ fn tell_each(
     ensures told { TellsEach t.now n m marks.now es.now qs.now result }
     ensures long { Sixteens result }
 {
+    // a for: of array::from_fn a proof would have to follow the calls of a closure
     let mut told = [0u32; PAIRS];
     for k in 0..PAIRS {
         told[k] = tell(t, n, m, marks, k, es[k], qs[k]);

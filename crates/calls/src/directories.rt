@@ -3,7 +3,8 @@ ghost use Rattle.std.specs.Prelude.{◌≤◌, ◌<◌};
 ghost use Rattle.rows.specs.vocabulary.Sizes.{ROWS, LAST-NUMBER, IsTables, IsRecords};
 ghost use Rattle.calls.specs.declared.Call.{Call};
 ghost use Rattle.calls.specs.vocabulary.Performs.{Performs, HasRoom, RefusesHold, HoldsRow, RefusesRegister};
-ghost use Rattle.calls.specs.vocabulary.Performs.{RegistersRow, IsSourceOfSome, RefusesDrop, DropsHeld, refusal_in, answer_in};
+ghost use Rattle.calls.specs.vocabulary.Performs.{RegistersRow, IsSourceOfSome, RefusesDrop, DropsHeld};
+ghost use Rattle.calls.specs.vocabulary.Performs.{refusal_in, answer_in};
 ghost use Rattle.calls.specs.vocabulary.Effects.{IsProcess, GoesHome, GoesThrough, HeldBy};
 ghost use Rattle.calls.specs.vocabulary.Effects.{RegisteredBy};
 
@@ -72,6 +73,7 @@ pub fn add_held(t: &mut [u32], n: usize, i: usize, p: u32, via: u32, d: u32, nex
 }
 
 // A copy of the row in slot i, in a node, from that row's first source.
+// As add_held, but place and sources are others, and each has its definition.
 // Ruled out: it comes from the row itself; it comes from the row's second source too.
 pub fn add_registered(t: &mut [u32], n: usize, i: usize, node: u32, source: u32, d: u32, next: u32)
     requires { IsTables t.old × (n < ROWS) × (i < n) × (source ≤ n) × (next ≤ LAST-NUMBER) }
@@ -180,6 +182,7 @@ fn register_refusal(t: &[u32], n: usize, i: usize, d: u32, next: u32) -> Result<
 }
 
 // register of the row in slot i, which the caller holds, into a node.
+// As hold_row, but source, place, refusals and effect are others: nothing but `?` is the same.
 fn register_row(t: &mut [u32], n: usize, i: usize, node: u32) -> Result<Answer, Refusal>
     requires { IsTables t.old × (n ≤ ROWS) × (i < n) }
     ensures answers { RegistersRow t.old n i node t.new (answer_in result) }

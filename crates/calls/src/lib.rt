@@ -27,8 +27,9 @@ pub struct Sixteen {
     pub fourth: Four,
 }
 
-// A call: the caller's number, then the call's; comes, chain and comesall have no caller. Of an answer: whether the
-// request was served. Of an ask: its items, those named first, then no items. Of a comesall: the rows of its pairs, 0 after the last, and their requests.
+// A call: the caller's number, then the call's; comes, chain and comesall have no caller.
+// Of an ask: its items, those named first, then no items. Of an answer: whether the request was served.
+// Of a comesall: the rows of its pairs, 0 after the last, and their requests.
 #[derive(Clone, Copy)]
 pub enum Call {
     Go(u32, u32),
@@ -106,8 +107,11 @@ pub enum Answer {
 }
 
 // ---- functions
+// The words that functions are lent are slices with `IsTables`: an array's type would ask more of the callers of public
+// functions, as `perform`.
+
 // What a new copy has of its own; kind, object and operation are its row's.
-// Sources as words: a slot plus 1, 0 for none.
+// Sources as words, as they stand in the lent words: a slot plus 1, 0 for none.
 #[derive(Clone, Copy)]
 pub struct NewCopy {
     pub number: u32,
@@ -148,6 +152,7 @@ pub struct NewRequest {
 }
 
 // A loan as its items are lent one after the other: how many rows stand, the next number, the list and its length.
+// An array with a length: no heap here.
 #[derive(Clone, Copy)]
 pub struct Loan {
     pub rows: usize,

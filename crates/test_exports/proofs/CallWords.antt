@@ -1,4 +1,5 @@
 -- The call of its words: the calls that have no caller, and a caller that fits is in range.
+use mathlib.Core.List.{List}
 use Prim.Native.Nat.{ℕ, ◌≤◌}
 use mathlib.Core.Bool.{Bool, true, false, cond, ◌||◌}
 use mathlib.Core.Path.{◌≡◌, refl, subst}

@@ -1,5 +1,5 @@
 -- What the exported call says: the call of its words, the words of its answer, and both runs after it.
-use Rattle.std.specs.Prelude.{ℕ, suc, ◌+◌, Bool, true, ◌||◌, List, ◌∷◌, ◌++◌, ◌≡◌, leb, eqb, get_or, replicate, if◌then◌else◌}
+use Rattle.std.specs.Prelude.{ℕ, suc, ◌+◌, Bool, true, ◌||◌, List, [], ◌∷◌, ◌++◌, ◌≡◌, leb, eqb, get_or, replicate, if◌then◌else◌}
 use Rattle.rows.specs.Lists.{between}
 use Rattle.rows.specs.Tables.{State}
 use Rattle.rows.specs.Sound.{sound}
