@@ -10,6 +10,8 @@ pub struct Item {
 }
 
 // Four numbers, 0 for none.
+// Structs, not arrays: of an array's type the logic knows no length, and `answer-read` is of every answer: its text says
+// sixteen values at most.
 #[derive(Clone, Copy)]
 pub struct Four {
     pub first: u32,

@@ -74,6 +74,7 @@ fn put_listed(o: &mut [u8; REPLY], at: usize, n: u32) -> usize
 }
 
 // Those of four values that are listed, in their order: of a request's items those that it still has.
+// Four by four, here and below, as the answers have them (`Four` of calls says why they are no arrays).
 fn put_items(o: &mut [u8; REPLY], at: usize, a: u32, b: u32, c: u32, d: u32) -> usize
     requires { at + 4 * VALUE ≤ REPLY }
     ensures put { Puts o.old at (numbers_text (a ∷ b ∷ c ∷ d ∷ [])) o.new result }
