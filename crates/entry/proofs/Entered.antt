@@ -22,7 +22,7 @@ use Rattle.calls.specs.declared.Answer.{Answer}
 use Rattle.calls.specs.declared.Answer.TheVariants.{Refused}
 use Rattle.calls.specs.Answers.{refusal_of}
 use Rattle.text.specs.declared.Reply.{Reply}
-use Rattle.text.specs.declared.Refused.{Refused}
+use Rattle.text.specs.declared.Refused.{Refused as RefusedAt}
 use Rattle.std.specs.Prelude.{Result, Ok, Err}
 use Rattle.text.specs.Answers.{printed}
 use Rattle.text.specs.CallLines.{reading_of}
@@ -158,7 +158,7 @@ unfolding opening_of
 opening-numbered ls = second-numbered (first_pass [] 1 ls) (first-stopped ls [] 1)
 
 -- the text of a verdict
-verdict_text : Result Unit Refused → List ℕ
+verdict_text : Result Unit RefusedAt → List ℕ
 verdict_text (Ok u) = opening_text 0 0
 verdict_text (Err r) = opening_text r.number r.line
 
@@ -185,13 +185,13 @@ pub replies-lengths : (t p text u v : List ℕ) (r : Reply) → Cleared t p u v 
 unfolding open_entry opening_text
 replies-lengths t p text u v r z e is = rw e (is, z.0, z.1)
 
-replies-opening : (t p text t' p' u v : List ℕ) (x : Result Unit Refused) (r : Reply) → Cleared t p t' p' → IsTables t' → IsRecords p'
+replies-opening : (t p text t' p' u v : List ℕ) (x : Result Unit RefusedAt) (r : Reply) → Cleared t p t' p' → IsTables t' → IsRecords p'
     → x ≡ verdict_of (opening_of (lines_of text)) → OpeningWritten text u v → r ≡ in_reply (verdict_text x)
     → Replies (open_entry t p text) r u v
 unfolding open_entry
 replies-opening t p text t' p' u v x r z a b verdict w is =
     rw (lengths-right t p t' p' z a b)
-    (replied-by (opening_of (lines_of text)) u v r w (is ∙ ap (λ (y : Result Unit Refused). in_reply (verdict_text y)) verdict) (opening-numbered (lines_of text)))
+    (replied-by (opening_of (lines_of text)) u v r w (is ∙ ap (λ (y : Result Unit RefusedAt). in_reply (verdict_text y)) verdict) (opening-numbered (lines_of text)))
 
 -- it was accepted; it was refused
 pub replies-accepted : (t p text t' p' u v : List ℕ) (r : Reply) → Cleared t p t' p' → IsTables t' → IsRecords p'
@@ -199,7 +199,7 @@ pub replies-accepted : (t p text t' p' u v : List ℕ) (r : Reply) → Cleared t
 unfolding verdict_text
 replies-accepted t p text t' p' u v r z a b verdict w is = replies-opening t p text t' p' u v (Ok tt) r z a b verdict w is
 
-pub replies-refused : (t p text t' p' u v : List ℕ) (e : Refused) (r : Reply) → Cleared t p t' p' → IsTables t' → IsRecords p'
+pub replies-refused : (t p text t' p' u v : List ℕ) (e : RefusedAt) (r : Reply) → Cleared t p t' p' → IsTables t' → IsRecords p'
     → Err e ≡ verdict_of (opening_of (lines_of text)) → OpeningWritten text u v → r ≡ in_reply (opening_text e.number e.line) → Replies (open_entry t p text) r u v
 unfolding verdict_text
 replies-refused t p text t' p' u v e r z a b verdict w is = replies-opening t p text t' p' u v (Err e) r z a b verdict w is

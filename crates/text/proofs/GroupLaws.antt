@@ -6,6 +6,8 @@ use mathlib.Core.Bool.{Bool, ◌&&◌, true, false, ◌||◌, not}
 use mathlib.Core.List.{List, ◌++◌, ◌∷◌, [], map, map-append, append-nil}
 use mathlib.Core.Path.{◌≡◌, refl, sym, ap, ◌∙◌}
 use lib.Dec.{eqb}
+use Rattle.std.specs.Prelude.{nat_eq}
+use Rattle.std.specs.List.{list_any}
 use lib.ListN.{length, take, get_or, drop, drop_of_length-le, set, length-map, length-append}
 use lib.Seq.{drop-cons, append_snoc}
 use borrow.Author.Tests.{ne_eqb, eq-eqb}
@@ -226,3 +228,9 @@ module _ (n : ℕ) (s : List ℕ) (at : ℕ) where
         let c = count_same in
         let q : n - length k.read.groups ≡ 0 = omega arith in
         k.held ∙ (rw (k.whole, q, append-nil))
+
+-- whether a number is one of a list's, by the library's test
+pub any-member : (n : ℕ) (l : List ℕ) → list_any (λ y. nat_eq y n) l ≡ member n l
+unfolding member
+any-member n [] = refl
+any-member n (m ∷ ms) = rw (eqb-sym m n, any-member n ms) refl

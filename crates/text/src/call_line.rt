@@ -141,12 +141,7 @@ fn comes_form(line: &[u8]) -> Reading
 pub fn is_named(ns: &[u32], n: u32) -> bool
     ensures { result ≡ member n ns.now }
 {
-    for i in 0..ns.len() {
-        if n == ns[i] {
-            return true;
-        }
-    }
-    false
+    ns.contains(&n)
 }
 
 // What is seen with one more group: every one is looked at for 3 and 4, also past the fourth or the 16th.
@@ -192,13 +187,11 @@ fn gather(line: &[u8], at: usize) -> Groups
         pairs: true,
         apart: true,
     };
-    while s.count < GROUPS {
-        let i = s.next;
-        let f = read_form(line, i, b" (# #)");
+    for n in 0..GROUPS {
+        let f = read_form(line, s.next, b" (# #)");
         if !f.good {
             return groups_of(s, firsts, seconds);
         }
-        let n = s.count;
         let named = is_named(&firsts[0..n], f.b);
         firsts[n] = f.b;
         seconds[n] = f.c;

@@ -48,14 +48,12 @@ pub fn line_end(text: &[u8], at: usize) -> usize
     ensures ends { result ≡ at + first_line (drop at text.now) }
     ensures within { result ≤ length text.now }
 {
-    let mut i = skip_in_line(text, at);
-    while i < text.len() {
+    for i in skip_in_line(text, at)..text.len() {
         if text[i] == b'\n' {
             return i + 1;
         }
-        i += 1;
     }
-    i
+    text.len()
 }
 
 // ---- entries

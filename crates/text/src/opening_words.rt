@@ -26,9 +26,7 @@ use rows::layout::RECORD_WORDS;
 pub fn clear(run: &mut [u32])
     ensures { run.new ≡ replicate (length run.old) 0 }
 {
-    for i in 0..run.len() {
-        run[i] = 0;
-    }
+    run.fill(0);
 }
 
 // Tables with nothing in them and next number 1. Ruled out: a row is left; next number 0.

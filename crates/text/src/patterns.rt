@@ -225,8 +225,8 @@ pub fn read_form(s: &[u8], at: usize, t: &[u8]) -> Read
         b: 0,
         c: 0,
     };
-    for k in 0..t.len() {
-        r = read_piece(s, r, t[k]);
+    for &p in t {
+        r = read_piece(s, r, p);
         if !r.good {
             return r;
         }

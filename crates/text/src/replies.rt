@@ -233,8 +233,6 @@ pub fn hand_out(r: Reply, out: &mut [u8]) -> usize
 {
     let n = r.length;
     let bytes = r.bytes;
-    for i in 0..n {
-        out[i] = bytes[i];
-    }
+    out[..n].copy_from_slice(&bytes[..n]);
     n
 }

@@ -1,11 +1,8 @@
 -- `call_line::gather` meets its contract: the groups read, then those left.
-use Prim.Native.Nat.{◌-◌}
+use mathlib.Core.Path.{◌≡◌}
 use Rattle.text.specs.vocabulary.Groups.{groups_of}
 use Rattle.text.proofs.GroupLaws.{Gathering}
 use Rattle.text.proofs.call_line.gather.Given as goal
 
-abbrev pub invariant-loop-s : goal.invariant-loop-s
-invariant-loop-s l = Gathering 64 l.line l.at (groups_of l.s l.firsts l.seconds)
-
-abbrev pub decreases-loop-s : goal.decreases-loop-s
-decreases-loop-s l = 64 - l.s.count
+abbrev pub invariant-loop-n : goal.invariant-loop-n
+invariant-loop-n l = (l.s.count ≡ l.n) × Gathering 64 l.line l.at (groups_of l.s l.firsts l.seconds)
