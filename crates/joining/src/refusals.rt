@@ -45,14 +45,12 @@ fn nodes_listed(first: &[u32], second: &[u32], words: &[u32]) -> bool
     requires { IsHeld first.now × IsHeld second.now × IsHeld words.now }
     ensures { ListsNodes first.now second.now words.now result }
 {
-    let mut n = 1;
-    while n <= LAST_NODE {
+    for n in 1..=LAST_NODE {
         let at = NODE_WORDS * (n as usize) + CODES_AT;
         let end = codes_end(words, n);
         if !are_listed(first, second, &words[at..end]) {
             return false;
         }
-        n += 1;
     }
     true
 }
@@ -62,14 +60,12 @@ fn primes_listed(first: &[u32], second: &[u32], words: &[u32]) -> bool
     requires { IsHeld first.now × IsHeld second.now × IsHeld words.now }
     ensures { ListsPrimes first.now second.now words.now result }
 {
-    let mut p = 1;
-    while p <= LAST_PROCESS {
+    for p in 1..=LAST_PROCESS {
         let n = prime_of(words, p);
         let given = has_node(first, n) | has_node(second, n);
         if (0 < n) & !given {
             return false;
         }
-        p += 1;
     }
     true
 }
@@ -87,13 +83,11 @@ fn is_crowded(first: &[u32], second: &[u32]) -> bool
     requires { IsHeld first.now × IsHeld second.now }
     ensures { OfBoth first.now second.now (λ fs gs. result ≡ node_crowded fs gs) }
 {
-    let mut n = 1;
-    while n <= LAST_NODE {
+    for n in 1..=LAST_NODE {
         let c = merge_node(first, second, n);
         if MOST_ENTRIES < c.count {
             return true;
         }
-        n += 1;
     }
     false
 }
@@ -103,14 +97,12 @@ fn primes_differ(first: &[u32], second: &[u32]) -> bool
     requires { IsHeld first.now × IsHeld second.now }
     ensures { OfBoth first.now second.now (λ fs gs. result ≡ primes_differ fs gs) }
 {
-    let mut p = 1;
-    while p <= LAST_PROCESS {
+    for p in 1..=LAST_PROCESS {
         let a = prime_of(first, p);
         let b = prime_of(second, p);
         if (0 < a) & ((0 < b) & (a != b)) {
             return true;
         }
-        p += 1;
     }
     false
 }
