@@ -139,6 +139,7 @@ pub fn feed(
     let mut kept = n;
     let mut i = 0;
     let mut going = is_going(here);
+    // a while: it stops where reading is over, and i is answered
     while going && i < part.len() {
         let b = part[i];
         kept = keep_byte(line, kept, b);

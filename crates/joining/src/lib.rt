@@ -17,6 +17,7 @@ pub enum Stage {
     Over,
 }
 
+// A refusal is kept as a number: Holds, of the contracts, has any.
 // How far reading has come: the stage, the refusal of a text that is refused, the number of the line begun (of a refused
 // text, of the line refused), and what the forms of the text begun have given.
 #[derive(Clone, Copy)]
@@ -52,6 +53,7 @@ pub struct Fed {
     pub next: usize,
 }
 
+// An array with its length, since the crates have no heap.
 // The codes of a joined node's entries: the first `count`; 0 after them.
 #[derive(Clone, Copy)]
 pub struct Codes {

@@ -157,6 +157,7 @@ pub fn write_slots(first: &[u32], second: &[u32], from: usize, out: &mut [u8]) -
 {
     let mut k = from;
     let mut n = 0;
+    // a while: it stops where `out` has no room, and k is answered
     while k < SLOTS && REPLY <= out.len() - n {
         let line = slot_line(first, second, k);
         n += hand_out(line, &mut out[n..]);

@@ -15,6 +15,7 @@ fn copy_codes(codes: &[u32]) -> Codes
     ensures { result ≡ in_codes codes.now }
 {
     let mut copied = [0u32; CODES];
+    // one by one, as the 0s after the codes are proved
     for i in 0..codes.len() {
         copied[i] = codes[i];
     }

@@ -2,6 +2,7 @@
 
 #![tactic(auto)]
 
+use call_line::GROUPS;
 use calls::Call;
 
 // What a run of digits or of letters is worth, and the place after it.
@@ -11,6 +12,7 @@ pub struct Run {
     pub next: usize,
 }
 
+// A flag beside the values, no Option: the definitions under the session's theorem (specs/Patterns.antt) have this record.
 // What a pattern read up to the place `next`: the last word and the last three numbers, c the last.
 #[derive(Clone, Copy)]
 pub struct Read {
@@ -29,6 +31,7 @@ pub struct Reader<'a> {
     pub at: usize,
 }
 
+// A refusal is a number, as in calls::Answer: reading_of and answered, of the theorem of the entry point call, have it.
 // What a call line is: a call; an ask with too many items, of a caller; or refused by its text alone.
 #[derive(Clone, Copy)]
 pub enum Reading {
@@ -37,6 +40,7 @@ pub enum Reading {
     Refused(u32),
 }
 
+// The kind is a number, as in the row that an entry becomes.
 // An entry of a node form: an operation's manager, or a subdirectory's node, is the object.
 #[derive(Clone, Copy)]
 pub struct Entry {
@@ -46,6 +50,7 @@ pub struct Entry {
     pub rights: u32,
 }
 
+// No Option and no enum: the reader goes on from `next` after a head that is none, and judges when all is read.
 // The head of a line that has groups, and the position after it: of an ask its caller and its client end; of a comesall
 // it has no numbers.
 #[derive(Clone, Copy)]
@@ -68,6 +73,7 @@ pub struct Seen {
     pub apart: bool,
 }
 
+// Flat, no field of the type Seen: what judges groups looks at one fact of them at a time.
 // The groups as they are read: what is seen of them, their first and their second numbers.
 #[derive(Clone, Copy)]
 pub struct Groups {
@@ -76,11 +82,11 @@ pub struct Groups {
     pub items: bool,
     pub pairs: bool,
     pub apart: bool,
-    pub firsts: [u32; 64],
-    pub seconds: [u32; 64],
+    pub firsts: [u32; GROUPS],
+    pub seconds: [u32; GROUPS],
 }
 
-// An answer's text: the first `length` bytes; 0 after them.
+// An answer's text: the first `length` bytes; 0 after them. An array with its length, since the crates have no heap.
 pub const REPLY: usize = 256;
 
 #[derive(Clone, Copy)]

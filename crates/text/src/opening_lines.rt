@@ -31,6 +31,7 @@ fn skip_in_line(text: &[u8], at: usize) -> usize
     ensures ends { line_end text.now result ≡ line_end text.now at }
 {
     let mut i = at;
+    // a while: i goes on by eight bytes
     while 8 <= text.len() - i {
         let goes_on = eight_in_line(text, i);
         if !goes_on {
@@ -96,7 +97,7 @@ fn entry_ranged(e: Entry) -> bool
     good & is_node(e.object)
 }
 
-// The entries from a position on.
+// The entries from a position on. A record with `ranged`: a fact of all entries, with no value that depends on it.
 fn entries_at(line: &[u8], at: usize) -> EntriesRead
     ensures { result ≡ entries_read (entries_from GROUPS line.now at) }
 {

@@ -7,7 +7,7 @@ ghost use Rattle.text.specs.vocabulary.Sizes.{GREATEST-READ, LONG-WORD};
 use crate::{Read, Run};
 use rows::codes::LAST_NEXT;
 
-// the greatest number that is read: it stands for all above it
+// the greatest number that is read: it stands for all above it (as, since a constant calls no From)
 const GREATEST_READ: u64 = LAST_NEXT as u64;
 
 // stands for all words of more than 8 letters
@@ -32,20 +32,15 @@ fn is_letter(b: u8) -> bool
     }
 }
 
-// A byte as a number of 64 bits.
-fn wide(b: u8) -> u64
-    ensures { result ≡ b }
-{
-    b as u64
-}
-
+// ---- runs of digits, runs of letters
+// Twice, not once over a trait: a range is matched in the reader and a step is a sum, a line or two of each.
 // What v is worth with one more digit. The bound stands in the step, so a number of any length never wraps.
 fn grow(v: u64, b: u8) -> u64
     requires { (v ≤ GREATEST-READ) × (48 ≤ b) }
     ensures worth { result ≡ grown v b }
     ensures most { result ≤ GREATEST-READ }
 {
-    let n = v * 10 + (wide(b) - 48);
+    let n = v * 10 + (u64::from(b) - 48);
     if n <= GREATEST_READ {
         return n;
     }
@@ -58,7 +53,7 @@ fn spell(v: u64, b: u8) -> u64
     ensures worth { result ≡ spelt v b }
     ensures most { result ≤ LONG-WORD }
 {
-    let n = v * 32 + (wide(b) - 96);
+    let n = v * 32 + (u64::from(b) - 96);
     if n < LONG_WORD {
         return n;
     }
@@ -72,6 +67,7 @@ fn digits_at(s: &[u8], at: usize) -> Run
 {
     let mut v = 0;
     let mut i = at;
+    // a while: i is the place after the run, also where the run begins past the end
     while i < s.len() {
         let b = s[i];
         if !is_digit(b) {
@@ -89,6 +85,7 @@ fn letters_at(s: &[u8], at: usize) -> Run
 {
     let mut v = 0;
     let mut i = at;
+    // a while: i is the place after the run, also where the run begins past the end
     while i < s.len() {
         let b = s[i];
         if !is_letter(b) {

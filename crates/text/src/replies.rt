@@ -25,6 +25,7 @@ pub fn put_text(o: &mut [u8; REPLY], at: usize, t: &[u8]) -> usize
     ensures put { Puts o.old at t.now o.new result }
     ensures grown { result ≡ at + length t.now }
 {
+    // byte by byte, as Puts is proved: a reply after each byte
     for k in 0..t.len() {
         o[at + k] = t[k];
     }
@@ -50,6 +51,7 @@ pub fn put_value(o: &mut [u8; REPLY], at: usize, n: u64) -> usize
     let mut value = [0u8; VALUE];
     let mut left = n;
     let mut i = DIGITS;
+    // a while: it ends where the digits do, and i is the place of the first
     while (10 <= left) & (1 < i) {
         value[i] = last_digit(left);
         left = left / 10;
@@ -214,6 +216,7 @@ fn put_opening(o: &mut [u8; REPLY], k: u32, line: usize) -> usize
     put_text(o, lined, b")\n")
 }
 
+// A number, 0 for none: opening_text, which the contract names, has it, and 1 is of no text.
 // The answer of an opening: `(ok 0)`, or `(no k line)` for the refusal k.
 // Ruled out: a refusal without its line; `(ok 0)` for a refused opening.
 pub fn print_opening(k: u32, line: usize) -> Reply

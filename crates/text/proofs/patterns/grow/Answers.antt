@@ -12,7 +12,7 @@ unfolding grown grown_to greatest_number
 returns-then-n-le-GREATEST_READ c =
     let a = c.args in
     let e : a.v * 10 + (a.b - 48) ≤ GREATEST-READ = omega arith in
-    record { worth = rw (le-leb _ _ e, c.wide.ensures); most = omega arith }
+    record { worth = rw (le-leb _ _ e, c.from.ensures); most = omega arith }
 
 pub returns : goal.returns
 unfolding grown grown_to greatest_number

@@ -10,7 +10,7 @@ unfolding spelt
 returns-then-n-lt-LONG_WORD c =
     let a = c.args in
     let e : a.v * 32 + (a.b - 96) < 1099511627776 = omega arith in
-    record { worth = rw (lt-ltb _ _ e, c.wide.ensures); most = omega arith }
+    record { worth = rw (lt-ltb _ _ e, c.from.ensures); most = omega arith }
 
 pub returns : goal.returns
 unfolding spelt
