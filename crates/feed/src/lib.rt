@@ -10,7 +10,7 @@ pub enum Stage {
     Over,
 }
 
-// What the buffer of the bytes kept has: in front, so many bytes of an opening that is not decided; then, so many of
+// No heap, so one buffer and two lengths. What the buffer of the bytes kept has: in front, so many bytes of an opening that is not decided; then, so many of
 // the line begun.
 #[derive(Clone, Copy)]
 pub struct Kept {
@@ -19,7 +19,8 @@ pub struct Kept {
     pub line: usize,
 }
 
-// What is kept after bytes or a line, and how many bytes were printed.
+// What is kept after bytes or a line, and how many bytes were printed: a number and no slice of the output, since the
+// contracts name the bytes after them too.
 #[derive(Clone, Copy)]
 pub struct Moved {
     pub kept: Kept,

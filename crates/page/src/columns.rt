@@ -21,6 +21,7 @@ fn byte_or_space(text: &[u8], i: usize) -> u8
 pub fn put_left(columns: &mut [u8], text: &[u8])
     ensures { columns.new ≡ left_in (length columns.old) text.now }
 {
+    // by index: the text may be shorter than the columns, or longer
     for i in 0..columns.len() {
         columns[i] = byte_or_space(text, i);
     }

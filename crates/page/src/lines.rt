@@ -140,6 +140,7 @@ pub fn write_lines(t: &[u32], from: usize, out: &mut [u8]) -> usize
 {
     let rows = rows_in(t);
     let mut n = 0;
+    // by position, not by chunks of LINE: the bytes written are counted, and those after them stay
     for i in from..rows {
         if out.len() - n < LINE {
             break;

@@ -11,11 +11,17 @@ pub enum Error {
     NotWritten,
 }
 
+// Ruled out: the message of the other.
 impl fmt::Display for Error {
+    ghost use Rattle.std.specs.Prelude.{Some};
+    ghost use Rattle.stdio.specs.Messages.{message};
+
+    ghost output = { λ e. Some (message e) };
+
     fn fmt<W: fmt::Write>(&self, f: &mut fmt::Formatter<W>) -> fmt::Result {
         match self {
-            Error::NotRead => write!(f, "the input cannot be read"),
-            Error::NotWritten => write!(f, "the output cannot be written"),
+            Error::NotRead => f.write_str("the input cannot be read"),
+            Error::NotWritten => f.write_str("the output cannot be written"),
         }
     }
 }

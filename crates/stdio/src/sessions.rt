@@ -14,7 +14,7 @@ use std::io::{Read, Write};
 // Both runs, the buffer, what is kept in it and the output are parameters, not a struct that borrows them: its clauses
 // would say besides that each of its fields is still the reference that it was.
 // ---- writing
-// Writes n bytes to the output.
+// Writes n bytes to the output: a number beside the bytes, as `finish` and `write_lines` give it.
 // Ruled out: a byte that is left out, if the output says what it holds.
 pub fn write_out<W: Write>(writer: &mut W, out: &[u8], n: usize) -> Result<(), Error>
     requires { n ≤ length out.now }
