@@ -12,6 +12,7 @@ ghost use Rattle.rows.specs.vocabulary.Sizes.{ROWS, REQUESTS, IsTables};
 use crate::layout::{KIND, NUMBER, Q_ASKER, Q_NUMBER, Q_PORT};
 
 // ---- searches of a column
+// Both take the column as it is lent and the count of what is in use beside it, as their callers above have them.
 // The position of n among the first words of a column, which rise: by halves.
 // Ruled out: a position at or past the count; nothing where n is there.
 pub fn search(column: &[u32], count: usize, n: u32) -> Option<usize>
