@@ -9,7 +9,7 @@ ghost use Rattle.entry.specs.vocabulary.Entries.{TellsUnlisted, AnswersOn};
 ghost use Rattle.entry.specs.vocabulary.Entries.{AnswersCrowded, ReadInRange, Replies};
 
 use calls::perform::perform;
-use calls::{Answer, Call};
+use calls::{Answer, Call, Refusal};
 use rows::records;
 use soundness::sound;
 use text::call_line::read_call;
@@ -55,7 +55,7 @@ fn answer_call(t: &mut [u32], p: &mut [u32], c: Call) -> Answer
         p.new result }
 {
     if is_unlisted(p, c) {
-        return Answer::Refused(5);
+        return Refusal::NotListed.into();
     }
     perform(t, p, c)
 }
@@ -66,9 +66,9 @@ fn crowded(p: &[u32], caller: u32) -> Answer
     ensures { AnswersCrowded p.now caller result }
 {
     if records::listed(p, caller) {
-        return Answer::Refused(6);
+        return Refusal::TooMany.into();
     }
-    Answer::Refused(5)
+    Refusal::NotListed.into()
 }
 
 // What a line that was read is answered, on sound tables.
@@ -92,7 +92,7 @@ pub fn call(tables: &mut [u32], processes: &mut [u32], line: &[u8]) -> Reply
         tables.new processes.new }
 {
     if !sound::sound(tables, processes) {
-        return print(Answer::Refused(1));
+        return print(Refusal::Unsound.into());
     }
     let reading = read_call(line);
     let answered = answer(tables, processes, reading);

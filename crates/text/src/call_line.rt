@@ -1,6 +1,8 @@
 // A call line of any bytes: the call that it asks for, or the refusal of its text (specs/CallLines.antt).
 ghost use Rattle.std.specs.Prelude.{◌≡◌, map, ◌<◌};
 ghost use Rattle.rows.specs.Lists.{member};
+ghost use Rattle.calls.specs.Answers.{refusal_number};
+ghost use Rattle.text.specs.declared.Reading.TheVariants.{Refused};
 ghost use Rattle.text.specs.CallLines.{is_process, is_number, ranged, simple, simple_form, chain_form};
 ghost use Rattle.text.specs.CallLines.{Gathered, gathered, item_of, packed, judged, comes_all, judged_pairs};
 ghost use Rattle.text.specs.CallLines.{reading_of};
@@ -11,7 +13,7 @@ ghost use Rattle.text.specs.vocabulary.Groups.{head_of, JudgesGroups, groups_for
 use crate::patterns::{ends_at, is_whole, read_form};
 use crate::{Groups, Head, Read, Reader, Reading, Seen};
 use calls::numbers::sixteen_from;
-use calls::{Call, Item};
+use calls::{Call, Item, Refusal};
 use rows::codes::{ALL_RIGHTS, LAST_NUMBER, LAST_PROCESS};
 
 const MOST_ITEMS: usize = 4;
@@ -41,6 +43,16 @@ const FETCH: u64 = 6475880;
 
 const REVOKE: u64 = 609959269;
 
+// ---- refusals
+// A line that its text alone refuses. Ruled out: the number of another refusal.
+impl From<Refusal> for Reading {
+    ghost from_gives = { λ r x. x ≡ Refused (refusal_number r) };
+
+    fn from(r: Refusal) -> Reading {
+        Reading::Refused(u32::from(r))
+    }
+}
+
 // ---- ranges
 // Whether a number is a process's. Ruled out: yes for 0; yes for 65.
 pub fn is_process(p: u32) -> bool
@@ -62,7 +74,7 @@ fn if_ranged(in_range: bool, c: Call) -> Reading
     if in_range {
         Reading::Asks(c)
     } else {
-        Reading::Refused(3)
+        Refusal::OutOfRange.into()
     }
 }
 
@@ -76,7 +88,7 @@ fn chain_form(line: &[u8]) -> Reading
         let good = is_number(f.c);
         return if_ranged(good, Call::Chain(f.c));
     }
-    Reading::Refused(2)
+    Refusal::BadForm.into()
 }
 
 // ---- answer
@@ -108,7 +120,7 @@ fn simple_call(w: u64, p: u32, e: u32) -> Reading
         CLOSE => if_ranged(good, Call::Close(p, e)),
         FETCH => if_ranged(good, Call::Fetch(p, e)),
         REVOKE => if_ranged(good, Call::Revoke(p, e)),
-        _ => Reading::Refused(2),
+        _ => Refusal::BadForm.into(),
     }
 }
 
@@ -232,10 +244,10 @@ fn judge(p: u32, c: u32, g: Groups) -> Reading
 {
     let good = is_process(p) & (is_number(c) & g.items);
     if !good {
-        return Reading::Refused(3);
+        return Refusal::OutOfRange.into();
     }
     if !g.apart {
-        return Reading::Refused(4);
+        return Refusal::GivenTwice.into();
     }
     if MOST_ITEMS < g.count {
         return Reading::Crowded(p);
@@ -257,13 +269,13 @@ fn judge_pairs(g: Groups) -> Reading
     ensures { (x : Gathered) → g ≡ groups_from x → result ≡ judged_pairs x.groups }
 {
     if g.count == 0 {
-        return Reading::Refused(2);
+        return Refusal::BadForm.into();
     }
     if !g.pairs {
-        return Reading::Refused(3);
+        return Refusal::OutOfRange.into();
     }
     if MOST_PAIRS < g.count {
-        return Reading::Refused(6);
+        return Refusal::TooMany.into();
     }
     Reading::Asks(first_sixteen(g))
 }
@@ -339,7 +351,7 @@ pub fn read_call(line: &[u8]) -> Reading
     ensures { result ≡ reading_of line.now }
 {
     if LONGEST_LINE < line.len() {
-        return Reading::Refused(2);
+        return Refusal::BadForm.into();
     }
     groups_form(line)
 }

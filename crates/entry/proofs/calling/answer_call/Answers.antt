@@ -9,7 +9,7 @@ pub returns-then-is_unlisted : goal.returns-then-is_unlisted
 unfolding refused
 returns-then-is_unlisted c = λ st sd rep same.
     let e = sym (c.is_unlisted.ensures st same) ∙ c.if-is_unlisted.true in
-    rw (unlisted-refused st _ e) (refused-stays _ _ st 5 c.requires.1 rep same, refl)
+    rw (unlisted-refused st _ e) (refused-stays _ _ st 5 c.requires.1 rep same, c.into.ensures)
 
 pub returns : goal.returns
 returns c = λ st sd rep same.

@@ -6,7 +6,7 @@ use Rattle.entry.proofs.calling.call.Goals as goal
 
 pub returns-then-not-sound : goal.returns-then-not-sound
 returns-then-not-sound c =
-    replies-one _ _ _ _ (sym c.sound.ensures ∙ c.if-not-sound.true) c.print.ensures
+    replies-one _ _ _ _ (sym c.sound.ensures ∙ c.if-not-sound.true) (rw c.into.ensures at c.print.ensures)
 
 pub answer-answered-requires : goal.answer-answered-requires
 answer-answered-requires c =

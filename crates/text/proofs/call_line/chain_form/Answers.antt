@@ -14,4 +14,4 @@ returns-then-is_whole c =
 
 pub returns : goal.returns
 unfolding chain_form form bytes
-returns c = rw (sym c.read_form-f.ensures, sym c.is_whole.ensures ∙ c.if-is_whole.false)
+returns c = c.into.ensures ∙ rw (sym c.read_form-f.ensures, sym c.is_whole.ensures ∙ c.if-is_whole.false)

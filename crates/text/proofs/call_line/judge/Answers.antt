@@ -1,6 +1,6 @@
 -- `call_line::judge` meets its contract: the refusals in the order of the definition.
 use native.Mathlib.Omega.{arith}
-use mathlib.Core.Path.{ap, sym}
+use mathlib.Core.Path.{ap, sym, ◌∙◌}
 use lib.ListN.{length-map}
 use borrow.Author.Tests.{lt-ltb, le-ltb}
 use Rattle.rows.specs.Limits.{most_items}
@@ -17,7 +17,7 @@ unfolding judged groups_from most_items
 returns-then-not-good c =
     λ x e.
     let good = ap (λ (y : Groups). y.items) e in
-    rw (items-ranged x.groups, ← good, sym c.is_process.ensures, sym c.is_number.ensures, (ap not c.if-not-good.true))
+    c.into.ensures ∙ rw (items-ranged x.groups, ← good, sym c.is_process.ensures, sym c.is_number.ensures, (ap not c.if-not-good.true))
 
 pub returns-then-not-g : goal.returns-then-not-g
 unfolding judged groups_from most_items
@@ -25,7 +25,7 @@ returns-then-not-g c =
     λ x e.
     let good = ap (λ (y : Groups). y.items) e in
     let distinct-rows = ap (λ (y : Groups). y.apart) e in
-    rw (items-ranged x.groups, ← good, items-rows x.groups, ← distinct-rows, sym c.is_process.ensures, sym c.is_number.ensures, (ap not c.if-not-good.false), c.if-not-g.true)
+    c.into.ensures ∙ rw (items-ranged x.groups, ← good, items-rows x.groups, ← distinct-rows, sym c.is_process.ensures, sym c.is_number.ensures, (ap not c.if-not-good.false), c.if-not-g.true)
 
 pub returns-then-g-gt-MOST_ITEMS : goal.returns-then-g-gt-MOST_ITEMS
 unfolding judged groups_from most_items

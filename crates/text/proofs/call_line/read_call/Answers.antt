@@ -9,7 +9,7 @@ use Rattle.text.proofs.call_line.read_call.Goals as goal
 
 pub returns-then-line-gt-LONGEST_LINE : goal.returns-then-line-gt-LONGEST_LINE
 unfolding reading_of most_bytes
-returns-then-line-gt-LONGEST_LINE c = rw (lt-ltb 256 (length c.args.line.now) (omega arith))
+returns-then-line-gt-LONGEST_LINE c = c.into.ensures ∙ rw (lt-ltb 256 (length c.args.line.now) (omega arith))
 
 pub returns : goal.returns
 unfolding reading_of most_bytes

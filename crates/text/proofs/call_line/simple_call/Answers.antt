@@ -60,4 +60,4 @@ returns-in_default c =
     let port = ne_eqb w 540244 r3.1 in
     let close = ne_eqb w 3554917 r.0.0.1 in
     let fetch = ne_eqb w 6475880 r.0.1 in
-    rw (go, hold, register, drops, port, close, fetch, ne_eqb w 609959269 r.1)
+    c.into.ensures ∙ rw (go, hold, register, drops, port, close, fetch, ne_eqb w 609959269 r.1)
