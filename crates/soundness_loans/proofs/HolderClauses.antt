@@ -1,5 +1,5 @@
 -- The listing of rows by requests: codes at slots, and what listing one request changes.
-use Prim.Native.Nat.{ℕ, zero, suc, ◌<◌, ◌≤◌, zero-le}
+use Prim.Native.Nat.{ℕ, zero, suc, ◌<◌, ◌≤◌}
 use mathlib.Core.Bool.{Bool, true, false, cond, ◌&&◌, ◌||◌}
 use mathlib.Core.List.{List, [], ◌∷◌, map}
 use mathlib.Core.Path.{◌≡◌, refl, ap, sym, ◌∙◌}
@@ -88,13 +88,6 @@ unfolding any
 any-more f k [] h = absurd (omega arith)
 any-more f zero (s ∷ ss) h = or-false (f s)
 any-more f (suc k) (s ∷ ss) h = ap (λ (x : Bool). f s || x) (any-more f k ss (omega arith)) ∙ or-both (f s) (any f (take k ss)) (f (get_or ss k 0))
-
-pub within-four : {a b c d n : ℕ} → a ≤ n → b ≤ n → c ≤ n → d ≤ n → (k : ℕ) → get_or (a ∷ b ∷ c ∷ d ∷ []) k 0 ≤ n
-within-four p q r s zero = p
-within-four p q r s (suc zero) = q
-within-four p q r s (suc (suc zero)) = r
-within-four p q r s (suc (suc (suc zero))) = s
-within-four p q r s (suc (suc (suc (suc k)))) = zero-le
 
 -- ---- after all slots of a list, each in the listing's range
 abbrev pub Small : List ℕ → Type 0

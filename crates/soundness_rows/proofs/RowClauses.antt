@@ -1,6 +1,5 @@
 -- Laws of the clauses of one row, where its slot's words and its sources are at hand.
-use Rattle.std.proofs.Common.{◌≡◌, ℕ, suc, ◌+◌, ◌%◌, ◌^◌, ◌<◌, ◌≤◌, max, Bool, true, false, cond, not, ◌&&◌, ◌||◌, eqb, ltb, leb, List, sym, refl, ap, ◌∙◌, ⊎_elim, arith, ltb-true, lt-ltb, eq-eqb, ne_eqb, eqb-true, le-leb, leb-true}
-use native.Mathlib.Nat.{max-eq_left, max-eq_right}
+use Rattle.std.proofs.Common.{◌≡◌, ℕ, suc, ◌+◌, ◌%◌, ◌^◌, ◌<◌, ◌≤◌, Bool, true, false, cond, not, ◌&&◌, ◌||◌, eqb, ltb, leb, List, refl, ap, ◌∙◌, ⊎_elim, arith, ltb-true, lt-ltb, eq-eqb, ne_eqb, eqb-true, le-leb, leb-true}
 use borrow.Author.Tests.{eqb-false}
 use Rattle.rows.specs.declared.Row.{Row}
 use Rattle.rows.specs.declared.Process.{Process}
@@ -131,10 +130,3 @@ copy-split rs y same h = ap (λ (b : Bool). eqb y.source 0 || b) (pick (is_end y
         rw (e, h e)
         (inner (eqb y.kind (source_of rs y).kind) (eqb y.object (source_of rs y).object) (eqb y.operation (source_of rs y).operation)
         (within y.rights (source_of rs y).rights))
-
--- the greater of two, by a test
-pub greater-second : (a b top : ℕ) → a < b → top ≡ b → top ≡ max a b
-greater-second a b top h e = e ∙ sym (max-eq_right (omega arith))
-
-pub greater-first : (a b top : ℕ) → b ≤ a → top ≡ a → top ≡ max a b
-greater-first a b top h e = e ∙ sym (max-eq_left h)

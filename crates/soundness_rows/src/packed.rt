@@ -1,7 +1,7 @@
 // What the clauses of a row ask of its sources, packed into one word a row: a loop over rows then reads one word of a
 // source where it would read six, and the compiler tests several rows at once. Of a row whose fields are in range the
 // word tells rights, kind, operation, object (of an end it tells none), whether its place is a node, and depth.
-// Numbers in one word, no struct: of a struct of six fields the compiler reads each, and no several rows at a time.
+// Numbers in one word, no struct: of six fields the compiler would read each, and not test several rows at once.
 ghost use Rattle.std.specs.Prelude.{◌≡◌, ◌≤◌, if◌then◌else◌};
 ghost use Rattle.rows.specs.Codes.{is_node};
 ghost use Rattle.soundness_rows.specs.vocabulary.Packed.{packed, Unpacks, SameObject};
