@@ -110,7 +110,7 @@ module _ {after : List ℕ} (st : State) (p e : ℕ) (r : List Process) where
 
 -- ---- fetch, comes, chain and comesall
 pub fetched-request : {after : List ℕ} (st : State) (p e : ℕ) (v : Request) → v ≡ asked_of st e → Represents after (handed_over p (asked_of st e) st)
-    → Answers after (Fetched v.number (get_or v.items 0 0) (get_or v.items 1 0) (get_or v.items 2 0) (get_or v.items 3 0)) (effect st (Fetch p e))
+    → Answers after (Fetched v.number v.items) (effect st (Fetch p e))
 unfolding effect fetched_answer
 fetched-request st p e v same rep = record { answer = ap fetched_answer same; words = rep }
 

@@ -1,5 +1,5 @@
 -- The numbers and values of an answer, for every one of its cases.
-use Rattle.std.specs.Prelude.{ℕ, List, [], ◌∷◌, ◌++◌, map, eqb, if◌then◌else◌}
+use Rattle.std.specs.Prelude.{ℕ, List, [], ◌∷◌, ◌++◌, map, get_or, eqb, if◌then◌else◌}
 use Rattle.rows.specs.Lists.{nonzero}
 use Rattle.calls.specs.declared.Four.{Four}
 use Rattle.calls.specs.declared.Sixteen.{Sixteen}
@@ -12,7 +12,7 @@ use Rattle.calls.specs.declared.Answer.TheVariants.{Done, Made, Fetched, Told, C
 unfoldable pub refusal_of : Answer → ℕ
 refusal_of Done = 0
 refusal_of (Made n) = 0
-refusal_of (Fetched v a b c d) = 0
+refusal_of (Fetched v is) = 0
 refusal_of (Told t) = 0
 refusal_of (Chained a b c) = 0
 refusal_of (ToldAll s) = 0
@@ -39,6 +39,10 @@ refusal_number RowsFull = 16
 refusal_number RequestsFull = 17
 refusal_number NumbersSpent = 18
 refusal_number PrimesDiffer = 20
+
+-- the four items that an answer holds, 0 for one that is not listed
+unfoldable pub four_of : List ℕ → List ℕ
+four_of is = get_or is 0 0 ∷ get_or is 1 0 ∷ get_or is 2 0 ∷ get_or is 3 0 ∷ []
 
 unfoldable pub numbers_of : Four → List ℕ
 numbers_of a = a.first ∷ a.second ∷ a.third ∷ a.fourth ∷ []
@@ -69,7 +73,7 @@ told_value c = if eqb c told_no then num 0 else if eqb c told_yes then num 1 els
 unfoldable pub values_of : Answer → List Value
 values_of Done = num 0 ∷ []
 values_of (Made n) = num n ∷ []
-values_of (Fetched v a b c d) = map num (v ∷ nonzero (a ∷ b ∷ c ∷ d ∷ []))
+values_of (Fetched v is) = map num (v ∷ nonzero (four_of is))
 values_of (Told t) = num (if t then 1 else 0) ∷ []
 values_of (Chained a b c) = map num (nonzero (numbers_of a ++ (numbers_of b ++ numbers_of c)))
 values_of (ToldAll s) = map told_value (nonzero (all_of s))

@@ -289,7 +289,7 @@ unfoldable pub made : ℕ → State → Out
 made n st = record { answer = Made n; after = st }
 
 unfoldable pub fetched_answer : Request → Answer
-fetched_answer v = let is = v.items in Fetched v.number (get_or is 0 0) (get_or is 1 0) (get_or is 2 0) (get_or is 3 0)
+fetched_answer v = Fetched v.number v.items
 
 unfoldable pub four_from : List ℕ → ℕ → Four
 four_from ns i = record { first = get_or ns i 0; second = get_or ns (i + 1) 0; third = get_or ns (i + 2) 0; fourth = get_or ns (i + 3) 0 }

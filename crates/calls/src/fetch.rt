@@ -61,9 +61,8 @@ fn fetch_request(t: &mut [u32], n: usize, j: usize, p: u32) -> Result<Answer, Re
     if v.fetched == 1 {
         return Err(Refusal::NoRequest);
     }
-    let items = v.items;
     hand_over(t, n, j, p);
-    Ok(Answer::Fetched(v.number, items[0], items[1], items[2], items[3]))
+    Ok(Answer::Fetched(v.number, v.items))
 }
 
 // fetch at the end in slot i, which p holds: 8 for one that is no server end, 11 with no request.

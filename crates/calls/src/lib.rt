@@ -99,7 +99,7 @@ pub enum Answer {
     Done,
     Made(u32),
     // the request, and its four items, 0 for one that is not listed
-    Fetched(u32, u32, u32, u32, u32),
+    Fetched(u32, [u32; 4]),
     Told(bool),
     // the rows of a chain, twelve at most, 0 after the last
     Chained(Four, Four, Four),

@@ -60,9 +60,9 @@ made-spoken : (st : State) (n : ℕ) (a : State) → n ≤ greatest_number → S
 unfolding made refusal_of values_of first_value
 made-spoken st n a h = accepted-spoken st _ refl (omega arith) h
 
-fetched-spoken : (st : State) (v a b c d : ℕ) (after : State) → v ≤ greatest_number → Spoken st (record { answer = Fetched v a b c d; after = after })
+fetched-spoken : (st : State) (v : ℕ) (is : List ℕ) (after : State) → v ≤ greatest_number → Spoken st (record { answer = Fetched v is; after = after })
 unfolding refusal_of values_of first_value
-fetched-spoken st v a b c d after h = accepted-spoken st _ refl (omega arith) h
+fetched-spoken st v is after h = accepted-spoken st _ refl (omega arith) h
 
 told-spoken : (st : State) (t : Bool) (after : State) → Spoken st (record { answer = Told t; after = after })
 unfolding refusal_of values_of first_value greatest_number
@@ -117,7 +117,7 @@ effect-spoken st s (Drop p e) a = done-spoken st _
 effect-spoken st s (Port p e) a = next-spoken st 2 _ (omega arith) (numbers-room st 2 a.numbers-free)
 effect-spoken st s (Close p c) a = done-spoken st _
 effect-spoken st s (Ask p c is) a = next-spoken st (suc (length (copies st (items_of is)))) _ (omega arith) a.numbers-room
-effect-spoken st s (Fetch p e) a = fetched-spoken st (asked_of st e).number _ _ _ _ _ (asked-ranged st s e)
+effect-spoken st s (Fetch p e) a = fetched-spoken st (asked_of st e).number _ _ (asked-ranged st s e)
 effect-spoken st s (Call.Answer p e served) a = done-spoken st _
 effect-spoken st s (Revoke p q) a = done-spoken st _
 effect-spoken st s (Comes e q) a = told-spoken st _ _

@@ -196,7 +196,7 @@ module _ (st st' : State) (s : Sound st) (s' : Sound st') (p : ℕ) (same : view
           number-so = ap (λ x. x.number) q
 
           answer : fetched_answer v ≡ fetched_answer v'
-          answer = unfold fetched_answer in (ap₂ (λ n is. Fetched n (get_or is 0 0) (get_or is 1 0) (get_or is 2 0) (get_or is 3 0)) number-so items)
+          answer = unfold fetched_answer in (ap₂ Fetched number-so items)
 
   answer-alike : (e : ℕ) (served : Bool) → Alikes (Call.Answer p e served)
   unfolding refusals refusals_answer effect all seen_request seen_end is_away

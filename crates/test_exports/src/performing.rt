@@ -115,7 +115,9 @@ fn words_of(a: Answer) -> [u32; ANSWER_WORDS]
     match a {
         Answer::Done => [0, 0, 0, 0, 0, 0, 0, 0, 0, 0, 0, 0, 0, 0, 0, 0, 0],
         Answer::Made(n) => [1, n, 0, 0, 0, 0, 0, 0, 0, 0, 0, 0, 0, 0, 0, 0, 0],
-        Answer::Fetched(v, e, f, g, h) => [2, v, e, f, g, h, 0, 0, 0, 0, 0, 0, 0, 0, 0, 0, 0],
+        Answer::Fetched(v, is) => [
+            2, v, is[0], is[1], is[2], is[3], 0, 0, 0, 0, 0, 0, 0, 0, 0, 0, 0,
+        ],
         Answer::Told(b) => {
             if b {
                 [3, 1, 0, 0, 0, 0, 0, 0, 0, 0, 0, 0, 0, 0, 0, 0, 0]

@@ -13,7 +13,7 @@ use Rattle.rows.proofs.Bools.{and_l, and_r, clash}
 use Rattle.changes.proofs.Removed.{length-filter}
 use Rattle.calls.specs.declared.Answer.{Answer}
 use Rattle.calls.specs.declared.Answer.TheVariants.{Done, Made, Fetched, Told, Chained, ToldAll, Refused}
-use Rattle.calls.specs.Answers.{Value, num, dash, refusal_of, numbers_of, all_of, told_value, values_of}
+use Rattle.calls.specs.Answers.{Value, num, dash, refusal_of, four_of, numbers_of, all_of, told_value, values_of}
 use Rattle.text.specs.declared.Read.{Read}
 use Rattle.text.specs.Patterns.{is_digit, bad, began, pieces, form, whole}
 use Rattle.text.specs.Answers.{digits_of, value_text, spaced, ok_text, no_text, printed}
@@ -118,10 +118,10 @@ listed-few : (value : ℕ → Value) (ns : List ℕ) → length (map value (filt
 listed-few value ns = omega (arith, length-map (filter some ns) value, length-filter some ns)
 
 pub few-values : (a : Answer) → length (values_of a) ≤ most_pairs
-unfolding values_of numbers_of all_of most_pairs nonzero
+unfolding values_of four_of numbers_of all_of most_pairs nonzero
 few-values Done = omega arith
 few-values (Made n) = omega arith
-few-values (Fetched v a b c d) = let h = listed-few num (a ∷ b ∷ c ∷ d ∷ []) in omega arith
+few-values (Fetched v is) = let h = listed-few num (four_of is) in omega arith
 few-values (Told t) = omega arith
 few-values (Chained a b c) = let h = listed-few num (numbers_of a ++ (numbers_of b ++ numbers_of c)) in omega arith
 few-values (ToldAll s) = listed-few told_value (all_of s)
@@ -131,7 +131,7 @@ values-none : (a : Answer) → eqb (refusal_of a) 0 ≡ false → values_of a �
 unfolding refusal_of values_of
 values-none Done e = clash refl e
 values-none (Made n) e = clash refl e
-values-none (Fetched v a b c d) e = clash refl e
+values-none (Fetched v is) e = clash refl e
 values-none (Told t) e = clash refl e
 values-none (Chained a b c) e = clash refl e
 values-none (ToldAll s) e = clash refl e

@@ -2,7 +2,7 @@
 // each where the one before it ends; a function that puts a text gives the place after it.
 ghost use Rattle.std.specs.Prelude.{◌≡◌, [], ◌∷◌, map, ◌+◌, ◌*◌, ◌≤◌, ◌%◌, length};
 ghost use Rattle.rows.specs.Lists.{nonzero};
-ghost use Rattle.calls.specs.declared.Answer.TheVariants.{Chained, ToldAll, Refused};
+ghost use Rattle.calls.specs.declared.Answer.TheVariants.{Fetched, Chained, ToldAll, Refused};
 ghost use Rattle.calls.specs.Answers.{num, numbers_of, all_of};
 ghost use Rattle.text.specs.Answers.{spaced, ok_text, printed};
 ghost use Rattle.text.specs.vocabulary.Sizes.{REPLY, VALUE, TOLD};
@@ -99,12 +99,12 @@ fn put_accepted(o: &mut [u8; REPLY], n: u64) -> usize
 }
 
 // `(ok v ..)`: a request and its items.
-fn put_fetched(o: &mut [u8; REPLY], v: u32, a: u32, b: u32, c: u32, d: u32) -> usize
-    ensures { Puts o.old 0 (ok_text (map num (v ∷ nonzero (a ∷ b ∷ c ∷ d ∷ [])))) o.new result }
+fn put_fetched(o: &mut [u8; REPLY], v: u32, items: [u32; 4]) -> usize
+    ensures { Puts o.old 0 (printed (Fetched v items)) o.new result }
 {
     let begun = put_text(o, 0, b"(ok");
     let numbered = put_value(o, begun, v as u64);
-    let listed = put_items(o, numbered, a, b, c, d);
+    let listed = put_items(o, numbered, items[0], items[1], items[2], items[3]);
     put_text(o, listed, b")\n")
 }
 
@@ -185,7 +185,7 @@ fn put_answer(o: &mut [u8; REPLY], a: Answer) -> usize
     match a {
         Answer::Done => put_accepted(o, 0),
         Answer::Made(n) => put_accepted(o, n as u64),
-        Answer::Fetched(v, a, b, c, d) => put_fetched(o, v, a, b, c, d),
+        Answer::Fetched(v, items) => put_fetched(o, v, items),
         Answer::Told(t) => put_accepted(o, t as u64),
         Answer::Chained(a, b, c) => put_chained(o, a, b, c),
         Answer::ToldAll(s) => put_told_all(o, s),

@@ -12,7 +12,7 @@ use Rattle.calls.specs.declared.Answer.{Answer}
 use Rattle.calls.specs.declared.Answer.TheVariants.{Done, Made, Fetched, Told, Chained, ToldAll, Refused}
 use Rattle.calls.specs.declared.Call.{Call}
 use Rattle.calls.specs.declared.Call.TheVariants.{Go, Hold, Register, Drop, Port, Close, Ask, Fetch, Revoke, Comes, Chain, ComesAll}
-use Rattle.calls.specs.Answers.{numbers_of, all_of}
+use Rattle.calls.specs.Answers.{four_of, numbers_of, all_of}
 use Rattle.calls.specs.Calls.{four_from, perform}
 use Rattle.calls.specs.vocabulary.Performs.{RunsAfter, CallerListed}
 use Rattle.test_exports.specs.vocabulary.Exports.{Unless}
@@ -66,7 +66,7 @@ call_fits w = leb 10 (get_or w 0 0) || between 1 PROCESSES (get_or w 1 0)
 unfoldable pub words_of_answer : Answer → List ℕ
 words_of_answer Done = replicate 17 0
 words_of_answer (Made n) = 1 ∷ n ∷ replicate 15 0
-words_of_answer (Fetched v a b c d) = 2 ∷ v ∷ a ∷ b ∷ c ∷ d ∷ replicate 11 0
+words_of_answer (Fetched v is) = 2 ∷ v ∷ four_of is ++ replicate 11 0
 words_of_answer (Told b) = 3 ∷ (if b then 1 else 0) ∷ replicate 15 0
 words_of_answer (Refused k) = 4 ∷ k ∷ replicate 15 0
 words_of_answer (Chained a b c) = 5 ∷ numbers_of a ++ (numbers_of b ++ (numbers_of c ++ replicate 4 0))

@@ -1,7 +1,7 @@
 -- `performing::words_of` meets its contract: an arm an answer.
 use mathlib.Core.Path.{ap, sym, ◌∙◌}
 use Rattle.calls.specs.declared.Answer.TheVariants.{Told}
-use Rattle.calls.specs.Answers.{numbers_of}
+use Rattle.calls.specs.Answers.{four_of, numbers_of}
 use Rattle.test_exports.specs.vocabulary.Calls.{words_of_answer}
 use Rattle.test_exports.proofs.performing.words_of.Goals as goal
 
@@ -14,7 +14,7 @@ unfolding words_of_answer
 returns-in-Made c = sym (ap words_of_answer c.in-Made.is)
 
 pub returns-in-Fetched : goal.returns-in-Fetched
-unfolding words_of_answer
+unfolding words_of_answer four_of
 returns-in-Fetched c = sym (ap words_of_answer c.in-Fetched.is)
 
 pub returns-then-b : goal.returns-then-b

@@ -16,7 +16,6 @@ unfolding printed refusal_of values_of
 returns-in-Made c = rw c.in-Made.is c.put_accepted-in-Made.ensures
 
 pub returns-in-Fetched : goal.returns-in-Fetched
-unfolding printed refusal_of values_of
 returns-in-Fetched c = rw c.in-Fetched.is c.put_fetched.ensures
 
 pub returns-in-Told : goal.returns-in-Told
