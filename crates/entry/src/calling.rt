@@ -17,7 +17,7 @@ use text::replies::print;
 use text::{Reading, Reply};
 
 // ---- the caller
-// The caller of a call; 0 for comes, chain and comesall, which have none.
+// The caller of a call; 0 for comes, chain and comesall, which have none: a number, as caller_of of the definitions.
 fn caller_of(c: Call) -> u32
     ensures { result ≡ caller_of c }
 {

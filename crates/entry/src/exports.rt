@@ -10,6 +10,7 @@ use rows::layout::TABLES;
 use text::REPLY;
 use text::replies::hand_out;
 
+// Lengths are numbers, 0 where there is no room: what C takes.
 // An opening text. With fewer than 256 bytes lent for the reply nothing is touched, and the length is 0.
 // Ruled out: a reply one byte short; a word changed where the reply has no room.
 pub fn tablet_open(
