@@ -39,8 +39,8 @@ fn scattered(marks: &SlotBits, first: usize, kept: usize, count: usize) -> bool
     slots <= count_runs(marks, first, count) * RUN
 }
 
-// part, size and columns stay three parameters, here and below: a struct of them would be lent anew, field by field, in each
-// call, and its clauses would name the same three.
+// part, size and columns stay three parameters, here and below: a struct of them would be lent anew, field by field, in
+// each call, and its clauses would name the same three.
 
 // Compacts columns of one size that stand one after the other. Nothing is marked before the first slot given, and so
 // many of the first count are kept.

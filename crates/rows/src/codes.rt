@@ -3,7 +3,8 @@ ghost use Rattle.std.specs.Prelude.{◌≡◌, ◌≤◌};
 ghost use Rattle.rows.specs.Codes.{is_end, is_copied, in_clist, is_node, is_clist};
 ghost use Rattle.rows.specs.vocabulary.Sizes.{PROCESSES};
 
-// Kinds and places are numbers, not enums: the lent words may hold any number, and soundness has to see one that is none.
+// Kinds and places are numbers, not enums: the lent words may hold any number, and soundness has to see one that is
+// none.
 
 pub const AN_OPERATION: u32 = 1;
 

@@ -1,5 +1,6 @@
-// Where the columns of the lent runs of words start, and how long the runs are: specs/Layout.antt. The runs are slices, as C
-// lends them: public functions take them so, with the clause IsTables or IsRecords for the length, and no narrower type.
+// Where the columns of the lent runs of words start, and how long the runs are: specs/Layout.antt. The runs are slices,
+// as C lends them: public functions take them so, with the clause IsTables or IsRecords for the length, and no narrower
+// type.
 // Columns, not an array of records: the C interface lays the words out so.
 
 // (rule W11) the version of this layout; the words do not hold it
