@@ -10,7 +10,7 @@ pub struct Item {
 }
 
 // Four numbers, 0 for none.
-// Structs, not arrays: of an array's type the logic knows no length, and `answer-read` is of every answer: its text says
+// Structs, not arrays: of an array's type the logic knows no length, and by `answer-read` the text of every answer says
 // sixteen values at most.
 #[derive(Clone, Copy)]
 pub struct Four {

@@ -1,8 +1,8 @@
 // Look-ups that the calls share.
-// Rows and requests are counted once a call, n rows, m requests, and the counts handed on: counting again would be slower,
-// and a struct that borrows the words could not lend them on to a function that changes them.
-// Kinds, places and sources are numbers, as the lent words have them, which may hold any. A source word is a slot plus 1,
-// 0 for none: so it stands in the words, and so the definitions read it.
+// Rows and requests are counted once a call, n rows, m requests, and the counts handed on: counting again would be
+// slower, and a struct that borrows the words could not lend them on to a function that changes them.
+// Kinds, places and sources are numbers, as the lent words have them, which may hold any. A source word is a slot plus
+// 1, 0 for none: so it stands in the words, and so the definitions read it.
 ghost use Rattle.std.specs.Prelude.{◌≤◌, ◌<◌};
 ghost use Rattle.rows.specs.vocabulary.Slots.{Within};
 ghost use Rattle.rows.specs.vocabulary.Sizes.{ROWS, REQUESTS, IsTables};
