@@ -1,6 +1,6 @@
 use Prim.Native.Nat.{◌-◌, ◌<◌}
 use native.Mathlib.Omega.{arith}
-use mathlib.Core.Path.{◌≡◌, refl, ap, sym, ◌∙◌}
+use mathlib.Core.Path.{◌≡◌, refl, ap, ◌∙◌}
 use borrow.Author.Tests.{not-true, not-false}
 use Rattle.rows.specs.Lists.{bytes, pad, all, distinct}
 use Rattle.text.specs.vocabulary.Groups.{groups_from, seen_with}

@@ -1,7 +1,6 @@
 -- `patterns::read_form` meets its contract: what is left of the pattern decides the whole.
-use Prim.Native.Nat.{◌-◌}
 use mathlib.Core.Path.{◌≡◌}
-use lib.ListN.{length, drop}
+use lib.ListN.{drop}
 use Rattle.text.specs.Patterns.{pieces, began}
 use Rattle.text.proofs.patterns.read_form.Given as goal
 
