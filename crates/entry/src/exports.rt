@@ -30,6 +30,7 @@ pub fn tablet_open(
     hand_out(r, reply)
 }
 
+// As tablet_open, with another entry point: each is an exported name.
 // A call line. With fewer than 256 bytes lent for the reply nothing is touched, and the length is 0.
 // Ruled out: the reply of another call; bytes after the reply that change.
 pub fn tablet_call(

@@ -12,7 +12,7 @@ pub struct Run {
     pub next: usize,
 }
 
-// A flag beside the values, no Option: the definitions under the session's theorem (specs/Patterns.antt) have this record.
+// A flag beside the values, no Option: definitions of the session's theorem (specs/Patterns.antt) have this record.
 // What a pattern read up to the place `next`: the last word and the last three numbers, c the last.
 #[derive(Clone, Copy)]
 pub struct Read {

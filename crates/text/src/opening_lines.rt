@@ -159,6 +159,7 @@ fn node_if_ended(line: &[u8], f: Read, es: EntriesRead, ended: bool) -> LineRead
     process_form(line)
 }
 
+// The reader goes on step by step here and in groups_form: what it reads in each step differs.
 // `(node n ENTRY ..)`, else another form: head, entries and end, one after the other.
 fn node_form(line: &[u8]) -> LineRead
     ensures { result ≡ line_read (node_line line.now (other_line line.now)) }

@@ -37,7 +37,7 @@ pub fn is_given(run: &[bool], n: u32) -> bool
     false
 }
 
-// Nodes and processes in functions of their own, here and below: each marks another array, and is refused on other grounds.
+// Nodes and processes in functions of their own, here and below: each marks another array, for other refusals.
 // One more node is given.
 fn with_node(g: Given, n: u32) -> Given
     requires { n ≤ NODES }
