@@ -18,8 +18,8 @@ pub enum Stage {
 }
 
 // A refusal is kept as a number: Holds, of the contracts, has any.
-// How far reading has come: the stage, the refusal of a text that is refused, the number of the line begun (of a refused
-// text, of the line refused), and what the forms of the text begun have given.
+// How far reading has come: the stage, the refusal of a text that is refused, the number of the line begun (of a
+// refused text, of the line refused), and what the forms of the text begun have given.
 #[derive(Clone, Copy)]
 pub struct Joining {
     pub stage: Stage,
