@@ -8,7 +8,6 @@ pub mod Lists
 -- words in padded columns: lengths, and what stands where
 pub mod LayoutColumns
 -- searches of a column, and the slot of what they find
-pub mod Eights
 pub mod Searches
 -- each source of a sound row is 0 or an older row's number
 pub mod RowSources

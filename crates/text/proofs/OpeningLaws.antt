@@ -9,6 +9,8 @@ use lib.Dec.{eqb}
 use lib.ListN.{length, take, drop, length-drop, get_or, drop_of_length-le, length-append, replicate, length-replicate, set, length-set}
 use lib.Seq.{drop-drop, drop-cons, append_snoc, get_or-set_same, get_or-set_other}
 use borrow.Author.Tests.{eq-eqb, ne_eqb, eqb-true}
+use Rattle.std.specs.List.{position_or_len}
+use Rattle.std.proofs.lemmas.Bool.Decides.{nat_tests}
 use Rattle.rows.proofs.Bools.{clash}
 use Rattle.rows.specs.Lists.{all, any}
 use Rattle.rows.proofs.Lists.{same-everywhere}
@@ -51,14 +53,6 @@ module _ (t : List ℕ) (i : ℕ) where
       let m = length-drop i t in
       first-split (drop i t) (omega arith) ∙ (rw (drop-drop (first_line (drop i t)) i t))
 
-  pub line-feed : i < length t → get_or t i 0 ≡ 10 → first_line (drop i t) ≡ 1
-  unfolding first_line
-  line-feed h e = rw (drop-cons t i 0 h, eq-eqb (get_or t i 0) 10 e)
-
-  pub line-more : i < length t → (get_or t i 0 ≡ 10 → ⊥) → first_line (drop i t) ≡ suc (first_line (drop (i + 1) t))
-  unfolding first_line
-  line-more h e = rw (add-one, drop-cons t i 0 h, ne_eqb (get_or t i 0) 10 e)
-
   pub line-some : i < length t → 0 < first_line (drop i t)
   unfolding first_line
   line-some h = rw (drop-cons t i 0 h) (pick (eqb (get_or t i 0) 10))
@@ -67,18 +61,16 @@ module _ (t : List ℕ) (i : ℕ) where
       pick true = omega arith
       pick false = omega arith
 
-  pub line-none : length t ≤ i → first_line (drop i t) ≡ 0
-  unfolding first_line
-  line-none h = rw (drop_of_length-le t h)
+-- the bytes before the first line feed, as std counts them: with it they are the first line
+pub line-fed : (l : List ℕ) → position_or_len (λ b. eqb b 10) l < length l → first_line l ≡ suc (position_or_len (λ b. eqb b 10) l)
+unfolding first_line
+line-fed [] h = grind arith
+line-fed (b ∷ l) h = grind (arith, nat_tests, line-fed l)
 
--- past bytes that are no line feed the line ends where it ended
-pub line-past : (n : ℕ) (t : List ℕ) (i e : ℕ) → e ≡ i + n → e ≤ length t → ((k : ℕ) → i ≤ k → k < e → get_or t k 0 ≡ 10 → ⊥)
-    → i + first_line (drop i t) ≡ e + first_line (drop e t)
-line-past zero t i e q h none = let same : i ≡ e = omega arith in ap (λ (k : ℕ). k + first_line (drop k t)) same
-line-past (suc n) t i e q h none =
-    let here = line-more t i (omega arith) (none i (omega arith) (omega arith)) in
-    let on = line-past n t (i + 1) e (omega arith) h (λ k g l. none k (omega arith) l) in
-    omega arith
+pub line-unfed : (l : List ℕ) → length l ≤ position_or_len (λ b. eqb b 10) l → first_line l ≡ position_or_len (λ b. eqb b 10) l
+unfolding first_line
+line-unfed [] h = refl
+line-unfed (b ∷ l) h = grind (arith, nat_tests, line-unfed l)
 
 -- ---- entries: those read, then those left
 abbrev entries_joined : Entries → Entries → Entries

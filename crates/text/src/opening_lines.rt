@@ -1,47 +1,18 @@
 // The lines of an opening text: where they end, and what each is (specs/Opening.antt).
-ghost use Rattle.std.specs.Prelude.{◌≡◌, true, ◌+◌, ◌≤◌, length, drop};
+ghost use Rattle.std.specs.Prelude.{◌≡◌, ◌+◌, ◌≤◌, length, drop};
 ghost use Rattle.text.specs.Patterns.{form};
 ghost use Rattle.text.specs.Opening.{entries_from, entry_ranged, node_line, line_of, open_line, bad_line};
 ghost use Rattle.text.specs.vocabulary.Sizes.{GROUPS};
 ghost use Rattle.text.specs.vocabulary.Openings.{first_line, entry_read, entries_read, other_line, line_read};
-ghost use Rattle.text.specs.vocabulary.Openings.{line_end, JudgesNode};
+ghost use Rattle.text.specs.vocabulary.Openings.{JudgesNode};
 
 use crate::call_line::{GROUPS, LONGEST_LINE, is_process};
 use crate::patterns::{ends_at, is_whole, read_form};
 use crate::{EntriesRead, Entry, LineRead, Read, Reader};
 use rows::codes::{A_SUBDIRECTORY, ALL_RIGHTS, AN_OPERATION, LAST_OPERATION, is_node};
+use rows::find::before_first;
 
 // ---- lines
-// Whether none of eight bytes is a line feed: without a branch, so that the processor looks at all of them at once.
-fn eight_in_line(text: &[u8], i: usize) -> bool
-    requires { i + 8 ≤ length text.now }
-    ensures { result ≡ true → line_end text.now i ≡ line_end text.now (i + 8) }
-{
-    let low = (text[i] == b'\n')
-        | ((text[i + 1] == b'\n') | ((text[i + 2] == b'\n') | (text[i + 3] == b'\n')));
-    let high = (text[i + 4] == b'\n')
-        | ((text[i + 5] == b'\n') | ((text[i + 6] == b'\n') | (text[i + 7] == b'\n')));
-    !(low | high)
-}
-
-// Passes bytes that are no line feed, eight at a time.
-fn skip_in_line(text: &[u8], at: usize) -> usize
-    requires { at ≤ length text.now }
-    ensures within { (at ≤ result) × (result ≤ length text.now) }
-    ensures ends { line_end text.now result ≡ line_end text.now at }
-{
-    let mut i = at;
-    // a while: i goes on by eight bytes
-    while 8 <= text.len() - i {
-        let goes_on = eight_in_line(text, i);
-        if !goes_on {
-            return i;
-        }
-        i += 8;
-    }
-    i
-}
-
 // The position after the line that begins at a position, its line feed with it.
 // Ruled out: the position of the line feed; the end of the text where a line feed comes before it.
 pub fn line_end(text: &[u8], at: usize) -> usize
@@ -49,12 +20,11 @@ pub fn line_end(text: &[u8], at: usize) -> usize
     ensures ends { result ≡ at + first_line (drop at text.now) }
     ensures within { result ≤ length text.now }
 {
-    for i in skip_in_line(text, at)..text.len() {
-        if text[i] == b'\n' {
-            return i + 1;
-        }
+    let feed = at + before_first(&text[at..], &b'\n');
+    if feed < text.len() {
+        return feed + 1;
     }
-    text.len()
+    feed
 }
 
 // ---- entries

@@ -25,7 +25,7 @@ returns-then-not-g c =
     λ x e.
     let good = ap (λ (y : Groups). y.items) e in
     let distinct-rows = ap (λ (y : Groups). y.apart) e in
-    c.into.ensures ∙ rw (items-ranged x.groups, ← good, items-rows x.groups, ← distinct-rows, sym c.is_process.ensures, sym c.is_number.ensures, (ap not c.if-not-good.false), c.if-not-g.true)
+    c.into-then-not-g.ensures ∙ rw (items-ranged x.groups, ← good, items-rows x.groups, ← distinct-rows, sym c.is_process.ensures, sym c.is_number.ensures, (ap not c.if-not-good.false), c.if-not-g.true)
 
 pub returns-then-g-gt-MOST_ITEMS : goal.returns-then-g-gt-MOST_ITEMS
 unfolding judged groups_from most_items

@@ -20,7 +20,7 @@ returns-then-not-g c = λ x e.
     let counted = ap (λ (y : Groups). y.count) e in
     let paired = ap (λ (y : Groups). y.pairs) e in
     let n = c.args.g.count in
-    c.into.ensures ∙ rw (← counted, ← paired, ne_eqb n 0 c.if-g-eq0.false, c.if-not-g.true)
+    c.into-then-not-g.ensures ∙ rw (← counted, ← paired, ne_eqb n 0 c.if-g-eq0.false, c.if-not-g.true)
 
 pub returns-then-g-gt-MOST_PAIRS : goal.returns-then-g-gt-MOST_PAIRS
 unfolding judged_pairs groups_from most_pairs
@@ -28,7 +28,7 @@ returns-then-g-gt-MOST_PAIRS c = λ x e.
     let counted = ap (λ (y : Groups). y.count) e in
     let paired = ap (λ (y : Groups). y.pairs) e in
     let n = c.args.g.count in
-    c.into.ensures ∙ rw (← counted, ← paired, ne_eqb n 0 c.if-g-eq0.false, c.if-not-g.false, lt-ltb 16 n c.if-g-gt-MOST_PAIRS.true)
+    c.into-then-g-gt-MOST_PAIRS.ensures ∙ rw (← counted, ← paired, ne_eqb n 0 c.if-g-eq0.false, c.if-not-g.false, lt-ltb 16 n c.if-g-gt-MOST_PAIRS.true)
 
 pub returns : goal.returns
 unfolding judged_pairs groups_from most_pairs

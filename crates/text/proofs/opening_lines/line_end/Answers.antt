@@ -1,21 +1,30 @@
+-- `opening_lines::line_end` meets its contract: what stands before the first line feed, and the line feed if there is one.
 use native.Mathlib.Omega.{arith}
-use Rattle.text.proofs.OpeningLaws.{line-feed, line-more, line-none}
+use Prim.Native.Nat.{ℕ, ◌-◌}
+use lib.ListN.{drop, length, length-drop}
+use lib.Seq.{take_all}
+use Rattle.text.proofs.OpeningLaws.{line-fed, line-unfed}
 use Rattle.text.proofs.opening_lines.line_end.Goals as goal
 
-pub loop-i-init : goal.loop-i-init
-loop-i-init c = c.skip_in_line-i.ensures.ends
-
-pub returns-then-text-i-eq10 : goal.returns-then-text-i-eq10
-returns-then-text-i-eq10 c =
-    let feed = line-feed c.args.text.now c.loop-i.i (omega arith) c.if-text-i-eq10.true in
-    record { ends = omega arith; within = omega arith }
-
-pub loop-i-preserved : goal.loop-i-preserved
-loop-i-preserved c =
-    let more = line-more c.args.text.now c.loop-i.i (omega arith) c.if-text-i-eq10.false in
-    omega arith
+pub returns-then-feed-text : goal.returns-then-feed-text
+returns-then-feed-text c =
+    let at : ℕ = c.args.at in
+    let text = c.args.text.now in
+    let rest = drop at text in
+    let left = length-drop at text in
+    let whole = take_all (length text - at) rest (omega (arith, left)) in
+    let counted = rw whole at c.before_first.ensures.counted in
+    let fed = line-fed rest (omega (arith, counted, left, c.if-feed-text.true)) in
+    record { ends = omega (arith, counted, fed); within = omega arith }
 
 pub returns : goal.returns
 returns c =
-    let none = line-none c.args.text.now c.loop-i.i (omega arith) in
-    record { ends = omega arith; within = omega arith }
+    let at : ℕ = c.args.at in
+    let text = c.args.text.now in
+    let rest = drop at text in
+    let left = length-drop at text in
+    let whole = take_all (length text - at) rest (omega (arith, left)) in
+    let counted = rw whole at c.before_first.ensures.counted in
+    let within = rw whole at c.before_first.ensures.within in
+    let unfed = line-unfed rest (omega (arith, counted, left, c.if-feed-text.false)) in
+    record { ends = omega (arith, counted, unfed); within = omega (arith, within, left, c.requires) }
