@@ -44,10 +44,3 @@ pub any-member : (n : ℕ) (ns : List ℕ) → any (λ m. eqb m n) ns ≡ member
 unfolding any member
 any-member n [] = refl
 any-member n (m ∷ ms) = rw (any-member n ms, eqb-sym m n) refl
-
-pub four-tests : (a b c d : Bool) → a || b || c || d ≡ a || (b || (c || (d || false)))
-four-tests true b c d = refl
-four-tests false true c d = refl
-four-tests false false true d = refl
-four-tests false false false true = refl
-four-tests false false false false = refl

@@ -17,7 +17,7 @@ use Rattle.rows.specs.Sound.{is_fetched}
 use Rattle.rows.specs.Layout.{row_slot, request_at, requests_to}
 use Rattle.rows.specs.vocabulary.Represents.{Represents}
 use Rattle.rows.specs.vocabulary.Slots.{found_slot, open_slot}
-use Rattle.rows.proofs.Bools.{and-rf, or-false, any-eq, not-zero, zero-none}
+use Rattle.rows.proofs.Bools.{and-rf, or-false, any-eq}
 use Rattle.rows.proofs.Lists.{filter-filter}
 use Rattle.rows.proofs.Slots.{found_at, found_nothing, row-absent, represented-requests, open-absent}
 use Rattle.questions.proofs.Listed.{requests-read}
@@ -62,15 +62,6 @@ module _ (st : State) (e : ℕ) where
       pick : (b : Bool) → is_end (row_of st.rows e).kind ≡ b → r ≡ cond b (found_slot (row_slot st.rows e)) None → (row_slot st.rows e ≡ suc i) × (some e && b ≡ true)
       pick true q f = let at = found_at (row_slot st.rows e) i f a in (at, rw (row-some rep e i at).1 refl)
       pick false q f = let z : ◌≡◌ {A = ℕ} 0 1 = cc in absurd (omega arith)
-
-  -- the port of the end has no open request, or one
-  pub not-busy : eqb (asked_of st e).number 0 ≡ true → has_open st (row_of st.rows e).object ≡ false
-  unfolding asked_of has_open
-  not-busy h = zero-none (asked_of st e).number h
-
-  pub is-busy : eqb (asked_of st e).number 0 ≡ false → has_open st (row_of st.rows e).object ≡ true
-  unfolding asked_of has_open
-  is-busy h = not-zero (asked_of st e).number h
 
   -- it is not with the caller; it is, and newer requests decide
   module _ (p : ℕ) (v : Request) where

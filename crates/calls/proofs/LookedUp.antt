@@ -1,5 +1,5 @@
 -- What the look-ups find: the slot of a row that is in a place, source words, depths.
-use Prim.Native.Nat.{ℕ, zero, suc, ◌+◌, ◌-◌, ◌≤◌, max}
+use Prim.Native.Nat.{ℕ, zero, suc, ◌+◌, ◌-◌, ◌≤◌}
 use mathlib.Core.Bool.{Bool, true, false, cond, ◌&&◌}
 use mathlib.Core.List.{List, []}
 use mathlib.Core.Path.{◌≡◌, refl, ap, sym, ◌∙◌}
@@ -11,7 +11,7 @@ use Rattle.std.specs.Prelude.{Option}
 use Rattle.std.specs.Prelude.{Some, None}
 use Rattle.rows.specs.Lists.{some}
 use Rattle.rows.specs.Codes.{subdirectory, is_subdirectory}
-use Rattle.rows.specs.Tables.{State, no_row, row_of, depth_over, reaches, lent_itself, is_lent}
+use Rattle.rows.specs.Tables.{State, no_row, row_of, reaches, lent_itself, is_lent}
 use Rattle.rows.specs.Sound.{sound}
 use Rattle.rows.specs.Layout.{row_slot}
 use Rattle.rows.specs.vocabulary.Represents.{Represents}
@@ -68,21 +68,6 @@ depth-most st sd e = pick (row_slot st.rows e) refl
     pick : (s : ℕ) → row_slot st.rows e ≡ s → (row_of st.rows e).depth ≤ 12
     pick zero h = let z = depth-absent [] st e h in omega arith
     pick (suc i) h = (depth_falls st (sound-open st sd).numbers (sound-open st sd).rows e (row-found st.rows e i h).0).2
-
--- one more than the greater of two depths
-pub over_first : (st : State) (a b : ℕ) {x y : ℕ} → x ≡ (row_of st.rows a).depth → y ≡ (row_of st.rows b).depth → y ≤ x → x + 1 ≡ depth_over st.rows a b
-unfolding depth_over
-over_first st a b {x} {y} p q h = omega arith
-
-pub over-second : (st : State) (a b : ℕ) {x y : ℕ} → x ≡ (row_of st.rows a).depth → y ≡ (row_of st.rows b).depth → x ≤ y → y + 1 ≡ depth_over st.rows a b
-unfolding depth_over
-over-second st a b {x} {y} p q h = omega arith
-
--- a depth of 12 under it gives 13
-pub over-deepest : (st : State) (a b : ℕ) → NotTooDeep st a → NotTooDeep st b → {x y : ℕ} → x ≡ (row_of st.rows a).depth → y ≡ (row_of st.rows b).depth → 12 ≤ max x y
-    → 13 ≡ depth_over st.rows a b
-unfolding depth_over
-over-deepest st a b f g {x} {y} p q h = omega arith
 
 -- the first source of a row, as its words have it
 module _ {t : List ℕ} {st : State} (rep : Represents t st) (e i : ℕ) (s : row_slot st.rows e ≡ suc i) where

@@ -15,7 +15,7 @@ use rows::codes::{A_SERVER_END, is_end};
 use rows::layout::{KIND, Q_NUMBER};
 use rows::{Request, find, read};
 
-// The slot of the row e, where it is an end.
+// The slot of the row e, where it is an end: as lookups::row_in, but another word of the row is asked.
 fn end_at(t: &[u32], n: usize, e: u32) -> Option<usize>
     requires { IsTables t.now × (n ≤ ROWS) }
     ensures within { Within n result }

@@ -18,7 +18,7 @@ use rows::layout::{KIND, OBJECT, RIGHTS, SOURCE, VIA};
 use rows::records::{record_at, set_record};
 use rows::{Process, Rights, find, read};
 
-// The record of p in its prime node.
+// The record of p in its prime node. Not one function with go_through: each has a definition and lends other words.
 // Ruled out: the record of another process changes; the row gone through stays.
 pub fn go_home(ps: &mut [u32], p: u32)
     requires { IsRecords ps.old × IsProcess p }

@@ -10,8 +10,8 @@ pub enum Stage {
     Over,
 }
 
-// No heap, so one buffer and two lengths. What the buffer of the bytes kept has: in front, so many bytes of an opening that is not decided; then, so many of
-// the line begun.
+// No heap, so one buffer and two lengths. What the buffer of the bytes kept has: in front, so many bytes of an opening
+// that is not decided; then, so many of the line begun.
 #[derive(Clone, Copy)]
 pub struct Kept {
     pub stage: Stage,

@@ -12,8 +12,9 @@ use crate::{Fed, Kept, Moved, Stage};
 use entry::exports::{tablet_call, tablet_open};
 use text::REPLY;
 
-// Both runs, the buffer, what is kept in it and the output stay parameters: `Takes`, from which the theorem on every run
-// starts, speaks of each as it was and as it is, and a struct of references to them would say the same field by field.
+// Both runs, the buffer, what is kept in it and the output stay parameters: `Takes`, from which the theorem on every
+// run starts, speaks of each as it was and as it is, and a struct of references to them would say the same field by
+// field.
 // ---- a line has ended
 // At the start of a line, after so many bytes were printed.
 fn line_start(stage: Stage, text: usize, printed: usize) -> Moved

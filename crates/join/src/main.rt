@@ -1,4 +1,5 @@
-// The program join: two opening texts from standard input, the joined text or the refusal to standard output (crate stdio).
+// The program join: two opening texts from standard input, the joined text or the refusal to standard output (crate
+// stdio).
 
 #![tactic(auto)]
 

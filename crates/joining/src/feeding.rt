@@ -9,11 +9,11 @@ ghost use Rattle.joining.specs.vocabulary.Reading.{is_going, SecondBegins, BothR
 use crate::reading::read_text_line;
 use crate::refusals::refusal_of;
 use crate::{Fed, Joining, NotJoined, Stage};
+use calls::Refusal;
+use text::Given;
 use text::kept_lines::keep_byte;
 use text::opening_text::none_given;
 use text::opening_words::clear;
-use calls::Refusal;
-use text::Given;
 
 // ---- the beginning
 // Nothing is read yet, and the directories hold nothing, whatever stood in them.

@@ -25,6 +25,7 @@ const FORM_SLOTS: usize = 96;
 
 // ---- an entry
 // A function for each text that is printed, here and below: the words and the numbers differ.
+// `as` for the numbers: u64::from is no plainer for a word.
 // ` (op m o r)`.
 fn put_operation(o: &mut [u8; REPLY], at: usize, e: Entry) -> usize
     requires { EntryFits e × (at + ENTRY-ROOM ≤ REPLY) }

@@ -43,8 +43,8 @@ fn add_new(c: Codes, others: &[u32]) -> Codes
     Codes { count, codes }
 }
 
-// The codes of a joined node. Ruled out: the second text's entries first; the equal entries of a node of the second text
-// alone left out.
+// The codes of a joined node. Ruled out: the second text's entries first; the equal entries of a node of the second
+// text alone left out.
 pub fn merge_node(first: &[u32], second: &[u32], n: u32) -> Codes
     requires { IsHeld first.now × IsHeld second.now × (n ≤ NODES) }
     ensures { MergesNode first.now second.now n result }

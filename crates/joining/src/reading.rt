@@ -8,11 +8,11 @@ ghost use Rattle.joining.specs.vocabulary.Reading.{HeldGiven, ReadsLine};
 
 use crate::directories::entry_code;
 use crate::{CODES_AT, NODE_WORDS, PRIMES};
+use calls::Refusal;
+use text::Given;
 use text::opening_lines::entry_at;
 use text::opening_text::{MOST_ENTRIES, pass_line};
 use text::patterns::read_form;
-use calls::Refusal;
-use text::Given;
 
 // Stores the codes of the entries from a position of a line on; how many they are.
 fn store_entries(words: &mut [u32], at: usize, line: &[u8], from: usize) -> usize

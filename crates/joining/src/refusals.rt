@@ -9,10 +9,10 @@ ghost use Rattle.joining.specs.vocabulary.Listed.{ListsEntry, ListsCodes, ListsN
 use crate::directories::{codes_end, entry_of, has_node, prime_of};
 use crate::merging::merge_node;
 use crate::{CODES_AT, NODE_WORDS};
-use rows::codes::{AN_OPERATION, LAST_NODE, LAST_PROCESS};
-use text::opening_text::MOST_ENTRIES;
 use calls::Refusal;
+use rows::codes::{AN_OPERATION, LAST_NODE, LAST_PROCESS};
 use text::Entry;
+use text::opening_text::MOST_ENTRIES;
 
 // ---- 5: a name that neither text gives
 // Whether the process or node that an entry names is given by either text.

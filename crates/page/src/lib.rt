@@ -2,8 +2,8 @@
 
 #![tactic(auto)]
 
-// The five fields of a row that its line shows. Kind and place are numbers, not enums: the lent words may hold any, and of
-// one that is none the line shows nothing.
+// The five fields of a row that its line shows. Kind and place are numbers, not enums: the lent words may hold any, and
+// of one that is none the line shows nothing.
 #[derive(Clone, Copy)]
 pub struct Shown {
     pub number: u32,

@@ -10,8 +10,8 @@ use rows::layout::{REQUEST, ROWS, SOURCE, VIA};
 // the pairs of one pass
 pub const PAIRS: usize = 16;
 
-// The marks of rows by source word, the slot plus 1; at 0, for no row, none. Bit k is the mark of pair k: sixteen at once
-// in one word of fixed memory.
+// The marks of rows by source word, the slot plus 1; at 0, for no row, none. Bit k is the mark of pair k: sixteen at
+// once in one word of fixed memory.
 pub type PairMarks = [u16; ROWS + 1];
 
 // The pairs that ask of request q, as bits.

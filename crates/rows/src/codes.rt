@@ -43,7 +43,6 @@ pub const LAST_NEXT: u32 = LAST_NUMBER + 1;
 // ---- kinds
 // Whether a kind is that of an end of a port.
 // Ruled out: yes for the client end alone; yes for an operation.
-#[tactic(auto, unfolding(crate::specs::Codes::is_end, crate::specs::Codes::is_client, crate::specs::Codes::is_server, crate::specs::Codes::client_end, crate::specs::Codes::server_end))]
 pub fn is_end(kind: u32) -> bool
     ensures { result ≡ is_end kind }
 {
@@ -51,7 +50,6 @@ pub fn is_end(kind: u32) -> bool
 }
 
 // An operation or a subdirectory. Ruled out: an end; any other code.
-#[tactic(auto, unfolding(crate::specs::Codes::is_copied, crate::specs::Codes::is_operation, crate::specs::Codes::is_subdirectory, crate::specs::Codes::operation, crate::specs::Codes::subdirectory))]
 pub fn is_copied(kind: u32) -> bool
     ensures { result ≡ is_copied kind }
 {
@@ -68,7 +66,6 @@ pub fn is_node(place: u32) -> bool
 }
 
 // Whether a place is a process's c-list. Ruled out: place 100; place 165.
-#[tactic(auto, unfolding(crate::specs::Codes::is_clist, crate::specs::Lists::between, crate::specs::Codes::in_clist, crate::specs::Limits::processes))]
 pub fn is_clist(place: u32) -> bool
     ensures { result ≡ is_clist place }
 {

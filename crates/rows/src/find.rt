@@ -91,7 +91,6 @@ pub fn rows_in(t: &[u32]) -> usize
 
 // How many slots of requests are in use.
 // Ruled out: a count over the rows' numbers; more than 128.
-#[tactic(auto, unfolding(crate::specs::Layout::requests_in, crate::specs::Layout::requests_at, crate::specs::Layout::row_columns, crate::specs::Limits::row_slots, crate::specs::Limits::request_slots))]
 pub fn requests_in(t: &[u32]) -> usize
     requires { IsTables t.now }
     ensures counted { result ≡ requests_in t.now }

@@ -11,7 +11,6 @@ use crate::{Request, Row};
 
 // The row at slot i, its sources as slots plus 1.
 // Ruled out: a word of another column; a word of the next slot.
-#[tactic(auto, unfolding(crate::specs::Layout::raw_row, crate::specs::Layout::row_field, crate::specs::Limits::row_slots))]
 pub fn row_at(t: &[u32], i: usize) -> Row
     requires { IsTables t.now × (i < ROWS) }
     ensures { result ≡ raw_row t.now i }

@@ -1,5 +1,5 @@
-// A session from a reader to a writer, the standard input and output of the programs: what is kept of the input, what is
-// answered and when is decided in the crate feed.
+// A session from a reader to a writer, the standard input and output of the programs: what is kept of the input, what
+// is answered and when is decided in the crate feed.
 ghost use Rattle.std.specs.Prelude.{◌≡◌, ◌≤◌, ◌<◌, length, take, OnOk, IfOk};
 ghost use Rattle.std.specs.Io.KnownBytes.{Appends};
 ghost use Rattle.rows.specs.vocabulary.Sizes.{IsTables, IsRecords};
@@ -54,8 +54,8 @@ fn answer_part<W: Write>(
 }
 
 // ---- the session
-// Turn after turn, a part a turn: no input uses up their number, but a proved loop has to end, and nothing says that the
-// input does.
+// Turn after turn, a part a turn: no input uses up their number, but a proved loop has to end, and nothing says that
+// the input does.
 // Ruled out: an end of the input, or an answer, that is lost; an input that cannot be read taken for its end.
 pub fn run<R: Read, W: Write>(
     reader: &mut R,

@@ -1,14 +1,13 @@
 -- Laws of the opening reader: its lines, its entries, what a line tells, and what is given.
 use Prim.Native.Nat.{ℕ, ◌<◌, suc, ◌+◌, ◌≤◌, ◌-◌, zero}
-use native.Mathlib.Numerals.{add-one}
 use native.Mathlib.Omega.{arith}
 use mathlib.Core.Bool.{Bool, cond, true, false, ◌&&◌, ◌||◌}
 use mathlib.Core.List.{List, ◌∷◌, [], ◌++◌, append-nil}
 use mathlib.Core.Path.{◌≡◌, refl, ap, sym, ◌∙◌}
 use lib.Dec.{eqb}
-use lib.ListN.{length, take, drop, length-drop, get_or, drop_of_length-le, length-append, replicate, length-replicate, set, length-set}
+use lib.ListN.{length, take, drop, length-drop, get_or, length-append, replicate, length-replicate, set, length-set}
 use lib.Seq.{drop-drop, drop-cons, append_snoc, get_or-set_same, get_or-set_other}
-use borrow.Author.Tests.{eq-eqb, ne_eqb, eqb-true}
+use borrow.Author.Tests.{eq-eqb, eqb-true}
 use Rattle.std.specs.List.{position_or_len}
 use Rattle.std.proofs.lemmas.Bool.Decides.{nat_tests}
 use Rattle.rows.proofs.Bools.{clash}

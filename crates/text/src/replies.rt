@@ -63,7 +63,7 @@ pub fn put_value(o: &mut [u8; REPLY], at: usize, n: u64) -> usize
     put_text(o, at, &value[i..])
 }
 
-// A value that is listed; nothing for 0.
+// A value that is listed; nothing for 0. `as`, here and below: u64::from is no plainer for a word.
 fn put_listed(o: &mut [u8; REPLY], at: usize, n: u32) -> usize
     requires { at + VALUE ≤ REPLY }
     ensures put { Puts o.old at (numbers_text (n ∷ [])) o.new result }
@@ -89,6 +89,7 @@ fn put_items(o: &mut [u8; REPLY], at: usize, a: u32, b: u32, c: u32, d: u32) -> 
 }
 
 // ---- answers
+// A function for each answer, here and below: the first text and the last are the same, what stands between is not.
 // `(ok n)`.
 fn put_accepted(o: &mut [u8; REPLY], n: u64) -> usize
     ensures { Puts o.old 0 (ok_text (num n ∷ [])) o.new result }
@@ -193,7 +194,7 @@ fn put_answer(o: &mut [u8; REPLY], a: Answer) -> usize
     }
 }
 
-// The text of an answer, in a reply.
+// The text of an answer, in a reply; of an opening below: of two lines each, so no function that takes what puts it.
 // Ruled out: a reply one byte short, without its line feed; a 0 printed for an item that is no longer listed.
 pub fn print(a: Answer) -> Reply
     ensures { result ≡ in_reply (printed a) }

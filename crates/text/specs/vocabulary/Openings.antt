@@ -1,5 +1,5 @@
 -- What the reader of an opening text tells of it: an entry, entries, a line, what is given, and how the passes end.
-use Rattle.std.specs.Prelude.{ℕ, suc, ◌+◌, ◌<◌, ◌≡◌, Bool, false, ◌&&◌, List, [], ◌∷◌, Option, Some, None, Result, Ok, Err, eqb, length, get_or, drop, if◌then◌else◌}
+use Rattle.std.specs.Prelude.{ℕ, suc, ◌+◌, ◌<◌, ◌≡◌, Bool, false, ◌&&◌, List, [], ◌∷◌, Option, Some, None, Result, Ok, Err, eqb, length, get_or, if◌then◌else◌}
 use Rattle.rows.specs.Lists.{all, any}
 use Rattle.text.specs.declared.Read.{Read}
 use Rattle.text.specs.declared.Entry.{Entry}
@@ -22,10 +22,6 @@ use Rattle.rows.specs.vocabulary.Sizes.{PROCESSES}
 unfoldable pub first_line : List ℕ → ℕ
 first_line [] = 0
 first_line (b ∷ bs) = if eqb b 10 then 1 else suc (first_line bs)
-
--- where the line that a position stands in ends
-abbrev pub line_end : List ℕ → ℕ → ℕ
-line_end t i = i + first_line (drop i t)
 
 -- ---- entries
 -- the entry at a position, and the position after it
