@@ -40,13 +40,15 @@ refusal_number RequestsFull = 17
 refusal_number NumbersSpent = 18
 refusal_number PrimesDiffer = 20
 
--- the four items that an answer holds, 0 for one that is not listed
+-- (rule fetch-ok) the four items that an answer holds, 0 for one that is not listed
 unfoldable pub four_of : List ℕ → List ℕ
 four_of is = get_or is 0 0 ∷ get_or is 1 0 ∷ get_or is 2 0 ∷ get_or is 3 0 ∷ []
 
+-- (rules chain-ok, comesall-ok-1) four numbers together
 unfoldable pub numbers_of : Four → List ℕ
 numbers_of a = a.first ∷ a.second ∷ a.third ∷ a.fourth ∷ []
 
+-- (rules chain-ok, comesall-ok-1) the same of sixteen
 unfoldable pub all_of : Sixteen → List ℕ
 all_of s = numbers_of s.first ++ (numbers_of s.second ++ (numbers_of s.third ++ numbers_of s.fourth))
 
