@@ -13,7 +13,8 @@ use Rattle.rows.specs.Limits.{nodes, processes}
 use Rattle.rows.proofs.Bools.{clash}
 use Rattle.text.specs.declared.Given.{Given}
 use Rattle.calls.specs.declared.Refusal.{Refusal}
-use Rattle.text.specs.vocabulary.Refusals.{refusal_number, refusal_in}
+use Rattle.calls.specs.Answers.{refusal_number}
+use Rattle.calls.specs.vocabulary.Performs.{refusal_in}
 use Rattle.text.proofs.PassLaws.{some_number, going-on, ending, refusing}
 use Rattle.std.specs.Prelude.{Option, Some, None, Ok, Err}
 use Rattle.text.specs.Opening.{Form, Line, last_line, form_line, bad_line, cut, line_of, form_refusal}

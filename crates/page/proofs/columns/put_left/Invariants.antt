@@ -1,5 +1,5 @@
 -- `columns::put_left` meets its contract: the columns written so far are the first of the text and its spaces.
-use Prim.Native.Nat.{◌≤◌, ◌-◌}
+use Prim.Native.Nat.{◌≤◌}
 use mathlib.Core.List.{◌++◌}
 use mathlib.Core.Path.{◌≡◌}
 use lib.ListN.{length}
