@@ -15,7 +15,8 @@ use Rattle.text.specs.declared.Given.{Given}
 use Rattle.calls.specs.declared.Refusal.{Refusal}
 use Rattle.calls.specs.Answers.{refusal_number}
 use Rattle.calls.specs.vocabulary.Performs.{refusal_in}
-use Rattle.text.proofs.PassLaws.{some_number, going-on, ending, refusing}
+use Rattle.calls.proofs.Judging.{refusal-some}
+use Rattle.text.proofs.PassLaws.{going-on, ending, refusing}
 use Rattle.std.specs.Prelude.{Option, Some, None, Ok, Err}
 use Rattle.text.specs.Opening.{Form, Line, last_line, form_line, bad_line, cut, line_of, form_refusal}
 use Rattle.text.specs.vocabulary.Openings.{Step, RefusedWith, FormSteps, Gives, Steps}
@@ -144,7 +145,7 @@ module _ (H : Progress → Type 0) (go : List Form → Progress) (end : Progress
   refused-line k stops held =
       let e = refusing k x stops in
       let o = after.refused e.refusal e.is in
-      let z : k ≡ 0 → ⊥ = λ q. some_number e.refusal (e.number ∙ q) in
+      let z : k ≡ 0 → ⊥ = λ q. refusal-some e.refusal (e.number ∙ q) in
       on-refused k o.0 (o.1 ∙ ap (λ (m : ℕ). Some m) e.number) (o.2 ∙ counted) (omega arith) held
 
   form-read : (f : Form) → FormSteps fs f x → (goes_on x ≡ true → Held u (f ∷ fs)) × (goes_on x ≡ false → Held u fs) → (b : Bool) → eqb (form_refusal fs f) 0 ≡ b
