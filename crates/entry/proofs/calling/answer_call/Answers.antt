@@ -1,5 +1,5 @@
 -- `calling::answer_call` meets its contract: 5 for a caller that is not listed, else the call is carried out.
-use mathlib.Core.Path.{sym, refl, ◌∙◌}
+use mathlib.Core.Path.{sym, ◌∙◌}
 use Rattle.calls.specs.Rules.{refused}
 use Rattle.calls.proofs.Carried.{runs_after}
 use Rattle.entry.proofs.Answered.{refused-stays, unlisted-refused, listed-performed, caller-listed}
