@@ -8,10 +8,10 @@ pub returns-then-listed : goal.returns-then-listed
 unfolding refused
 returns-then-listed c = λ st same.
     let e = sym c.listed.ensures ∙ c.if-listed.true in
-    rw (crowded-listed st _ _ same e) (c.into.ensures, refl)
+    rw (crowded-listed st _ _ same e) (refl, c.into.ensures)
 
 pub returns : goal.returns
 unfolding refused
 returns c = λ st same.
     let e = sym c.listed.ensures ∙ c.if-listed.false in
-    rw (crowded-unlisted st _ _ same e) (c.into.ensures, refl)
+    rw (crowded-unlisted st _ _ same e) (refl, c.into-2.ensures)
