@@ -1,13 +1,12 @@
 -- Laws of a session in its buffer: a byte kept, lines counted, an opening decided, and the stage after it.
 use Prim.Native.Nat.{ℕ, ◌+◌, ◌-◌, ◌≤◌, ◌<◌}
 use native.Mathlib.Omega.{arith}
-use mathlib.Core.Bool.{Bool, true, false, cond, ◌&&◌}
+use mathlib.Core.Bool.{Bool, true, false, cond}
 use mathlib.Core.List.{List, [], ◌∷◌, ◌++◌}
 use mathlib.Core.Path.{◌≡◌, refl, ap, ◌∙◌}
 use lib.Dec.{ltb}
 use lib.ListN.{length, take, drop, get_or, length-append, length-drop, drop_of_length-le}
 use lib.Seq.{length-take-le, take-append-le, take-take, take_at, drop_at}
-use borrow.Author.Tests.{lt-ltb}
 use Rattle.rows.specs.Lists.{same_list, bytes}
 use Rattle.rows.specs.Layout.{right_lengths, cleared_tables, cleared_processes}
 use Rattle.rows.proofs.LayoutColumns.{list_same}

@@ -1,5 +1,5 @@
 -- `sessions::feed` meets its contract: the bytes read so far are fed.
-use Prim.Native.Nat.{◌≤◌, ◌-◌}
+use Prim.Native.Nat.{◌≤◌}
 use mathlib.Core.Path.{◌≡◌}
 use lib.ListN.{length}
 use Rattle.feed.proofs.Parts.{Feeding}
