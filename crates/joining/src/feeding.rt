@@ -1,6 +1,8 @@
 // Two texts fed in parts: a line that has ended, a part, the end of the input (specs/Feeding.antt).
 ghost use Rattle.std.specs.Prelude.{◌≡◌, [], ◌≤◌, length};
 ghost use Rattle.joining.specs.Feeding.{in_first, line_fed};
+ghost use Rattle.calls.specs.Answers.{refusal_number};
+ghost use Rattle.joining.specs.declared.NotJoined.TheVariants.{OfBoth};
 ghost use Rattle.joining.specs.vocabulary.Directories.{DIRECTORY};
 ghost use Rattle.joining.specs.vocabulary.Lines.{SLOTS};
 ghost use Rattle.joining.specs.vocabulary.Reading.{Holds, Ready, Moves, ReadyTexts, FeedsTexts, ReadsOn, Finishes};
@@ -158,6 +160,15 @@ pub fn feed(
 }
 
 // ---- the end
+// What both texts together are refused for has no line.
+impl From<Refusal> for NotJoined {
+    ghost from_gives = { λ r n. n ≡ OfBoth (refusal_number r) };
+
+    fn from(r: Refusal) -> NotJoined {
+        NotJoined::OfBoth(r.into())
+    }
+}
+
 // The input has ended, or reading is over: the refusal of a text with its line, or of both without.
 // Ruled out: 5 for a text that lacks its `(open)`; a line for a refusal of both texts.
 pub fn finish(first: &[u32], second: &[u32], j: Joining) -> Result<(), NotJoined>

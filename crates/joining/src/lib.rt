@@ -2,11 +2,6 @@
 
 #![tactic(auto)]
 
-ghost use Rattle.std.specs.Prelude.{◌≡◌};
-ghost use Rattle.calls.specs.Answers.{refusal_number};
-ghost use Rattle.joining.specs.declared.NotJoined.TheVariants.{OfBoth};
-
-use calls::Refusal;
 use text::Given;
 
 // What is read now: the first text or the second; or reading is over, since both are read or one is refused.
@@ -33,15 +28,6 @@ pub struct Joining {
 pub enum NotJoined {
     OfText(u32, usize),
     OfBoth(u32),
-}
-
-// What both together are refused for has no line.
-impl From<Refusal> for NotJoined {
-    ghost from_gives = { λ r n. n ≡ OfBoth (refusal_number r) };
-
-    fn from(r: Refusal) -> NotJoined {
-        NotJoined::OfBoth(r.into())
-    }
 }
 
 // The same after bytes of a part, with how many bytes are kept of the line begun, and the position up to which the part

@@ -2,7 +2,6 @@
 
 #![tactic(auto)]
 
-use call_line::GROUPS;
 use calls::Call;
 
 // What a run of digits or of letters is worth, and the place after it.
@@ -82,8 +81,8 @@ pub struct Groups {
     pub items: bool,
     pub pairs: bool,
     pub apart: bool,
-    pub firsts: [u32; GROUPS],
-    pub seconds: [u32; GROUPS],
+    pub firsts: [u32; 64],
+    pub seconds: [u32; 64],
 }
 
 // An answer's text: the first `length` bytes; 0 after them. An array with its length, since the crates have no heap.
