@@ -94,7 +94,7 @@ fn any_away(t: &[u32], n: usize, m: usize, v: Request, p: u32) -> bool
     v.items.iter().any(|&e| end_away(t, n, m, q, p, e))
 }
 
-// What refuses the answer of p to the request in slot j, where it was served: 10, 11, 14.
+// What refuses the answer of p to the request in slot j, where it was served (the call's own word): 10, 11, 14.
 fn answer_refusal(
     t: &[u32],
     n: usize,

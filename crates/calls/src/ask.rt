@@ -29,7 +29,7 @@ fn item_row(t: &[u32], n: usize, p: u32, item: Item) -> Option<ItemRow>
 {
     if item.row == 0 {
         return Some(ItemRow {
-            item: item,
+            item,
             word: 0,
             copies: 0,
         });
@@ -40,14 +40,14 @@ fn item_row(t: &[u32], n: usize, p: u32, item: Item) -> Option<ItemRow>
     let word = (i + 1) as u32;
     if is_end(t[KIND + i]) {
         return Some(ItemRow {
-            item: item,
-            word: word,
+            item,
+            word,
             copies: 0,
         });
     }
     Some(ItemRow {
-        item: item,
-        word: word,
+        item,
+        word,
         copies: 1,
     })
 }

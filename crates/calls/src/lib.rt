@@ -10,8 +10,8 @@ pub struct Item {
 }
 
 // Four numbers, 0 for none.
-// Structs, not arrays: of an array's type the logic knows no length, and by `answer-read` the text of every answer says
-// sixteen values at most.
+// Structs of four: `numbers_of` and `all_of` read them field by field, and by `answer-read` the text of every answer
+// says sixteen values at most, which an array's type does not tell the logic.
 #[derive(Clone, Copy)]
 pub struct Four {
     pub first: u32,

@@ -9,7 +9,8 @@ use crate::bits::{BITS, SlotBits};
 use crate::on_each::{OnColumn, on_each};
 
 // ---- runs of marks
-// The word of which a bit is set where the slot is marked, or where it is not.
+// The word of which a bit is set where the slot is marked, or where it is not. A yes or no, not a closure, here and
+// below: it turns one word of bits, and definitions have it.
 fn word_of(w: u64, marked: bool) -> u64
     ensures within { result < 2 ^ BITS }
     ensures bits { (k : ℕ) → k < BITS → bit result k ≡ same_as marked (bit w k) }

@@ -23,6 +23,7 @@ fn clear_runs(tables: &mut [u32], processes: &mut [u32])
 }
 
 // ---- the entry point
+// Refusals are numbers here: what prints an opening's answer takes one, 0 for none, and 1 is at no line.
 // An opening text of any bytes, whatever the words held.
 // Ruled out: rows of a text that is refused; a row from before the opening; a run of another length not cleared.
 pub fn open(tables: &mut [u32], processes: &mut [u32], text: &[u8]) -> Reply

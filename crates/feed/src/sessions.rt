@@ -12,6 +12,7 @@ use crate::{Fed, Kept, Moved, Stage};
 use entry::exports::{tablet_call, tablet_open};
 use text::REPLY;
 
+// A stage is matched: it is part of what the caller keeps between two calls (`Kept`), so no closure stands for it.
 // Both runs, the buffer, what is kept in it and the output stay parameters: `Takes`, from which the theorem on every
 // run starts, speaks of each as it was and as it is, and a struct of references to them would say the same field by
 // field.

@@ -141,7 +141,7 @@ pub fn feed(
     let mut kept = n;
     let mut i = 0;
     let mut going = is_going(here);
-    // a while: it stops where reading is over, and i is answered
+    // a while of two conditions: with a for the answer is made in two places, where reading is over and at the end
     while going && i < part.len() {
         let b = part[i];
         kept = keep_byte(line, kept, b);

@@ -23,7 +23,8 @@ pub struct Joining {
     pub given: Given,
 }
 
-// Why two texts are not joined: one of them is refused, with a number at a line of it, or both together are.
+// Why two texts are not joined: one of them is refused, with a number at a line of it, or both together are. Numbers,
+// not a `Refusal`: verdict_of, of the contracts, has any.
 #[derive(Clone, Copy)]
 pub enum NotJoined {
     OfText(u32, usize),

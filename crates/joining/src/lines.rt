@@ -25,7 +25,7 @@ const FORM_SLOTS: usize = 96;
 
 // ---- an entry
 // A function for each text that is printed, here and below: the words and the numbers differ.
-// `as` for the numbers: u64::from is no plainer for a word.
+// `as` for the numbers, as in text::replies.
 // ` (op m o r)`.
 fn put_operation(o: &mut [u8; REPLY], at: usize, e: Entry) -> usize
     requires { EntryFits e × (at + ENTRY-ROOM ≤ REPLY) }
@@ -159,7 +159,7 @@ pub fn write_slots(first: &[u32], second: &[u32], from: usize, out: &mut [u8]) -
 {
     let mut k = from;
     let mut n = 0;
-    // a while: it stops where `out` has no room, and k is answered
+    // a while of two conditions: with a for the answer is made in two places, where `out` is full and at the end
     while k < SLOTS && REPLY <= out.len() - n {
         let line = slot_line(first, second, k);
         n += hand_out(line, &mut out[n..]);

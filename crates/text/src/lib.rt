@@ -103,7 +103,7 @@ pub struct EntriesRead {
 }
 
 // What a line of an opening text is: a node form (the node, how many entries, whether each is in range), a process form
-// (process, prime node), `(open)`, or bad.
+// (process, prime node), `(open)`, or bad. An enum of its own, with four cases: no Option and no Result.
 #[derive(Clone, Copy)]
 pub enum LineRead {
     Node(u32, usize, bool),
@@ -124,7 +124,7 @@ pub struct Given {
     pub processes: [bool; PROCESS_PLACES],
 }
 
-// An opening text is refused: with a number, at a line.
+// An opening text is refused: with a number, at a line. No `Refusal`: verdict_of, of the contracts, has any number.
 #[derive(Clone, Copy)]
 pub struct Refused {
     pub number: u32,

@@ -63,7 +63,8 @@ pub fn put_value(o: &mut [u8; REPLY], at: usize, n: u64) -> usize
     put_text(o, at, &value[i..])
 }
 
-// A value that is listed; nothing for 0. `as`, here and below: u64::from is no plainer for a word.
+// A value that is listed; nothing for 0. `as`, here and below: with u64::from, which was tried, each answer of a
+// proof carries its result too.
 fn put_listed(o: &mut [u8; REPLY], at: usize, n: u32) -> usize
     requires { at + VALUE ≤ REPLY }
     ensures put { Puts o.old at (numbers_text (n ∷ [])) o.new result }
@@ -76,7 +77,7 @@ fn put_listed(o: &mut [u8; REPLY], at: usize, n: u32) -> usize
 }
 
 // Those of four values that are listed, in their order: of a request's items those that it still has.
-// Four by four, here and below, as the answers have them (`Four` of calls says why they are no arrays).
+// Four by four, here and below, as the answers have them (`Four` of calls).
 fn put_items(o: &mut [u8; REPLY], at: usize, a: u32, b: u32, c: u32, d: u32) -> usize
     requires { at + 4 * VALUE ≤ REPLY }
     ensures put { Puts o.old at (numbers_text (a ∷ b ∷ c ∷ d ∷ [])) o.new result }
