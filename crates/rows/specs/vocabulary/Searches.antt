@@ -19,6 +19,10 @@ abbrev pub LastAtIfAscending : List ℕ → ℕ → ℕ → Option ℕ → Type 
 LastAtIfAscending l k n r = Ascending k l → LastAt l k n r
 
 -- ---- words in use
+-- none of the words from one position up to another is 0
+abbrev pub NoneZero : List ℕ → ℕ → ℕ → Type 0
+NoneZero l from to = (i : ℕ) → from ≤ i → i < to → slice_index l i ≢ 0
+
 -- the words in use stand in front of all others
 abbrev pub UsedInFront : List ℕ → Type 0
 UsedInFront l = (i j : ℕ) → i < j → 0 < slice_index l j → 0 < slice_index l i
