@@ -101,8 +101,8 @@ given_or d (Ok (Some g)) = g
 given_or d (Ok None) = d
 given_or d (Err e) = d
 
-module _ (g : Stage) (number : ℕ) (x : Step) (ended : Joining) where
-  pub after-taken : (given : Given) → x ≡ Ok (Some given) → AfterLine g number x ended (record { stage = g; refusal = None; number = number + 1; given = given })
+module _ (g : Stage) (number : ℕ) (before : Given) (x : Step) (ended : Joining) where
+  pub after-taken : (given : Given) → x ≡ Ok (Some given) → AfterLine g number before x ended (record { stage = g; refusal = None; number = number + 1; given = given })
   unfolding goes_on given_or
   after-taken given is =
       record {
@@ -111,7 +111,7 @@ module _ (g : Stage) (number : ℕ) (x : Step) (ended : Joining) where
         refused = λ r e. clash (ap goes_on is) (ap goes_on e);
       }
 
-  pub after-last : x ≡ Ok None → AfterLine g number x ended ended
+  pub after-last : x ≡ Ok None → AfterLine g number before x ended ended
   unfolding goes_on
   after-last is =
       record {
@@ -120,13 +120,13 @@ module _ (g : Stage) (number : ℕ) (x : Step) (ended : Joining) where
         refused = λ r e. absurd (let q : ◌≡◌ {A = Step} (Ok None) (Err r) = sym is ∙ e in let z : ◌≡◌ {A = ℕ} 0 1 = cc in omega arith);
       }
 
-  pub after-refused : (r : Refusal) (given : Given) → x ≡ Err r → AfterLine g number x ended (record { stage = Over; refusal = Some (refusal_number r); number = number; given = given })
+  pub after-refused : (r : Refusal) → x ≡ Err r → AfterLine g number before x ended (record { stage = Over; refusal = Some (refusal_number r); number = number; given = before })
   unfolding goes_on
-  after-refused r given is =
+  after-refused r is =
       record {
         taken = λ h e. clash (ap goes_on e) (ap goes_on is);
         last = λ e. absurd (let q : ◌≡◌ {A = Step} (Ok None) (Err r) = sym e ∙ is in let z : ◌≡◌ {A = ℕ} 0 1 = cc in omega arith);
-        refused = λ k e. (refl, ap (λ (y : Step). Some (refusal_in y)) (sym is ∙ e), refl);
+        refused = λ k e. (refl, ap (λ (y : Step). Some (refusal_in y)) (sym is ∙ e), refl, refl);
       }
 
 -- ---- a line has ended
@@ -136,8 +136,8 @@ unfolding nodes processes
 number_small fs w h = let few = forms-few fs h.passed in omega arith
 
 -- by what the line is, over any text
-module _ (H : Progress → Type 0) (go : List Form → Progress) (end : Progress) (g : Stage) (fs : List Form) (number : ℕ) (x : Step) (ended r : Joining) (u : List ℕ)
-    (counted : number ≡ suc (length fs)) (after : AfterLine g number x ended r)
+module _ (H : Progress → Type 0) (go : List Form → Progress) (end : Progress) (g : Stage) (fs : List Form) (number : ℕ) (before : Given) (x : Step) (ended r : Joining) (u : List ℕ)
+    (counted : number ≡ suc (length fs)) (after : AfterLine g number before x ended r)
     (on-taken : (f : Form) → r.stage ≡ g → r.number ≡ suc (length (f ∷ fs)) → Gives r.given (f ∷ fs) → Held u (f ∷ fs) → H (go (f ∷ fs)))
     (on-last : r ≡ ended → Held u fs → H end)
     (on-refused : (k : ℕ) → r.stage ≡ Over → r.refusal ≡ Some k → r.number ≡ suc (length fs) → 0 < k → Held u fs → H (refused_in k (suc (length fs)))) where
@@ -183,11 +183,11 @@ module _ (j : Joining) (a b : List ℕ) where
 
   module _ (s : List ℕ) (x : Step) (u : List ℕ) (r ended : Joining) where
     pub first-line : (p : Progress) → Holds p j a b → j.stage ≡ First → ((fs : List Form) → Held a fs → Gives j.given fs → Steps fs (line_of s) x × LineHeld fs (line_of s) x u)
-        → SecondBegins ended → AfterLine First j.number x ended r → Holds (line_fed p s) r u b
+        → SecondBegins ended → AfterLine First j.number j.given x ended r → Holds (line_fed p s) r u b
     unfolding Holds line_fed
     first-line (in_first fs) h e reads begins after =
         let read = reads fs h.3 h.2 in
-        line-read (λ q. Holds q r u b) in_first (in_second fs []) First fs j.number x ended r u h.1 after
+        line-read (λ q. Holds q r u b) in_first (in_second fs []) First fs j.number j.given x ended r u h.1 after
         (λ f stage number given held. (stage, number, given, held, h.4))
         (λ is held. (ap (λ (k : Joining). k.stage) is ∙ begins.0, ap (λ (k : Joining). k.number) is ∙ begins.1, subst (λ (k : Joining). Gives k.given []) (sym is) begins.2, held, h.4))
         (λ k stage refusal number some held. (stage, refusal, number, some, omega arith, held.long, h.4.long))
@@ -197,12 +197,12 @@ module _ (j : Joining) (a b : List ℕ) where
     first-line (refused_in k n) h e reads begins after = clash (going-first j e) (not_going j h.0)
 
     pub second-line : (p : Progress) → Holds p j a b → j.stage ≡ Second → ((gs : List Form) → Held b gs → Gives j.given gs → Steps gs (line_of s) x × LineHeld gs (line_of s) x u)
-        → BothRead ended → AfterLine Second j.number x ended r → Holds (line_fed p s) r a u
+        → BothRead ended → AfterLine Second j.number j.given x ended r → Holds (line_fed p s) r a u
     unfolding Holds line_fed
     second-line (in_first fs) h e reads both after = absurd (let q : First ≡ Second = sym h.0 ∙ e in let z : ◌≡◌ {A = ℕ} 0 1 = cc in omega arith)
     second-line (in_second fs gs) h e reads both after =
         let read = reads gs h.4 h.2 in
-        line-read (λ q. Holds q r a u) (in_second fs) (both_read fs gs) Second gs j.number x ended r u h.1 after
+        line-read (λ q. Holds q r a u) (in_second fs) (both_read fs gs) Second gs j.number j.given x ended r u h.1 after
         (λ f stage number given held. (stage, number, given, h.3, held))
         (λ is held. (ap (λ (k : Joining). k.stage) is ∙ both.0, ap (λ (k : Joining). k.refusal) is ∙ both.1, h.3, held))
         (λ k stage refusal number some held. (stage, refusal, number, some, omega arith, h.3.long, held.long))

@@ -71,15 +71,16 @@ fn both_read(given: Given) -> Joining
     }
 }
 
-// After a line of a text: it is taken, refused, or ends the text.
+// After a line of a text, before which its forms gave `before`: it is taken, refused, or ends the text.
 fn after_line(
     stage: Stage,
     number: usize,
+    before: Given,
     step: Result<Option<Given>, Refusal>,
     ended: Joining,
 ) -> Joining
     requires { number ≤ SLOTS }
-    ensures { AfterLine stage number step ended result }
+    ensures { AfterLine stage number before step ended result }
 {
     match step {
         Ok(Some(given)) => Joining {
@@ -93,7 +94,7 @@ fn after_line(
             stage: Stage::Over,
             refusal: Some(refusal.into()),
             number,
-            given: ended.given,
+            given: before,
         },
     }
 }
@@ -110,11 +111,11 @@ pub fn line_ended(first: &mut [u32], second: &mut [u32], line: &[u8], j: Joining
     match stage {
         Stage::First => {
             let step = read_text_line(first, line, given);
-            after_line(Stage::First, j.number, step, second_begins())
+            after_line(Stage::First, j.number, given, step, second_begins())
         }
         Stage::Second => {
             let step = read_text_line(second, line, given);
-            after_line(Stage::Second, j.number, step, both_read(given))
+            after_line(Stage::Second, j.number, given, step, both_read(given))
         }
         Stage::Over => j,
     }

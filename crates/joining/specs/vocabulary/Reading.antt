@@ -80,11 +80,11 @@ SecondBegins r = (r.stage ≡ Second) × (r.number ≡ 1) × Gives r.given []
 abbrev pub BothRead : Joining → Type 0
 BothRead r = (r.stage ≡ Over) × (r.refusal ≡ None)
 
--- r comes after a line of this number, at the stage g, that does what x says; `ended` if it ends its text
-pub record AfterLine (g : Stage) (number : ℕ) (x : Step) (ended r : Joining) : Type 0 where
+-- r comes after a line of this number, at the stage g, that does what x says, where the forms before it gave `before`; `ended` if it ends its text
+pub record AfterLine (g : Stage) (number : ℕ) (before : Given) (x : Step) (ended r : Joining) : Type 0 where
   pub taken : (given : Given) → x ≡ Ok (Some given) → (r.stage ≡ g) × (r.number ≡ number + 1) × (r.given ≡ given)
   pub last : x ≡ Ok None → r ≡ ended
-  pub refused : (e : Refusal) → x ≡ Err e → (r.stage ≡ Over) × (r.refusal ≡ Some (refusal_number e)) × (r.number ≡ number)
+  pub refused : (e : Refusal) → x ≡ Err e → (r.stage ≡ Over) × (r.refusal ≡ Some (refusal_number e)) × (r.number ≡ number) × (r.given ≡ before)
 
 -- ---- how far reading has come
 -- j, with the directories a and b, has come so far
