@@ -1,21 +1,18 @@
 -- Searches of a column: by halves or by steps over numbers that rise, and from the last word back. What is found is the slot of the element.
-use Rattle.std.proofs.Common.{length-take-le, not, ◌≡◌, ℕ, zero, suc, ◌+◌, ◌-◌, ◌%◌, ◌^◌, ◌<◌, ◌≤◌, Bool, true, false, cond, eqb, ltb, leb, ◌⊎◌, List, [], ◌∷◌, ◌++◌, map, length, get_or, take, drop, sym, refl, ap, ◌∙◌, subst, inl, inr, ⊎_elim, append_assoc, suc-le-suc, zero-le, le_of_suc-le-suc, eq-or-lt_of_le, arith, length-append, get_or-drop, get_or-take, ltb-true, lt-ltb, eqb-true, le-leb, leb-true}
+use Rattle.std.proofs.Common.{below_more, not, ◌≡◌, ℕ, zero, suc, ◌+◌, ◌-◌, ◌%◌, ◌^◌, ◌<◌, ◌≤◌, Bool, true, false, cond, eqb, ltb, leb, ◌⊎◌, List, [], ◌∷◌, ◌++◌, map, length, get_or, take, drop, sym, refl, ap, ◌∙◌, subst, inl, inr, ⊎_elim, append_assoc, suc-le-suc, zero-le, le_of_suc-le-suc, eq-or-lt_of_le, arith, length-append, get_or-drop, get_or-take, ltb-true, lt-ltb, eqb-true, le-leb, leb-true}
 use mathlib.Core.Bool.{false≢true}
 use native.Mathlib.Decide.{dec_lt}
 use borrow.Author.Tests.{eqb-false}
 use lib.ListN.{get_or-eq_default}
 use Rattle.std.specs.Prelude.{Option}
-use Rattle.std.specs.Prelude.{Some, None, Result, Ok, Err}
-use Rattle.std.specs.Result.{result_ok, MatchResult}
-use Rattle.std.specs.Ordering.{nat_cmp}
+use Rattle.std.specs.Prelude.{Some, None}
 use Rattle.std.specs.List.{position_or_len}
-use Rattle.std.specs.List.Sorted.{IsBinarySearchResult, IsSearchInRange, IsPartitionedBy, IsPartitionPoint}
-use Rattle.std.proofs.lemmas.List.Sorted.{searched}
+use Rattle.std.specs.List.Sorted.{IsPartitionedBy, IsPartitionPoint}
 use Rattle.std.proofs.lemmas.List.{get_or_default}
 use Rattle.std.proofs.lemmas.Bool.Decides.{nat_tests}
 use Rattle.rows.specs.Lists.{rises, member, some, slot_with}
 use Rattle.rows.specs.Layout.{leading}
-use Rattle.rows.specs.vocabulary.Slots.{Within, found_slot}
+use Rattle.rows.specs.vocabulary.Slots.{found_slot}
 use Rattle.rows.specs.vocabulary.Searches.{Ascending, LastAt, UsedInFront, is_up_to, step_to, UpToInFront, LastUpTo}
 use Rattle.rows.proofs.Bools.{clash, bool_eq, and_l, and_r, and_i, some-pos, pos-some, member-here, member-there}
 use Rattle.rows.proofs.Keyed.{rises-rest, rises-older}
@@ -24,6 +21,39 @@ lt-or-ge : (a b : ℕ) → (a < b) ⊎ (b ≤ a)
 lt-or-ge a b = elim (dec_lt a b) [ yes h ↦ inl h | no h ↦ inr (omega arith) ]
 
 module _ (l : List ℕ) (k n : ℕ) where
+  -- ---- by halves: what is before lo is less, and what is from hi on is more
+  pub record Bracket (lo hi : ℕ) : Type 0 where
+    pub below : (j : ℕ) → j < lo → get_or l j 0 < n
+    pub above : (j : ℕ) → hi ≤ j → j < k → n < get_or l j 0
+
+  pub bracket : Bracket 0 k
+  bracket = record { below = λ j h. absurd (omega arith); above = λ j h g. absurd (omega arith) }
+
+  pub half_up : Ascending k l → (lo hi mid : ℕ) → mid < k → get_or l mid 0 < n → Bracket lo hi → Bracket (mid + 1) hi
+  unfolding Ascending
+  half_up u lo hi mid h x b =
+      record { below = below_more (λ j. get_or l j 0 < n) mid (λ j j<. let y : get_or l j 0 < get_or l mid 0 = u j mid j< h in omega arith) x; above = b.above }
+
+  pub half_down : Ascending k l → (lo hi mid : ℕ) → n < get_or l mid 0 → Bracket lo hi → Bracket lo mid
+  unfolding Ascending
+  half_down u lo hi mid x b =
+      record {
+        below = b.below;
+        above =
+            λ j m≤j j<k.
+            ⊎_elim (λ e. rw (← e) x) (λ lt. let y : get_or l mid 0 < get_or l j 0 = u mid j lt j<k in omega arith) (eq-or-lt_of_le m≤j);
+      }
+
+  pub half-hit : Ascending k l → (mid : ℕ) → mid < k → get_or l mid 0 ≡ n → LastAt l k n (Some mid)
+  unfolding Ascending LastAt
+  half-hit u mid h e = (h, e, (λ j lt g d. let y : get_or l mid 0 < get_or l j 0 = u mid j lt g in omega arith))
+
+  pub half-none : (lo hi : ℕ) → hi ≤ lo → Bracket lo hi → LastAt l k n None
+  unfolding LastAt
+  half-none lo hi h b =
+      λ j j<k e.
+      ⊎_elim (λ lt. let y : get_or l j 0 < n = b.below j lt in omega arith) (λ ge. let y : n < get_or l j 0 = b.above j (omega arith) j<k in omega arith) (lt-or-ge j lo)
+
   -- ---- from the last word back: n is none of the words from i on
   abbrev pub FreeFrom : ℕ → Type 0
   FreeFrom i = (j : ℕ) → i ≤ j → j < k → get_or l j 0 ≡ n → ⊥
@@ -38,39 +68,6 @@ module _ (l : List ℕ) (k n : ℕ) where
   pub back_none : (i : ℕ) → i ≤ 0 → FreeFrom i → LastAt l k n None
   unfolding LastAt
   back_none i h free = λ j. free j (omega arith)
-
--- what is found where the first words rise is the only one
-pub half-hit : (l : List ℕ) (k n : ℕ) → Ascending k l → (mid : ℕ) → mid < k → get_or l mid 0 ≡ n → LastAt l k n (Some mid)
-unfolding Ascending LastAt
-half-hit l k n u mid h e = (h, e, (λ j lt g d. let y : get_or l mid 0 < get_or l j 0 = u mid j lt g in omega arith))
-
--- ---- by std's search by halves of the first words
-module _ (l : List ℕ) (k n : ℕ) (within : k ≤ length l) where
-  pub halves-within : (r : Result ℕ ℕ) → IsSearchInRange r (length (take k l)) → Within k (result_ok r)
-  unfolding Within
-  halves-within (Ok i) h = omega (arith, h, length-take-le k l within)
-  halves-within (Err i) h = tt
-
-  pub halves-found : (r : Result ℕ ℕ) → IsBinarySearchResult (λ y. nat_cmp y n) (take k l) r → Ascending k l → LastAt l k n (result_ok r)
-  unfolding Ascending LastAt
-  halves-found r h u = pick r (searched (take k l) n r h rise)
-    where
-      long : length (take k l) ≡ k
-      long = length-take-le k l within
-
-      same : (i : ℕ) → i < k → get_or (take k l) i 0 ≡ get_or l i 0
-      same i lt = get_or-take k l i 0 lt
-
-      rise : (i j : ℕ) → i ≤ j → j < length (take k l) → get_or (take k l) i 0 ≤ get_or (take k l) j 0
-      rise i j i≤j lt = ⊎_elim (λ e. rw e (omega arith)) (λ less. omega (arith, long, same i, same j, u i j less)) (eq-or-lt_of_le i≤j)
-
-      pick : (r : Result ℕ ℕ)
-          → MatchResult r (λ i. (i < length (take k l)) × (get_or (take k l) i 0 ≡ n)) (λ i. (i ≤ length (take k l)) × ((j : ℕ) → j < i → get_or (take k l) j 0 < n) × ((j : ℕ) → i ≤ j → j < length (take k l) → n < get_or (take k l) j 0))
-          → LastAt l k n (result_ok r)
-      pick (Ok i) p = let lt : i < k = omega (arith, p.0, long) in half-hit l k n u i lt (sym (same i lt) ∙ p.1)
-      pick (Err i) p =
-          λ j lt e.
-          ⊎_elim (λ less. omega (arith, e, same j lt, p.1 j less)) (λ ge. omega (arith, e, same j lt, p.2 j ge (omega (arith, long)))) (lt-or-ge j i)
 
 -- ---- numbers that rise, with 0 after them
 pub record Numbers (l : List ℕ) (k : ℕ) : Type 0 where
